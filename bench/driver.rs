@@ -5,6 +5,7 @@ use borsh::{BorshDeserialize, BorshSchema, BorshSerialize, from_slice, object_le
 use indexmap::IndexMap;
 use std::collections::{BTreeMap, BTreeSet, HashMap, VecDeque};
 use std::hint::black_box;
+use std::io::{self, Read, Write};
 use std::net::{IpAddr, Ipv4Addr, Ipv6Addr};
 use std::time::Instant;
 use uuid::Uuid;
@@ -25,7 +26,8 @@ unsafe extern "C" {
 }
 
 const TURNS: usize = 30;
-const ACTIONS: [&str; 3] = ["write", "read", "length"];
+const ACTIONS: [&str; 4] = ["write", "read", "length", "write and read"];
+const BOTH: usize = 3;
 
 /// The least time of a round in microseconds, of each of the two, run in turn. A turn has `rounds` rounds; the least time
 /// of a turn without rounds, which decodes the value alone, is taken off.
@@ -59,10 +61,77 @@ fn theirs<T: BorshSerialize + BorshDeserialize>(action: usize, bytes: &[u8], rou
     for _ in 0..rounds {
         sum += match action {
             0 => black_box(to_vec(black_box(&value)).unwrap()).len(),
+            BOTH => {
+                let bytes = black_box(to_vec(black_box(&value)).unwrap());
+                black_box(from_slice::<T>(black_box(&bytes)).unwrap());
+                bytes.len()
+            }
             _ => black_box(object_length(black_box(&value)).unwrap()),
         };
     }
     sum
+}
+
+/// A struct whose fields are encoded in order, as the original's derive writes it; so that it isn't needed.
+macro_rules! record {
+    ($name:ident { $($field:ident: $type:ty,)* }) => {
+        #[derive(Clone)]
+        struct $name {
+            $($field: $type,)*
+        }
+
+        impl BorshSerialize for $name {
+            fn serialize<W: Write>(&self, writer: &mut W) -> io::Result<()> {
+                $(BorshSerialize::serialize(&self.$field, writer)?;)*
+                Ok(())
+            }
+        }
+
+        impl BorshDeserialize for $name {
+            fn deserialize_reader<R: Read>(reader: &mut R) -> io::Result<Self> {
+                Ok(Self { $($field: BorshDeserialize::deserialize_reader(reader)?,)* })
+            }
+        }
+    };
+}
+
+record!(Order {
+    number: u64,
+    buyer: String,
+    seller: [u8; 32],
+    amount: u128,
+    change: i64,
+    is_open: bool,
+    note: Option<String>,
+    tags: Vec<String>,
+    parts: Vec<u32>,
+    share: f64,
+    place: (u8, u16),
+    address: IpAddr,
+});
+
+record!(Transfer {
+    from: [u8; 32],
+    to: [u8; 32],
+    amount: u64,
+    nonce: u32,
+});
+
+fn order(n: u64) -> Order {
+    Order {
+        number: n,
+        buyer: format!("buyer {n}"),
+        seller: [n as u8; 32],
+        amount: u128::from(n) << 70,
+        change: 500 - n as i64,
+        is_open: n % 2 == 0,
+        note: Some(format!("left at door {n}")).filter(|_| n % 3 == 0),
+        tags: (0..n % 4).map(|tag| format!("tag {tag}")).collect(),
+        parts: (0..n as u32 % 8).collect(),
+        share: n as f64 / 3.0,
+        place: (n as u8, n as u16),
+        address: IpAddr::V4(Ipv4Addr::from(n as u32)),
+    }
 }
 
 fn print(kind: &str, action: &str, [mine, other]: [f64; 2]) {
@@ -81,7 +150,8 @@ fn row<T: BorshSerialize + BorshDeserialize>(kind: u32, name: &str, value: T) {
     let bytes = to_vec(&value).unwrap();
     // Some megabytes a turn.
     let rounds = (1 << 22) / bytes.len().max(64) + 4;
-    for (action, word) in ACTIONS.iter().enumerate() {
+    let actions = if bytes.len() < 100 { 4 } else { 3 };
+    for (action, word) in ACTIONS.iter().enumerate().take(actions) {
         let times = compare(
             rounds,
             |n| unsafe { ours(kind, action as u32, bytes.as_ptr(), bytes.len(), n) },
@@ -287,6 +357,12 @@ fn main() {
     row(24, "Vec<Uuid>", (0..many).map(|n| Uuid::from_u128(u128::from(n))).collect::<Vec<_>>());
     row(25, "Vec<f32>", (0..many).map(|n| n as f32 / 3.0).collect::<Vec<_>>());
     row(26, "Vec<f64>", (0..many).map(|n| n as f64 / 3.0).collect::<Vec<_>>());
+    row(8, "Vec<String> of 4", ["ann", "bob", "a longer text of some words", ""].map(String::from).to_vec());
+    row(27, "struct of 12 fields", order(7));
+    row(28, "10000 structs of 12 fields", (0..10_000).map(order).collect::<Vec<_>>());
+    let orders = |n: u64| (format!("customer {n}"), (8 * n..8 * n + 8).map(order).collect());
+    row(29, "HashMap<String, Vec<struct>>, 1250 of 8", (0..1250).map(orders).collect::<HashMap<String, Vec<Order>>>());
+    row(30, "struct of 4 fields", Transfer { from: [1; 32], to: [2; 32], amount: 3, nonce: 4 });
     refusals();
     lines();
 

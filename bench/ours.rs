@@ -1,12 +1,15 @@
 //! What the benchmark calls of this library: values are encoded, decoded or counted, so many times.
 #![tactic(auto)]
 
+mod records;
+
 use borsh::schema::BorshSchemaContainer;
 use borsh::{BorshDeserialize, BorshSerialize, from_slice, object_length, to_vec};
 use borsh_check_lines::run;
-use borsh_values::{Layout, Membership, Preorder, is_member};
+use borsh_values::{Membership, Plan, Preorder, is_member, is_member_of};
 use borsh_walks::Definition;
 use indexmap::IndexMap;
+use records::{Order, Transfer};
 use std::alloc::Global;
 use std::collections::{BTreeMap, BTreeSet, HashMap, VecDeque};
 use std::net::IpAddr;
@@ -16,6 +19,7 @@ use uuid::Uuid;
 const WRITE: u32 = 0;
 const READ: u32 = 1;
 const LENGTH: u32 = 2;
+const BOTH: u32 = 3;
 
 /// Encodes the value so many times; the sum of the lengths.
 fn write<T: BorshSerialize>(alloc: Global, value: &T, rounds: usize) -> usize {
@@ -50,6 +54,21 @@ fn length<T: BorshSerialize>(alloc: Global, value: &T, rounds: usize) -> usize {
     sum
 }
 
+/// Encodes the value and decodes the bytes so many times; the sum of their lengths.
+fn write_and_read<T: BorshSerialize + BorshDeserialize>(
+    alloc: Global,
+    value: &T,
+    rounds: usize,
+) -> usize {
+    let mut sum = 0usize;
+    for _ in 0..rounds {
+        if let Ok(bytes) = to_vec(alloc, value) {
+            sum = sum.wrapping_add(read::<T>(alloc, bytes.as_slice(), 1));
+        }
+    }
+    sum
+}
+
 fn work<T: BorshSerialize + BorshDeserialize>(
     alloc: Global,
     action: u32,
@@ -62,10 +81,10 @@ fn work<T: BorshSerialize + BorshDeserialize>(
     let Ok(value) = from_slice::<T>(alloc, bytes) else {
         return 0;
     };
-    if action == LENGTH {
-        length(alloc, &value, rounds)
-    } else {
-        write(alloc, &value, rounds)
+    match action {
+        LENGTH => length(alloc, &value, rounds),
+        BOTH => write_and_read(alloc, &value, rounds),
+        _ => write(alloc, &value, rounds),
     }
 }
 
@@ -106,6 +125,10 @@ pub extern "C" fn ours(
         24 => work::<Vec<Uuid>>(alloc, action, bytes, rounds),
         25 => work::<Vec<f32>>(alloc, action, bytes, rounds),
         26 => work::<Vec<f64>>(alloc, action, bytes, rounds),
+        27 => work::<Order>(alloc, action, bytes, rounds),
+        28 => work::<Vec<Order>>(alloc, action, bytes, rounds),
+        29 => work::<HashMap<String, Vec<Order>>>(alloc, action, bytes, rounds),
+        30 => work::<Transfer>(alloc, action, bytes, rounds),
         _ => 0,
     }
 }
@@ -142,13 +165,15 @@ fn has_nodes(
     map: &BTreeMap<String, Definition>,
     bytes: &[u8],
 ) -> bool {
-    let Ok(layout) = Layout::new(alloc, root, map) else {
+    let Ok(plan) = Plan::new(alloc, root, map) else {
         return false;
     };
-    let Ok(Membership::Member) = layout.is_member(alloc, bytes) else {
+    let Ok(Membership::Member) = is_member_of(alloc, &plan, bytes) else {
         return false;
     };
-    let mut nodes = Preorder::new(alloc, &layout, bytes);
+    let Ok(mut nodes) = Preorder::new(alloc, &plan, bytes) else {
+        return false;
+    };
     for _ in 0..u64::MAX {
         match nodes.next() {
             Ok(Some(_)) => {}

@@ -17,9 +17,10 @@ import os
 import re
 import sys
 
-from emit import TUPLE, WRITTEN, Place, Writer, blocks_of
+from emit import MOST_FIELDS, Place, Writer, blocks_of
 from ghost import MODULES, NO_NAME, RESERVED
 from ghost_imports import GHOST_NAMES
+from groups import TUPLE
 from marks import mark_of
 from needs import Types, refuse_needs
 from refusal import Refusal, Refusals
@@ -316,8 +317,7 @@ def refuse_fields(marked, place):
         raise Refusal(marked.line, reason % (marked.name, private[0]))
     for group in marked.groups():
         encoded = group.encoded()
-        most = WRITTEN if marked.variants is None else WRITTEN - 1
-        most = TUPLE if marked.is_only_encoded() or marked.lifetimes() else most
+        most = TUPLE if marked.is_only_encoded() or marked.lifetimes() else MOST_FIELDS
         if len(encoded) > most:
             reason = 'more than %d fields: put some of them into a struct of their own, whose bytes are the same'
             raise Refusal(encoded[most].line, reason % most)
@@ -329,7 +329,7 @@ def refuse_fields(marked, place):
             refuse_array_of_parameter(marked, field)
             refuse_length_on_the_heap(marked, field)
             if marked.variants is not None:
-                refuse_bare_parameter(marked, field)
+                refuse_bare_length(marked, field)
             elif not field.public and place.module_name:
                 reason = ('the field `%s` of `%s` is private, and what is written is a module of its own: '
                           'make it `pub` or `pub(crate)`')
@@ -384,15 +384,14 @@ def refuse_length_on_the_heap(marked, field):
             raise Refusal(field.line, reason % parameter.name)
 
 
-def refuse_bare_parameter(marked, field):
-    """A parameter by itself in a variant: that the variants fit in memory doesn't follow."""
+def refuse_bare_length(marked, field):
+    """A length as a parameter by itself in a variant: that the variants fit in memory doesn't follow."""
     names = [] if field.skipped else bare_names(field.type)
     for parameter in marked.parameters:
-        if parameter.name in names:
-            instead = 'the length as a number' if parameter.constant else '`Box<%s>`' % parameter.name
-            reason = ('the parameter `%s` is by itself in a variant, and the proofs need an enum of a known size: '
-                      'write %s')
-            raise Refusal(field.line, reason % (parameter.name, instead))
+        if parameter.constant and parameter.name in names:
+            reason = ('the length `%s` is by itself in a variant, and the proofs need an enum of a known size: write the '
+                      'length as a number')
+            raise Refusal(field.line, reason % parameter.name)
 
 
 def refuse_files(sources, files):

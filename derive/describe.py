@@ -1,6 +1,8 @@
 """Why the definitions of a type with parameters describe its encodings: a ghost term over the types of its fields."""
 
+from emit import on_tree, tree
 from ghost import Applied, Term, ghost_member, ghost_name, nested_pairs
+from groups import Node, grouped, places_of, shaped
 from layout import type_text
 from refusal import Refusal
 from rust_types import Array, Path, Tuple, heads
@@ -16,10 +18,29 @@ def describes_fields(writer, fields):
     `held.0` its own, `held.1` those of the fields."""
     parameters = [parameter.name for parameter in writer.marked.parameters if not parameter.constant]
     terms = Terms(writer, parameters)
-    view = Term('(λ v. ', nested_pairs(['v.' + ghost_name(field.name) for field in fields]), ')')
+    view = pairs_view(['v.' + ghost_name(field.name) for field in fields])
     parts = terms.parts([field.type for field in fields], 'held.1', fields[0].line)
     function = 'λ defs held. describes_contramap'
     return ghost_member('describes', function, [view, Applied('describes_parts', 'held.0', parts)])
+
+
+def describes_variants(writer, view):
+    """The same of an enum: `held.1` holds the definitions of the variants, in the form of the tree."""
+    parameters = [parameter.name for parameter in writer.marked.parameters if not parameter.constant]
+    terms = Terms(writer, parameters)
+    places = iter(['.'.join(['held.1'] + turns) for _, turns in on_tree(writer.marked.variants, '0', '1')])
+    cases = tree(writer.marked.variants,
+                 lambda variant: Applied('case_in', 'refl', terms.of_variant(variant, next(places))),
+                 lambda a, b: Applied('fork_in', a, b))
+    return ghost_member('describes', 'λ defs held. describes_enum', [view, Term('', ['held.0']), cases])
+
+
+def pairs_view(names):
+    """The function from a value to nested pairs of its fields."""
+    def paired(items):
+        return nested_pairs([paired(item) if isinstance(item, list) else item for item in items])
+
+    return Term('(λ v. ', paired(shaped(grouped(names)[0], iter(names))), ')')
 
 
 class Terms:
@@ -42,12 +63,28 @@ class Terms:
             return Applied('describes_row', node.length, at + '.0', self.of(node.element, at + '.1.0', line))
         return self.of_path(node, at, line)
 
+    def of_variant(self, variant, at):
+        """The term for a variant, whose fields are a tuple of one after another."""
+        types = [field.type for field in variant.fields.encoded()]
+        parts = self.parts(types, at + '.1', variant.line) if types else 'all_none'
+        described = Applied('describes_parts', at + '.0', parts)
+        if len(types) < 2:
+            return described
+        return Applied('describes_contramap', pairs_view(places_of(types)), described)
+
     def parts(self, types, at, line):
-        """The term for types one after another."""
-        first = self.of(types[0], at + '.0', line)
-        if len(types) == 1:
-            return Applied('all_one', first)
-        return Applied('all_more', first, self.parts(types[1:], at + '.1', line))
+        """The term for types one after another, in groups where there are many."""
+        places = iter([at + '.1' * index + '.0' for index in range(len(types))])
+        return self.of_node(grouped(types)[0], places, line)
+
+    def of_node(self, node, places, line):
+        terms = [self.of_node(item, places, line) if isinstance(item, Node) else self.of(item, next(places), line)
+                 for item in node.items]
+        in_groups = isinstance(node.items[0], Node)
+        term = terms[-1] if in_groups else Applied('all_one', terms[-1])
+        for other in reversed(terms[:-1]):
+            term = Applied('all_joined' if in_groups else 'all_more', other, term)
+        return term
 
     def of_path(self, node, at, line):
         name, arguments = node.segments[-1]

@@ -5,6 +5,7 @@ import re
 
 from ghost import KNOWN, RESERVED, Term, ghost_cases, ghost_member, ghost_name, ghost_term, nested_pairs, within_width
 from ghost_imports import ghost_imports
+from groups import TUPLE, Node, flat_fields, ghost_parts, grouped, parts, shaped
 from layout import (Group, arm, binding, block_arm, call, chain, chain_fits, conjunction, doc_line, flat,
                     function_head, impl_head, import_lines, pattern, statement, struct_of, tuple_of, tuple_type,
                     type_layout, type_text, within)
@@ -14,15 +15,14 @@ from source import Fields
 NUMBERS = ('zero', 'one', 'two', 'three', 'four', 'five', 'six', 'seven', 'eight', 'nine', 'ten', 'eleven',
            'twelve')
 
-# the most parts that a tuple has, and that are written in one call; and how many are written where the last one is the rest
-TUPLE = 12
-WRITTEN = 23
+# the most fields of a struct or a variant
+MOST_FIELDS = 200
 
 # the module of the library that has what is written here, and what it has
 DERIVED = 'borsh::derived'
-OFFERED = set('''BorshDeserialize BorshKey BorshSchema BorshSerialize BorshType Case Cases Chain Declaration DefinitionMap
-    EnumExt FieldTypes Fork FromCases FromParts Global Read Result SchemaResult Tag TupleTypes VariantTypes Write add_enum
-    add_named add_named_with add_unit add_unnamed add_unnamed_with declared declared_with read_enum read_parts
+OFFERED = set('''BorshDeserialize BorshKey BorshSchema BorshSerialize BorshType Case CaseWith Cases Chain ChainTo Declaration
+    DefinitionMap EnumExt FieldTypes Fork FromCases FromParts Global Read Result SchemaResult Tag TupleTypes VariantTypes Write
+    add_enum add_enum_with add_named add_named_with add_unit add_unnamed add_unnamed_with declared declared_with read_enum read_parts
     read_variant put_bytes write_bytes'''.split())
 OFFERED |= {prefix + number for prefix in ('write_', 'put_') for number in NUMBERS[2:]}
 OFFERED |= {'Tuple%d' % count for count in range(2, TUPLE + 1)}
@@ -60,9 +60,9 @@ class Writer:
 
     # ---- names
 
-    def rest_name(self, variant='', kind='Rest'):
-        """The name of a type for the last fields of a struct or a variant of many."""
-        return free_name((variant or 'Last') + kind, self.taken)
+    def part_name(self, number, variant='', kind=''):
+        """The name of a type for some fields of a struct or a variant of many."""
+        return free_name('%sPart%s%s' % (variant, number, kind), self.taken)
 
     def lib(self, name):
         """A name of the library, or its path where the type uses that name for something else."""
@@ -172,21 +172,23 @@ def last_name(path):
     return path.split(' as ')[-1].split('::')[-1]
 
 
-class Rest(Writer):
-    """Puts together the text for the last fields of a struct or a variant of many, which are written as one part: a type of
-    references to them."""
+class Part(Writer):
+    """Puts together the text for some fields of a struct or a variant of many, which are written as one part: a type of
+    references to them. `path` is the place of the part in the tuple of all fields."""
 
-    def __init__(self, writer, fields, variant=''):
+    def __init__(self, writer, node, variant=''):
         self.__dict__.update(writer.__dict__)
+        self.node = node
+        fields = flat_fields(node)
         named = set(name for field in fields for name in heads(field.type))
         parameters = [parameter for parameter in writer.marked.parameters if parameter.name in named]
         bounds = [bound for bound in split_bounds(writer.marked.where) if bound.split(':')[0].strip() in named]
+        self.owner = '%s::%s' % (writer.marked.name, variant) if variant else writer.marked.name
         self.marked = copy.copy(writer.marked)
         self.marked.parameters, self.marked.where = parameters, ', '.join(bounds)
         self.marked.fields, self.marked.variants = Fields('tuple', fields), None
-        self.owner = '%s::%s' % (writer.marked.name, variant) if variant else writer.marked.name
-        self.marked.name = writer.rest_name(variant)
-        self.alias = writer.rest_name(variant, 'Fields')
+        self.marked.name = writer.part_name(node.number, variant)
+        self.alias = writer.part_name(node.number, variant, 'Fields')
 
     def own(self):
         return "%s<%s>" % (self.marked.name, ', '.join(["'a"] + [parameter.name for parameter in self.marked.parameters]))
@@ -265,23 +267,9 @@ def split_bounds(where):
 
 # ---- fields
 
-def parts(items, make):
-    """Items as a tuple; past twelve, the last ones are a tuple within."""
-    if len(items) == 1:
-        return items[0]
-    if len(items) > TUPLE:
-        items = items[:TUPLE - 1] + [parts(items[TUPLE - 1:], make)]
-    return make(items)
-
-
 def type_of_parts(fields):
     layouts = [type_layout(field.type) for field in fields]
     return parts(layouts, tuple_type) if layouts else '()'
-
-
-def ghost_parts(items):
-    """Names in the form of the type of the parts."""
-    return items[:TUPLE - 1] + [ghost_parts(items[TUPLE - 1:])] if len(items) > TUPLE else items
 
 
 def local_names(fields, avoid):
@@ -295,13 +283,16 @@ def local_names(fields, avoid):
 
 
 def taking_apart(value, names, indent):
-    """Statements that bind the parts of a value; past twelve, there is a tuple within."""
+    """Statements that bind the parts of a value; of more than twelve there are tuples within."""
     rows = []
-    rest = free_variable('rest', names)
-    while len(names) > TUPLE:
-        rows.append(binding(tuple_of(names[:TUPLE - 1] + [rest]), value, indent))
-        names, value = names[TUPLE - 1:], rest
-    return rows + [binding(tuple_of(names), value, indent)]
+    values = {'': value}
+    for node in grouped(names):
+        for item in node.items:
+            if isinstance(item, Node):
+                values[item.number] = free_variable('group%d' % item.number, names)
+        bound = [values[item.number] if isinstance(item, Node) else item for item in node.items]
+        rows.append(binding(tuple_of(bound), values[node.number], indent))
+    return rows
 
 
 def free_variable(name, names):
@@ -344,14 +335,13 @@ def struct_fields(writer):
     fields = writer.marked.fields.encoded()
     left_out = ' that are encoded' if len(fields) < len(writer.marked.fields.all) else ''
     doc = doc_line('The fields of [`%s`]%s, in order.' % (writer.marked.name, left_out))
-    return '%s\n%s' % (doc, tuple_alias(writer, writer.alias_head(), fields))
+    return '%s\n%s' % (doc, tuple_alias(writer, writer.alias_head(), grouped(fields)[0]))
 
 
-def tuple_alias(writer, head, fields):
+def tuple_alias(writer, head, node, variant=''):
     """The declaration of a name for the tuple of fields; one that is too wide is named by its length."""
-    types = [type_layout(field.type) for field in fields] + (['()'] if writer.is_paired else [])
-    if len(fields) > TUPLE:
-        types = types[:TUPLE - 1] + [Rest(writer, fields[TUPLE - 1:]).alias_use()]
+    types = [Part(writer, item, variant).alias_use() if isinstance(item, Node) else type_layout(item.type)
+             for item in node.items] + (['()'] if writer.is_paired else [])
     start = 'type %s = ' % head
     line = statement(start, parts(types, tuple_type) if types else '()', ';', 0)
     if '\n' in line:
@@ -438,50 +428,66 @@ def struct_encoding(writer):
     elif len(names) == 1:
         body = chain('self', [names[0][len('self'):], '.serialize(alloc, writer)'], 8)
     else:
-        body = statement('', written_parts(writer, ['&' + name for name in names]), '', 8)
-        if len(names) > TUPLE and holds_whole(writer):
-            body = '        let last = %s(self);\n%s' % (writer.rest_name(), body)
+        whole = 'self' if holds_whole(writer) else ''
+        body = '\n'.join(written_node(writer, grouped(writer.marked.fields.encoded())[0], ['&' + name for name in names], whole))
     rows = [serialize_head(writer, used=bool(names)), body, '    }'] + struct_put(writer, names)
     block = writer.block('BorshSerialize', 'BorshSerialize', rows)
-    return '\n\n'.join(rest_blocks(writer, writer.marked.fields.encoded()[TUPLE - 1:]) + [block])
+    return '\n\n'.join(part_blocks(writer, grouped(writer.marked.fields.encoded())[1:]) + [block])
 
 
-def written_parts(writer, parts, variant=''):
-    """The call that writes parts in order; past twelve, the last ones are one part."""
-    if len(parts) > TUPLE:
-        last = '&last' if holds_whole(writer) else within('&', call(writer.rest_name(variant), parts[TUPLE - 1:]), '')
-        parts = parts[:TUPLE - 1] + [last]
-    return call(writer.lib('write_' + NUMBERS[len(parts)]), parts + ['alloc', 'writer'])
+def written_node(writer, node, places, whole, variant=''):
+    """The statements that write the places of a node: references to its fields, and parts, which refer to these or to the
+    whole value."""
+    rows, arguments = [], []
+    for item in node.items:
+        if not isinstance(item, Node):
+            arguments.append(places[0])
+            places = places[1:]
+            continue
+        name, count = writer.part_name(item.number, variant), len(flat_fields(item))
+        if whole:
+            rows.append('        let part%d = %s(%s);' % (item.number, name, whole))
+        arguments.append('&part%d' % item.number if whole else within('&', call(name, places[:count]), ''))
+        places = places[count:]
+    return rows + [statement('', written(writer, arguments), '', 8)]
+
+
+def written(writer, arguments):
+    """The call that writes parts in order."""
+    return call(writer.lib('write_' + NUMBERS[len(arguments)]), arguments + ['alloc', 'writer'])
 
 
 def holds_whole(writer):
-    """Whether the type for the last fields refers to the whole value. One with parameters can't quote the view of it."""
+    """Whether the types for some fields refer to the whole value. One with parameters can't quote the view of it."""
     return writer.marked.variants is None and not writer.marked.parameters
 
 
-def rest_blocks(writer, fields, variant=''):
-    """The type of references to the last fields of a struct or a variant of many, which are written as one part."""
-    if len(fields) < 2:
-        return []
-    rest = Rest(writer, fields, variant)
-    if holds_whole(writer):
-        held = ["&'a " + writer.own()]
-        parts_of = quote(writer, writer.own(), 'FromParts', '.view').flat()
-        view = Term('(λ r. ', ['(%s r.0.now).%d' % (parts_of, TUPLE - 1)], ')')
-        places = ['&self.0.%s' % field.name for field in fields]
-    else:
-        held = ["&'a " + type_text(field.type) for field in fields]
-        view = Term('(λ r. ', ['r.%d.now' % index for index in range(len(fields))], ')')
-        places = ['self.%d' % index for index in range(len(fields))]
-    laws_of_fields = quote(rest, rest.alias_use(), 'BorshType', '.lawful_if')
-    laws = ghost_member('lawful_if', 'from', [view.within('(contramap-lawful ', ')'), laws_of_fields])
-    writes = [serialize_head(rest, used=True), statement('', written_parts(rest, places), '', 8), '    }']
-    doc = 'The last fields of [`%s`]' % rest.owner
-    return ['%s\n%s' % (doc_line(doc + ', in order.'), tuple_alias(rest, rest.alias_head(), fields)),
-            '%s\n#[derive(Drop)]\n%s' % (doc_line(doc + ', which are written as one part.'),
-                        statement('', call('struct ' + rest.declared(), held), ';', 0)),
-            meaning(rest, view, 'BorshType', laws, encodes_empty(rest), chain_of_sizes(rest)),
-            rest.block('BorshSerialize', 'BorshSerialize', writes)]
+def part_blocks(writer, nodes, variant=''):
+    """The types of references to some fields of a struct or a variant of many, each written as one part."""
+    blocks = []
+    for node in nodes:
+        part = Part(writer, node, variant)
+        fields = flat_fields(node)
+        if holds_whole(writer):
+            held, whole = ["&'a " + writer.own()], 'whole'
+            parts_of = quote(writer, writer.own(), 'FromParts', '.view').flat()
+            view = Term('(λ r. ', ['(%s r.0.now)%s' % (parts_of, node.path)], ')')
+            places = ['&whole.%s' % field.name for field in fields]
+        else:
+            held, whole = ["&'a " + type_text(field.type) for field in fields], ''
+            view = Term('(λ r. ', shaped(node, ('r.%d.now' % index for index in range(len(fields)))), ')')
+            places = ['self.%d' % index for index in range(len(fields))]
+        laws_of_fields = quote(part, part.alias_use(), 'BorshType', '.lawful_if')
+        laws = ghost_member('lawful_if', 'from', [view.within('(contramap-lawful ', ')'), laws_of_fields])
+        writes = [serialize_head(part, used=True)] + (['        let whole = self.0;'] if whole else [])
+        writes += written_node(part, node, places, whole, variant) + ['    }']
+        doc = 'Fields of [`%s`]' % part.owner
+        blocks += ['%s\n%s' % (doc_line(doc + ', in order.'), tuple_alias(part, part.alias_head(), node, variant)),
+                   '%s\n#[derive(Drop)]\n%s' % (doc_line(doc + ', which are written as one part.'),
+                               statement('', call('struct ' + part.declared(), held), ';', 0)),
+                   meaning(part, view, 'BorshType', laws, encodes_empty(part), chain_of_sizes(part)),
+                   part.block('BorshSerialize', 'BorshSerialize', writes)]
+    return blocks
 
 
 # the head of the method by which a list writes many elements at a time
@@ -522,6 +528,8 @@ def struct_parts(writer):
     is_whole = not head or '\n' in head
     if is_whole:
         head = head_with(parameter)
+    if len(bound) > TUPLE:
+        head = with_clause(head, equation_later(quote(writer, writer.own(), 'FromParts', '.view').flat(), 'fields'))
     rows = ['    type Parts = %s;' % writer.alias_use(), '', view, '', head]
     if is_whole and len(bound) > 1:
         rows += taking_apart('fields', bound, 8)
@@ -572,12 +580,12 @@ def tree(items, leaf, fork):
     return fork(tree(items[:middle], leaf, fork), tree(items[middle:], leaf, fork))
 
 
-def on_tree(items):
-    """Each item with the turns, 'left' and 'right', that lead to it in that tree."""
+def on_tree(items, left='left', right='right'):
+    """Each item with the turns that lead to it in that tree."""
     def turned(turn, pairs):
         return [(item, [turn] + turns) for item, turns in pairs]
 
-    return tree(items, lambda item: [(item, [])], lambda a, b: turned('left', a) + turned('right', b))
+    return tree(items, lambda item: [(item, [])], lambda a, b: turned(left, a) + turned(right, b))
 
 
 def generic_group(name, arguments):
@@ -623,7 +631,7 @@ def ghost_binders(fields):
 def enum_cases(writer):
     head = function_head('from_cases', ['cases: %s' % writer.alias_use()], writer.own_layout(), 4)
     view = ghost_cases('view', enum_view(writer), 4)
-    clause = with_clause(head, equation_later(quote(writer, writer.own(), 'FromCases', '.view').flat()))
+    clause = with_clause(head, equation_later(quote(writer, writer.own(), 'FromCases', '.view').flat(), 'cases'))
     rows = ['    type Cases = %s;' % writer.alias_use(), '', view, '', clause, '        match cases {']
     for variant, turns in on_tree(writer.marked.variants):
         rows += from_case(writer, variant, turns)
@@ -631,11 +639,11 @@ def enum_cases(writer):
     return writer.block('FromCases', 'BorshType', rows)
 
 
-def equation_later(view):
-    """What `from_cases` ensures. It says no less than the trait's clause, `view result ≡ cases`. Where the goal is an
-    equation, `search` first computes both sides with all that is known of the variants, and gives up after ten million
-    steps; behind a premise it leaves the equation to the next tactic, which needs few."""
-    return '⊤ → %s result ≡ cases' % view
+def equation_later(view, parameter):
+    """What `from_cases` and `from_parts` ensure. It says no less than the trait's clause, `view result ≡ cases`. Where the
+    goal is an equation, `search` first computes both sides with all that is known of the variants or fields, and gives up
+    after ten million steps; behind a premise it leaves the equation to the next tactic, which needs few."""
+    return '⊤ → %s result ≡ %s' % (view, parameter)
 
 
 def with_clause(head, clause):
@@ -648,7 +656,7 @@ def from_case(writer, variant, turns):
     names = local_names(variant.fields.encoded(), ())
     inner = {0: '()', 1: names[0] if names else ''}.get(len(names), 'fields')
     held = len(names) == 1 and isinstance(variant.fields.encoded()[0].type, Array)
-    node = 'case' if held else pattern(writer.lib('Case'), [inner])
+    node = 'case' if held else tuple_of(['_', inner])
     for turn in reversed(turns):
         node = pattern('%s::%s' % (writer.lib('Fork'), turn.capitalize()), [node])
     value = made('%s::%s' % (writer.marked.name, variant.name), variant.fields, names)
@@ -656,7 +664,7 @@ def from_case(writer, variant, turns):
         return [arm(node, value, 12)]
 
     def rows_at(indent):
-        taken = [' ' * indent + 'let %s = case.0;' % names[0]] if held else taking_apart('fields', names, indent)
+        taken = [' ' * indent + 'let %s = case.1;' % names[0]] if held else taking_apart('fields', names, indent)
         return taken + [statement('', value, '', indent)]
 
     return block_arm(node, rows_at, 12)
@@ -675,8 +683,8 @@ def enum_encoding(writer):
     rows += [written_variant(writer, variant) for variant in writer.marked.variants]
     rows += ['        }', '    }'] + ([] if used else enum_put(writer))
     wide = [variant for variant in writer.marked.variants if len(variant.fields.encoded()) >= TUPLE]
-    rests = [rest_blocks(writer, variant.fields.encoded()[TUPLE - 2:], variant.name) for variant in wide]
-    return '\n\n'.join(sum(rests, []) + [writer.block('BorshSerialize', 'BorshSerialize', rows)])
+    blocks = [part_blocks(writer, grouped(variant.fields.encoded()), variant.name) for variant in wide]
+    return '\n\n'.join(sum(blocks, []) + [writer.block('BorshSerialize', 'BorshSerialize', rows)])
 
 
 def enum_put(writer):
@@ -697,7 +705,9 @@ def written_variant(writer, variant):
     if not names:
         return arm(node, call(writer.lib('write_bytes'), ['&[%d]' % variant.tag, 'writer']), 12)
     tag = '&%s(%d)' % (writer.lib('Tag'), variant.tag)
-    return arm(node, written_parts(writer, [tag] + names, variant.name), 12)
+    if len(names) >= TUPLE:
+        names = [within('&', call(writer.part_name('', variant.name), names), '')]
+    return arm(node, written(writer, [tag] + names), 12)
 
 
 def matched(path, fields, names):

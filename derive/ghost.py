@@ -155,7 +155,8 @@ def broken(row):
     inner = 8 if first in (4, 8) else first + 4
     while len(row) > WIDTH:
         indent = len(row) - len(row.lstrip())
-        spaces = [place for place in range(indent + 1, len(row)) if row[place] == ' ' and not is_quoted(row, place)]
+        spaces = [place for place in range(indent + 1, len(row))
+                  if row[place] == ' ' and row[place:] != ' };' and not is_quoted(row, place)]
         fitting = [place for place in spaces if place <= WIDTH]
         if not spaces:
             break

@@ -8,11 +8,12 @@ from layout import WIDTH
 # what specs have for ghost terms: the library's under one path, and std's, of which the gate wants operators from std
 # itself
 GHOST_OFFERED = {
-    'Rattle.borsh.specs.Derived': '''IsKey all_more all_one case_described choice_more choice_none contramap
-        contramap-lawful contramap_ordered describes_choice describes_contramap describes_elements describes_ordered
-        describes_parts describes_refused_if describes_row describes_sorted describes_stored describes_unit
-        enum_definitions enum_described enum_lawful_if fields first_variant fork_described from key_facts
-        later_variant left name_with named_described no_fields_described option_view result_view right
+    'Rattle.borsh.specs.Derived': '''IsKey all_joined all_more all_none all_one case_described case_in choice_more choice_none
+        contramap contramap-lawful contramap_ordered describes_choice describes_contramap describes_elements
+        describes_enum describes_ordered describes_parts describes_refused_if describes_row describes_sorted
+        describes_stored describes_unit enum_definitions enum_definitions_as enum_described enum_lawful_if fields
+        first_variant fork_described fork_in from groups_described key_facts
+        later_variant left more_groups name_with named_described no_fields_described no_groups option_view result_view right
         struct_described struct_parts unit_entries unit_struct unnamed_described unnamed_struct'''.split(),
     'Rattle.std.specs.Prelude': ['codes', 'refl', '⊤', '◌∷◌', '[]', '◌≡◌'],
     'Rattle.std.proofs.Common': ['sym', 'true≢false'],

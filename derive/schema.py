@@ -1,10 +1,12 @@
 """What is written for a type's schema: its name, its definitions, and why they describe its encodings."""
 
-from describe import describes_fields
-from emit import TUPLE, Rest, generic_group, quote, tree
+from describe import describes_fields, describes_variants
+from emit import Part, generic_group, quote, tree
 from ghost import Applied, Term, ghost_list, ghost_member, ghost_name, nested_pairs
+from groups import TUPLE, Node, grouped, leaves_of, places_of, shaped
 from layout import (ARRAY_WIDTH, TUPLE_WIDTH, Group, call, doc_line, flat, function_head, statement, tuple_type,
                     type_layout)
+from rust_types import heads
 
 def with_schema(writer, blocks):
     """The blocks of a type, and those of its schema where the mark asks for one."""
@@ -28,9 +30,11 @@ def schema(writer, data, adding, describes):
     return writer.block('BorshSchema', 'BorshSchema', rows)
 
 
-def named_parameters(writer):
-    """The type parameters that are in the name of the type."""
-    return [parameter.name for parameter in writer.marked.encoded_parameters()]
+def named_parameters(writer, variant=None):
+    """The type parameters that are in the name of the type, or in that of a variant's definition."""
+    fields = variant.fields.encoded() if variant else []
+    names = [name for field in fields for name in heads(field.type, phantom=False)]
+    return [parameter.name for parameter in writer.marked.encoded_parameters() if not variant or parameter.name in names]
 
 
 def ghost_own_name(writer):
@@ -61,16 +65,45 @@ def chain_type(fields, end='()'):
     return node
 
 
+def list_aliases(writer, fields, start, variant=''):
+    """The declarations of the types of many fields one after another: a name for those of each group and all behind it."""
+    leaves = leaves_of(grouped(fields)[0])
+    rows, behind = [], None
+    for index in range(len(leaves) - 1, -1, -1):
+        tail = Part(writer, Node(leaves[index:]), variant)
+        name = '%s%d' % (start, index) if index else start
+        own = [Part(writer, leaves[index], variant).alias_use()]
+        types = generic_group(writer.lib('ChainTo'), own + [behind]) if behind else generic_group(writer.lib('Chain'), own)
+        rows.append(statement('type %s = ' % tail.alias_head(name), types, ';', 0))
+        behind = tail.alias_use(name)
+    return list(reversed(rows))
+
+
 def fields_view(names):
-    """The function from a value to its fields one after another."""
-    return Term('(λ %s. ' % ('v' if names else '_'), nested_pairs(names + ['tt']), ')')
+    """The function from a value to its fields one after another, in groups where there are many."""
+    def chained(items):
+        return nested_pairs([chained(item) if isinstance(item, list) else item for item in items] + ['tt'])
+
+    return Term('(λ %s. ' % ('v' if names else '_'), chained(shaped(grouped(names)[0], iter(names))), ')')
 
 
-def fields_described(writer, type_of_fields, fields):
-    """What describes fields one after another."""
+def fields_described(writer, type_of_fields, fields, variant=''):
+    """What describes fields one after another, in groups where there are many."""
     if not fields:
         return Term('', ['no_fields_described'])
+    if len(fields) > TUPLE:
+        return groups_described(writer, grouped(fields)[0], variant)
     return quote(writer, type_of_fields, 'FieldTypes', '.described')
+
+
+def groups_described(writer, node, variant):
+    if not isinstance(node.items[0], Node):
+        chained = '%s<%s>' % (writer.lib('Chain'), Part(writer, node, variant).alias_use())
+        return quote(writer, chained, 'FieldTypes', '.described')
+    groups = 'no_groups'
+    for item in reversed(node.items):
+        groups = Applied('more_groups', groups_described(writer, item, variant), groups)
+    return Applied('groups_described', groups)
 
 
 # ---- structs
@@ -81,7 +114,8 @@ def struct_schema(writer):
     chained = types_in_chain(writer, fields)
     described = fields_described(writer, chained, fields)
     view = fields_view(['v.' + ghost_name(field.name) for field in fields])
-    data = [struct_parts(writer, kind, described), '', struct_described(writer, kind, view, described)]
+    types = quote(writer, chained, 'FieldTypes', '.described') if fields else described
+    data = [struct_parts(writer, kind, types), '', struct_described(writer, kind, view, described)]
     describes = '    ghost describes = { Self.described.describes };'
     if named_parameters(writer):
         describes = describes_fields(writer, fields)
@@ -89,9 +123,8 @@ def struct_schema(writer):
     if len(fields) <= TUPLE:
         return [block]
     doc = doc_line('The fields of [`%s`] as its schema goes through them.' % writer.marked.name)
-    last = '%s<%s>' % (writer.lib('Chain'), Rest(writer, fields[TUPLE - 1:]).alias_use())
-    types = chain_type(fields[:TUPLE - 1], last)
-    return ['%s\n%s' % (doc, statement('type %s = ' % writer.list_head(), types, ';', 0)), block]
+    first, *others = list_aliases(writer, fields, writer.list)
+    return ['%s\n%s' % (doc, first)] + others + [block]
 
 
 def types_in_chain(writer, fields):
@@ -153,17 +186,36 @@ def struct_call(writer, kind, chained):
 # ---- enums
 
 def enum_schema(writer):
-    variants = writer.marked.variants
-    case, fork = writer.lib('Case'), writer.lib('Fork') if len(variants) > 1 else None
-    types = tree(variants,
-                 lambda v: generic_group(case, [str(v.tag), chain_type(v.fields.encoded())]),
-                 lambda a, b: generic_group(fork, [a, b]))
+    types = tree(writer.marked.variants,
+                 lambda v: variant_types(writer, v),
+                 lambda a, b: generic_group(writer.lib('Fork'), [a, b]))
     doc = doc_line('The variants of [`%s`] as its schema goes through them.' % writer.marked.name)
-    alias = '%s\n%s' % (doc, statement('type %s = ' % writer.list_head(), types, ';', 0))
+    lists = [row for variant in writer.marked.variants if len(variant.fields.encoded()) > TUPLE
+             for row in list_aliases(writer, variant.fields.encoded(), list_name(writer, variant), variant.name)]
+    aliases = ['%s\n%s' % (doc, statement('type %s = ' % writer.list_head(), types, ';', 0))] + lists
     data = enum_parts(writer) + [''] + enum_described(writer)
     describes = '    ghost describes = { Self.described.describes };'
+    if named_parameters(writer):
+        describes = describes_variants(writer, quote(writer, writer.own(), 'FromCases', '.view'))
     block = schema(writer, data, enum_call(writer), describes)
-    return [alias, block] if has_list(writer) else [block]
+    return aliases + [block] if has_list(writer) else [block]
+
+
+def variant_types(writer, variant):
+    """The tag and the types of the fields of a variant, with the parameters that they name."""
+    parameters = named_parameters(writer, variant)
+    fields = variant.fields.encoded()
+    types = [chain_type(fields)]
+    if len(fields) > TUPLE:
+        types = [Part(writer, Node(fields), variant.name).alias_use(list_name(writer, variant))]
+    if not parameters:
+        return generic_group(writer.lib('Case'), [str(variant.tag)] + types)
+    return generic_group(writer.lib('CaseWith'), [str(variant.tag), parameters[0], chain(parameters[1:], '()')] + types)
+
+
+def list_name(writer, variant):
+    """The name of the types of a variant's fields one after another."""
+    return writer.part_name('', variant.name, 'List')
 
 
 def has_list(writer):
@@ -179,7 +231,9 @@ def enum_parts(writer):
         names = ['codes "%s"' % variant.name, ghost_list(field_texts(variant))]
         rows.append(Term('∷ ' if index else '(', names))
     arguments = [Term('', ['(codes "%s")' % writer.marked.name])] + rows + [Term('', ['∷ [])']), read]
-    return [ghost_member('parts', 'enum_definitions', arguments)]
+    if not named_parameters(writer):
+        return [ghost_member('parts', 'enum_definitions', arguments)]
+    return [ghost_member('parts', 'enum_definitions_as', [Term('', ['(%s)' % ghost_own_name(writer)])] + arguments)]
 
 
 def field_texts(variant):
@@ -200,16 +254,9 @@ def enum_described(writer):
 def described_case(writer, variant):
     """What describes a variant: its fields one after another, in place of a tuple."""
     fields = variant.fields.encoded()
-    names = ['v'] if len(fields) == 1 else [place_of(index, len(fields)) for index in range(len(fields))]
-    described = fields_described(writer, flat(chain_type(fields)), fields)
-    return Applied('case_described', fields_view(names), described.within('', ' refl refl'))
-
-
-def place_of(index, count):
-    """A place of a tuple; past twelve, the last ones are a tuple within."""
-    if count > TUPLE and index >= TUPLE - 1:
-        return 'v.%d%s' % (TUPLE - 1, place_of(index - TUPLE + 1, count - TUPLE + 1)[1:])
-    return 'v.%d' % index
+    described = fields_described(writer, flat(chain_type(fields)), fields, variant.name)
+    tail = [described, 'refl', 'refl'] if isinstance(described, Applied) else [described.within('', ' refl refl')]
+    return Applied('case_described', fields_view(places_of(fields)), *tail)
 
 
 def enum_call(writer):
@@ -218,8 +265,11 @@ def enum_call(writer):
         names = ['"%s"' % field.name for field in variant.fields.encoded() if variant.fields.kind == 'named']
         rows.append(Group('', '(', ['"%s"' % variant.name, reference_to(names)], ')', TUPLE_WIDTH))
     arguments = ['alloc', '"%s"' % writer.marked.name, 'NAMES', 'map']
+    parameters = named_parameters(writer)
+    types = [parameters[0], chain(parameters[1:], '()'), writer.list_use()] if parameters else [writer.list_use()]
+    function = '%s::<%s>' % (writer.lib('add_enum_with' if parameters else 'add_enum'), ', '.join(types))
     return '\n'.join([statement('const NAMES: &[(&str, &[&str])] = ', reference_to(rows), ';', 8),
-                      statement('', call('%s::<%s>' % (writer.lib('add_enum'), writer.list_use()), arguments), '', 8)])
+                      statement('', call(function, arguments), '', 8)])
 
 
 def reference_to(items):

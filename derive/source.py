@@ -526,11 +526,7 @@ def check_key(marked):
 
 
 def check_schema(marked):
-    """A schema is written for structs, and for enums without parameters that are encoded."""
-    if 'schema' in marked.options and marked.variants is not None and marked.encoded_parameters():
-        reason = ('a schema is written for enums without parameters alone: implement `BorshSchema` of this type '
-                  'by hand')
-        raise Refusal(marked.line, reason)
+    """A schema is written for types without lengths as parameters that are encoded."""
     names = marked.names(phantom=False)
     lengths = [parameter.name for parameter in marked.parameters if parameter.constant and parameter.name in names]
     if 'schema' in marked.options and lengths:

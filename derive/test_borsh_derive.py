@@ -105,36 +105,56 @@ class Taken(Cases):
     def test_more_than_twelve_fields(self):
         fields = ''.join('    pub f%d: u8,\n' % index for index in range(20))
         text = self.written('// derive: borsh\npub struct Wide {\n%s}\n' % fields, 'types_wide')
-        self.assertIn('let (f11, f12, f13, f14, f15, f16, f17, f18, f19) = rest;', text)
-        self.assertIn('type Fields = (u8, u8, u8, u8, u8, u8, u8, u8, u8, u8, u8, LastFields);', text)
-        self.assertIn('type LastFields = (u8, u8, u8, u8, u8, u8, u8, u8, u8);', text)
-        self.assertIn("struct LastRest<'a>(&'a Wide);\n", text)
-        self.assertIn('        write_nine(\n            &self.0.f11,\n', text)
-        self.assertIn('        let last = LastRest(self);\n        write_twelve(\n', text)
-        self.assertIn('            &self.f8, &self.f9, &self.f10, &last, alloc, writer,\n', text)
-        self.assertIn('contramap (λ r. (⟦<Wide as FromParts>⟧.view r.0.now).11)', text)
-        self.assertIn('        ensures { result ≡ ⟦<LastFields as BorshType>⟧.codec.is_zero_width }\n', text)
+        self.assertIn('        let (group1, group2) = fields;\n        let (f0, f1, f2, f3, f4, f5, f6, f7, f8, f9) = group1;\n        let (f10, ', text)
+        self.assertIn('type Fields = (Part1Fields, Part2Fields);', text)
+        self.assertIn('type Part2Fields = (u8, u8, u8, u8, u8, u8, u8, u8, u8, u8);', text)
+        self.assertIn("struct Part2<'a>(&'a Wide);\n", text)
+        self.assertIn('        let whole = self.0;\n        write_ten(\n            &whole.f10, &whole.f11, ', text)
+        self.assertIn('        let part1 = Part1(self);\n        let part2 = Part2(self);\n        write_two(&part1, &part2, alloc, writer)\n', text)
+        self.assertIn('contramap (λ r. (⟦<Wide as FromParts>⟧.view r.0.now).1)', text)
+        self.assertIn('        ensures { result ≡ ⟦<Part2Fields as BorshType>⟧.codec.is_zero_width }\n', text)
+        self.assertIn('        ensures { ⊤ → ⟦<Wide as FromParts>⟧.view result ≡ fields }\n', text)
+
+    def test_two_hundred_fields(self):
+        fields = ''.join('    pub f%d: u8,\n' % index for index in range(200))
+        text = self.written('// derive: borsh, schema\npub struct Wide {\n%s}\n' % fields, 'types_wide')
+        # seventeen groups in two groups
+        self.assertIn('type Fields = (Part1Fields, Part2Fields);', text)
+        self.assertIn("contramap (λ r. (⟦<Wide as FromParts>⟧.view r.0.now).1.8)", text)
+        self.assertEqual(text.count("struct Part"), 19)
+        self.assertEqual(' '.join(text.split()).count('groups_described (more_groups '), 3)
+        for index in range(200):
+            self.assertIn('&whole.f%d,' % index, text)
+            self.assertIn('v.f%d,' % index, text)
 
     def test_more_than_twelve_fields_with_parameters(self):
         fields = ''.join('    pub f%d: u8,\n' % index for index in range(11))
         text = self.written('// derive: borsh\npub struct Wide<A: Clone, B, const N: usize> {\n    pub z: B,\n%s    pub a: Vec<A>,\n    pub b: [u8; N],\n}\n' % fields, 'types_wide')
-        self.assertIn("type LastFields<A, const N: usize> = (u8, Vec<A>, [u8; N]);", text)
-        self.assertIn("struct LastRest<'a, A, const N: usize>(&'a u8, &'a Vec<A>, &'a [u8; N]);", text)
-        self.assertIn("impl<'a, A: Clone + BorshType, const N: usize> BorshType for LastRest<'a, A, N> {", text)
-        self.assertIn("impl<'a, A: Clone + BorshSerialize, const N: usize> BorshSerialize for LastRest<'a, A, N> {", text)
+        self.assertIn("type Fields<A, B, const N: usize> = (Part1Fields<B>, Part2Fields<A, N>);", text)
+        self.assertIn("type Part2Fields<A, const N: usize> = (u8, u8, u8, u8, u8, Vec<A>, [u8; N]);", text)
+        self.assertIn("&'a u8, &'a Vec<A>, &'a [u8; N]);", ' '.join(text.split()).replace('u8; N], )', 'u8; N])'))
+        self.assertIn("impl<'a, A: Clone + BorshType, const N: usize> BorshType for Part2<'a, A, N> {", text)
+        self.assertIn("impl<'a, A: Clone + BorshSerialize, const N: usize> BorshSerialize for Part2<'a, A, N> {", text)
         self.assertIn('Prim.search (key_facts, A.premises) };', text)
+        self.assertIn('&Part2(', text)
 
     def test_variants_of_more_than_eleven_fields(self):
         fields = ', '.join('f%d: u8' % index for index in range(13))
         text = self.written('// derive: borsh\npub enum E {\n    A,\n    B { %s },\n}\n' % fields, 'types_e')
-        self.assertIn("struct BRest<'a>(&'a u8, &'a u8, &'a u8);", text)
-        self.assertIn('                &BRest(f10, f11, f12),\n', text)
+        self.assertIn("struct BPart1<'a>(&'a u8, &'a u8, &'a u8, &'a u8, &'a u8, &'a u8);", text)
+        self.assertIn("struct BPart<'a>(", text)
+        self.assertIn('            &BPart1(self.0, self.1, self.2, self.3, self.4, self.5),\n', text)
+        self.assertIn('write_two( &Tag(1), &BPart(f0, f1, f2, f3, f4, f5, f6, f7, f8, f9, f10, f11, f12), alloc, writer, )', ' '.join(text.split()))
+        self.assertIn('Case<1, ((u8, u8, u8, u8, u8, u8), (u8, u8, u8, u8, u8, u8, u8))>', ' '.join(text.split()))
+        twelve = self.written('// derive: borsh\npub enum E {\n    B { %s },\n}\n' % fields.replace(', f12: u8', ''), 'types_e')
+        self.assertIn('&BPart(', twelve)
+        self.assertNotIn('BPart1', twelve)
 
     def test_enum(self):
         text = self.written('// derive: borsh\npub enum E {\n    A,\n    B(u8, String),\n    C { x: u64 },\n}\n', 'types_e')
         self.assertIn('type Variants = Fork<Fork<Case<0, ()>, Case<1, (u8, String)>>, Case<2, u64>>;', text)
         self.assertIn('E.B part0 part1 ↦ left (right (fields (part0, part1)))', text)
-        self.assertIn('Fork::Right(Case(x)) => E::C { x },', text)
+        self.assertIn('Fork::Right((_, x)) => E::C { x },', text)
         self.assertIn('    fn from_cases(cases: Variants) -> E\n        ensures { ⊤ → ⟦<E as FromCases>⟧.view result ≡ cases }\n    {\n', text)
         self.assertIn('E::A => write_bytes(&[0], writer),', text)
         self.assertIn('E::B(part0, part1) => write_three(&Tag(1), part0, part1, alloc, writer),', text)
@@ -266,7 +286,8 @@ class Taken(Cases):
         fields = ''.join('    pub f%d: u8,\n' % index for index in range(13))
         text = self.written('// derive: borsh, schema\npub struct P {\n%s}\n' % fields, 'types_p')
         self.assertIn('⟦<FieldList as FieldTypes>⟧.described', text)
-        self.assertIn('(u8, Chain<LastFields>)', text)
+        self.assertIn('type FieldList = ChainTo<Part1Fields, FieldList1>;\n\ntype FieldList1 = Chain<Part2Fields>;\n', text)
+        self.assertIn('(groups_described (more_groups ⟦<Chain<Part1Fields> as FieldTypes>⟧.described (more_groups', ' '.join(text.split()))
 
     def test_schemas_of_enums(self):
         text = self.written('// derive: borsh, schema\npub enum E {\n    A,\n    // tag: 7\n    B(u8),\n    C { x: u8, y: u16 },\n}\n', 'types_e')
@@ -277,6 +298,16 @@ class Taken(Cases):
         text = self.written('// derive: borsh, schema\npub enum E {\n    A,\n    B,\n}\n', 'types_e')
         self.assertIn('⟦<Variants as VariantTypes>⟧.read', text)
         self.assertNotIn('VariantList', text)
+
+    def test_schemas_of_enums_with_parameters(self):
+        text = self.written('// derive: borsh, schema\npub enum E<A, B, M> {\n    N,\n    L(B, A),\n    R { r: Vec<B> },\n    P(PhantomData<M>),\n}\n', 'types_e')
+        for row in ('CaseWith<1, A, (B, ()), (B, (A, ()))>', 'CaseWith<2, B, (), (Vec<B>, ())>', 'Case<3, (PhantomData<M>, ())>', 'enum_definitions_as (name_with (codes "E") A.name (B.name ∷ []))',
+                    'add_enum_with::<A, (B, ()), VariantList<A, B, M>>(alloc, "E", NAMES, map)', 'declared_with::<A, (B, ())>(alloc, "E")',
+                    '(case_in refl (describes_contramap (λ v. (v.0, v.1)) (describes_parts held.1.0.1.0 (all_more (B.describes defs held.1.0.1.1.0) (all_one (A.describes defs held.1.0.1.1.1.0))))))'):
+            self.assertIn(row, ' '.join(text.split()))
+        text = self.written('// derive: borsh, schema\npub enum E<M> {\n    P(PhantomData<M>),\n}\n', 'types_e')
+        self.assertIn('Self.described.describes', text)
+        self.assertIn('add_enum::<VariantList<M>>', text)
 
     def test_schemas_with_parameters(self):
         text = self.written('// derive: borsh, schema\npub struct P<A, B, N> {\n    pub a: Vec<A>,\n    pub b: (u8, Option<B>),\n    pub n: PhantomData<N>,\n}\n', 'types_p')
@@ -354,7 +385,7 @@ class Taken(Cases):
         self.assertIn('                &Tag(0),\n                label,\n', text)
         names = ''.join('    AVariantOfALongName%d(u8),\n' % index for index in range(16))
         text = self.written('// derive: borsh\npub enum Message {\n%s}\n' % names, 'types_message')
-        self.assertIn('Case(part0))))) =>\n                Message::AVariantOfALongName0(part0),\n', text)
+        self.assertIn('(_, part0))))) =>\n                Message::AVariantOfALongName0(part0),\n', text)
 
     def test_names_of_variants_that_are_too_wide(self):
         fields = ', '.join('%s_field: u8' % name for name in ('first', 'second', 'third', 'fourth'))
@@ -450,7 +481,7 @@ class Taken(Cases):
         types = ['use std::collections::BTreeMap;\n']
         for size, name in names.items():
             title = {'short': 'S', 'long': 'ATypeWhoseNameHasMoreThanTwentyLetters'}[size]
-            for count in (1, 2, 3, 4, 5, 6, 8, 11, 12, 13, 16, 20):
+            for count in (1, 2, 3, 4, 5, 6, 8, 11, 12, 13, 16, 20, 40):
                 fields = [(name % n, kinds[(n + count) % len(kinds)]) for n in range(count)]
                 rows = ''.join('    pub %s: %s,\n' % row for row in fields)
                 types.append('// derive: borsh, schema\npub struct %s%d {\n%s}\n' % (title, count, rows))

@@ -16,7 +16,7 @@ class Refused(Cases):
         self.refused('// derive:\npub struct A;\n', 1, '`` is no option')
 
     def test_schemas(self):
-        self.refused('// derive: borsh, schema\npub enum A<T> {\n    B(Box<T>),\n}\n', 2, 'a schema is written for enums without')
+        self.written('// derive: borsh, schema\npub enum A<T> {\n    B(Box<T>),\n}\n', 'types_a')
         self.refused('// derive: borsh, schema\npub struct A<T> {\n    pub a: Other<T>,\n}\n', 3, 'a schema of a type with parameters')
         self.refused('// derive: borsh, schema\npub struct A<const N: usize> {\n    pub a: [u8; N],\n}\n', 2, '`A`: a schema of a type with the length `N` as a parameter is not written: types of two lengths would have one name')
         self.written('// derive: borsh, schema\npub struct A<const N: usize>(pub u8, pub PhantomData<[u8; N]>);\n', 'types_a')
@@ -209,9 +209,9 @@ class Refused(Cases):
         self.refused('struct B; impl BorshType for B {}\n\n// derive: borsh\npub struct A(pub B);\n', 4, 'names `B`, which is private')
 
     def test_too_many_fields(self):
-        fields = ''.join('    pub f%d: u8,\n' % index for index in range(24))
-        self.one('pub struct A {\n%s}\n' % fields, 26, 'more than 23 fields')
-        self.one('pub enum A {\n    B(%s),\n}\n' % ', '.join(['u8'] * 23), 3, 'more than 22 fields')
+        fields = ''.join('    pub f%d: u8,\n' % index for index in range(201))
+        self.one('pub struct A {\n%s}\n' % fields, 203, 'more than 200 fields')
+        self.one('pub enum A {\n    B(%s),\n}\n' % ', '.join(['u8'] * 201), 3, 'more than 200 fields')
 
     def test_parameters(self):
         self.one('pub struct A<T = u8>(pub T);\n', 2, 'the parameter `T` has a default')
@@ -228,9 +228,8 @@ class Refused(Cases):
         self.written('// derive: borsh\npub struct A<const N: usize>(pub (u8, [u8; N]), pub PhantomData<[u8; N]>);\n', 'types_a')
 
     def test_parameters_of_enums(self):
-        self.one('pub enum A<T> {\n    B(Vec<T>),\n    C(Option<T>),\n}\n', 4, 'the parameter `T` is by itself in a variant')
         self.one('pub enum A<const N: usize> {\n    B([u8; N]),\n}\n', 3, 'write the length as a number')
-        self.written('// derive: borsh\npub enum A<T> {\n    B(Vec<(T, T)>),\n    C(Option<Box<T>>),\n}\n', 'types_a')
+        self.written('// derive: borsh\npub enum A<T, U> {\n    B(Vec<(T, T)>),\n    C(Option<T>),\n    D(T),\n    E { t: (T, u8), u: U },\n}\n', 'types_a')
 
     def test_variants(self):
         self.one('pub enum A {}\n', 2, 'an enum without variants')

@@ -17,37 +17,51 @@ struct place {
 };
 
 /* The functions of `crates/borsh_c`. No pointer may be null. */
+/* tools/calls.py writes: functions */
 uint32_t borsh_c_valid(const uint8_t *schema, size_t schema_length, uint8_t *room, size_t room_length, size_t *needed);
-uint32_t borsh_c_size(const uint8_t *schema, size_t schema_length, size_t *size, uint8_t *room, size_t room_length,
-                      size_t *needed);
+uint32_t borsh_c_size(const uint8_t *schema, size_t schema_length, size_t *size,
+                      uint8_t *room, size_t room_length, size_t *needed);
 uint32_t borsh_c_member(const uint8_t *schema, size_t schema_length, const uint8_t *value, size_t value_length,
                         struct place *place, uint8_t *room, size_t room_length, size_t *needed);
 uint32_t borsh_c_to_json(const uint8_t *schema, size_t schema_length, const uint8_t *value, size_t value_length,
-                         bool is_compact, bool has_quoted_numbers, struct place *place, uint8_t *room, size_t room_length,
-                         size_t *needed);
+                         bool is_compact, bool has_quoted_numbers, struct place *place,
+                         uint8_t *room, size_t room_length, size_t *needed);
 uint32_t borsh_c_from_json(const uint8_t *schema, size_t schema_length, const uint8_t *json, size_t json_length,
                            struct place *place, uint8_t *room, size_t room_length, size_t *needed);
-uint32_t borsh_c_records(const uint8_t *schema, size_t schema_length, const uint8_t *bytes, size_t length, size_t *lengths,
-                         size_t lengths_room, size_t *count, struct place *place, uint8_t *room, size_t room_length, size_t *needed);
-uint32_t borsh_c_json_lines(const uint8_t *schema, size_t schema_length, const uint8_t *values, size_t length, const size_t *lengths,
-                            size_t lengths_count, bool has_quoted_numbers, size_t *count, struct place *place, uint8_t *room,
-                            size_t room_length, size_t *needed);
+uint32_t borsh_c_records(const uint8_t *schema, size_t schema_length, const uint8_t *bytes, size_t bytes_length,
+                         size_t *lengths, size_t lengths_room, size_t *count, struct place *place,
+                         uint8_t *room, size_t room_length, size_t *needed);
+uint32_t borsh_c_json_lines(const uint8_t *schema, size_t schema_length, const uint8_t *values, size_t values_length,
+                            const size_t *lengths, size_t lengths_count, bool has_quoted_numbers, size_t *count,
+                            struct place *place, uint8_t *room, size_t room_length, size_t *needed);
+/* tools/calls.py: end */
 
-enum call { VALID, SIZE, MEMBER, TO_JSON, FROM_JSON, RECORDS, JSON_LINES };
+/* How many inputs and flags a call has at most. */
+/* tools/calls.py writes: most */
+enum { MOST_BYTES = 2, MOST_FLAGS = 2 };
+/* tools/calls.py: end */
 
+struct bytes {
+    const uint8_t *start;
+    size_t length;
+};
+
+struct question;
+
+/* What makes a call of the library, with the question's arguments, has these. */
+#define ASKED struct question *q, struct place *place, uint8_t *room, size_t room_length, size_t *needed
+
+/* What is asked; what the call isn't given is zero. */
 struct question {
-    enum call call;
-    const uint8_t *schema;
-    size_t schema_length;
-    const uint8_t *value;
-    size_t value_length;
-    bool is_compact;
-    bool has_quoted_numbers;
-    /* What a call writes beside its text: a size, or how many values there are. */
-    size_t *size;
-    /* Of calls about many values. */
-    size_t *lengths;
-    size_t lengths_count;
+    uint32_t (*call)(ASKED);
+    struct bytes bytes[MOST_BYTES];
+    bool flags[MOST_FLAGS];
+    size_t *numbers;
+    size_t numbers_count;
+    /* What the call writes beside its text. */
+    size_t number;
+    /* One more than which of the inputs tells how long the answer is about, or 0 where it is short. */
+    size_t long_of;
 };
 
 static const uint8_t nothing[1] = {0};
@@ -61,54 +75,37 @@ void borsh_free(struct borsh_buffer *buffer) {
 
 /* An error that the proved functions don't have. Its text isn't allocated. */
 static uint32_t fail(uint32_t code, const char *text, size_t length, struct borsh_buffer *out) {
-    *out = (struct borsh_buffer){.data = (const uint8_t *)text, .length = length};
+    if (out != NULL)
+        *out = (struct borsh_buffer){.data = (const uint8_t *)text, .length = length};
     return code;
 }
 
 #define FAIL(code, text, out) fail((code), (text), sizeof(text) - 1, (out))
 
-static bool is_null(const void *start, size_t length) { return start == NULL && length != 0; }
-
-/* Where no bytes are: a pointer that isn't null. */
-static const uint8_t *start(const uint8_t *bytes) { return bytes == NULL ? nothing : bytes; }
-
-static uint32_t call(const struct question *q, struct place *place, uint8_t *room, size_t room_length, size_t *needed) {
-    const uint8_t *schema = start(q->schema);
-    const uint8_t *value = start(q->value);
-    size_t no_length = 0;
-    size_t *lengths = q->lengths == NULL ? &no_length : q->lengths;
-    switch (q->call) {
-    case VALID:
-        return borsh_c_valid(schema, q->schema_length, room, room_length, needed);
-    case SIZE:
-        return borsh_c_size(schema, q->schema_length, q->size, room, room_length, needed);
-    case MEMBER:
-        return borsh_c_member(schema, q->schema_length, value, q->value_length, place, room, room_length, needed);
-    case TO_JSON:
-        return borsh_c_to_json(schema, q->schema_length, value, q->value_length, q->is_compact, q->has_quoted_numbers, place, room,
-                               room_length, needed);
-    case FROM_JSON:
-        return borsh_c_from_json(schema, q->schema_length, value, q->value_length, place, room, room_length, needed);
-    case RECORDS:
-        return borsh_c_records(schema, q->schema_length, value, q->value_length, lengths, q->lengths_count, q->size, place, room,
-                               room_length, needed);
-    default:
-        return borsh_c_json_lines(schema, q->schema_length, value, q->value_length, lengths, q->lengths_count, q->has_quoted_numbers,
-                                  q->size, place, room, room_length, needed);
+/* Whether a pointer is null that may not be. Where no bytes and no numbers are, there is then one that isn't. */
+static bool has_null(struct question *q) {
+    static size_t no_number = 0;
+    for (size_t i = 0; i < MOST_BYTES; i++) {
+        if (q->bytes[i].start == NULL && q->bytes[i].length != 0)
+            return true;
+        if (q->bytes[i].start == NULL)
+            q->bytes[i].start = nothing;
     }
+    if (q->numbers == NULL && q->numbers_count != 0)
+        return true;
+    if (q->numbers == NULL)
+        q->numbers = &no_number;
+    return false;
 }
 
 /* A first room, in which most answers fit. */
 static size_t first_room(const struct question *q) {
-    bool is_long = q->call == TO_JSON || q->call == FROM_JSON || q->call == JSON_LINES;
-    return is_long && q->value_length < SIZE_MAX / 8 ? 4 * q->value_length + 256 : 256;
+    size_t length = q->long_of == 0 ? 0 : q->bytes[q->long_of - 1].length;
+    return length < SIZE_MAX / 8 ? 4 * length + 256 : 256;
 }
 
-static uint32_t ask(const struct question *q, struct borsh_buffer *out) {
-    if (out == NULL)
-        return BORSH_NULL;
-    if (is_null(q->schema, q->schema_length) || is_null(q->value, q->value_length) || q->size == NULL ||
-        is_null(q->lengths, q->lengths_count))
+static uint32_t ask(struct question *q, struct borsh_buffer *out) {
+    if (out == NULL || has_null(q))
         return FAIL(BORSH_NULL, "null pointer", out);
     size_t room_length = first_room(q);
     /* A call whose answer doesn't fit asks for a larger room, and no answer to a question is longer than a certain one: so one fits. */
@@ -118,7 +115,7 @@ static uint32_t ask(const struct question *q, struct borsh_buffer *out) {
             break;
         size_t needed = 0;
         struct place place = {false, false, 0, 0, 0};
-        uint32_t code = call(q, &place, room, room_length, &needed);
+        uint32_t code = q->call(q, &place, room, room_length, &needed);
         if (needed <= room_length) {
             room[needed] = 0;
             *out = (struct borsh_buffer){.data = room, .length = needed, .block = room};
@@ -134,63 +131,109 @@ static uint32_t ask(const struct question *q, struct borsh_buffer *out) {
     return FAIL(BORSH_OUT_OF_MEMORY, "out of memory", out);
 }
 
-uint32_t borsh_valid(const uint8_t *schema, size_t schema_length, struct borsh_buffer *text) {
-    size_t unused = 0;
-    return ask(&(struct question){.call = VALID, .schema = schema, .schema_length = schema_length, .size = &unused}, text);
-}
-
-uint32_t borsh_size(const uint8_t *schema, size_t schema_length, size_t *size, struct borsh_buffer *text) {
-    size_t most = 0;
-    const struct question q = {.call = SIZE, .schema = schema, .schema_length = schema_length, .size = size == NULL ? NULL : &most};
-    uint32_t code = ask(&q, text);
+/* The same where the call writes a number, which after another code than BORSH_YES is unchanged, or 0 if it is a count. */
+static uint32_t ask_number(struct question *q, size_t *number, bool is_count, struct borsh_buffer *out) {
+    if (number == NULL)
+        return FAIL(BORSH_NULL, "null pointer", out);
+    uint32_t code = ask(q, out);
     if (code == BORSH_YES)
-        *size = most;
+        *number = q->number;
+    else if (is_count)
+        *number = 0;
     return code;
 }
 
-/* A question about a value, or about several. */
-static struct question about(enum call call, const uint8_t *schema, size_t schema_length, const uint8_t *value, size_t value_length,
-                             size_t *size) {
-    return (struct question){
-        .call = call, .schema = schema, .schema_length = schema_length, .value = value, .value_length = value_length, .size = size};
+/* tools/calls.py writes: calls */
+static uint32_t call_valid(ASKED) {
+    (void)place;
+    return borsh_c_valid(q->bytes[0].start, q->bytes[0].length, room, room_length, needed);
+}
+
+uint32_t borsh_valid(const uint8_t *schema, size_t schema_length, struct borsh_buffer *text) {
+    struct question q = {.call = call_valid, .bytes = {{schema, schema_length}}};
+    return ask(&q, text);
+}
+
+static uint32_t call_size(ASKED) {
+    (void)place;
+    return borsh_c_size(q->bytes[0].start, q->bytes[0].length, &q->number, room, room_length, needed);
+}
+
+uint32_t borsh_size(const uint8_t *schema, size_t schema_length, size_t *size, struct borsh_buffer *text) {
+    struct question q = {.call = call_size, .bytes = {{schema, schema_length}}};
+    return ask_number(&q, size, false, text);
+}
+
+static uint32_t call_member(ASKED) {
+    return borsh_c_member(q->bytes[0].start, q->bytes[0].length, q->bytes[1].start, q->bytes[1].length, place, room,
+                          room_length, needed);
 }
 
 uint32_t borsh_member(const uint8_t *schema, size_t schema_length, const uint8_t *value, size_t value_length,
                       struct borsh_buffer *text) {
-    size_t unused = 0;
-    const struct question q = about(MEMBER, schema, schema_length, value, value_length, &unused);
+    struct question q = {.call = call_member, .bytes = {{schema, schema_length}, {value, value_length}}};
     return ask(&q, text);
+}
+
+static uint32_t call_to_json(ASKED) {
+    return borsh_c_to_json(q->bytes[0].start, q->bytes[0].length, q->bytes[1].start, q->bytes[1].length, q->flags[0],
+                           q->flags[1], place, room, room_length, needed);
 }
 
 uint32_t borsh_to_json(const uint8_t *schema, size_t schema_length, const uint8_t *value, size_t value_length,
                        bool is_compact, bool has_quoted_numbers, struct borsh_buffer *json) {
-    size_t unused = 0;
-    struct question q = about(TO_JSON, schema, schema_length, value, value_length, &unused);
-    q.is_compact = is_compact;
-    q.has_quoted_numbers = has_quoted_numbers;
+    struct question q = {
+        .call = call_to_json,
+        .bytes = {{schema, schema_length}, {value, value_length}},
+        .flags = {is_compact, has_quoted_numbers},
+        .long_of = 2,
+    };
     return ask(&q, json);
+}
+
+static uint32_t call_from_json(ASKED) {
+    return borsh_c_from_json(q->bytes[0].start, q->bytes[0].length, q->bytes[1].start, q->bytes[1].length, place, room,
+                             room_length, needed);
 }
 
 uint32_t borsh_from_json(const uint8_t *schema, size_t schema_length, const uint8_t *json, size_t json_length,
                          struct borsh_buffer *value) {
-    size_t unused = 0;
-    const struct question q = about(FROM_JSON, schema, schema_length, json, json_length, &unused);
+    struct question q = {.call = call_from_json, .bytes = {{schema, schema_length}, {json, json_length}}, .long_of = 2};
     return ask(&q, value);
 }
 
-uint32_t borsh_records(const uint8_t *schema, size_t schema_length, const uint8_t *bytes, size_t length, size_t *lengths,
-                       size_t lengths_room, size_t *count, struct borsh_buffer *text) {
-    struct question q = about(RECORDS, schema, schema_length, bytes, length, count);
-    q.lengths = lengths;
-    q.lengths_count = lengths_room;
-    return ask(&q, text);
+static uint32_t call_records(ASKED) {
+    return borsh_c_records(q->bytes[0].start, q->bytes[0].length, q->bytes[1].start, q->bytes[1].length, q->numbers,
+                           q->numbers_count, &q->number, place, room, room_length, needed);
 }
 
-uint32_t borsh_json_lines(const uint8_t *schema, size_t schema_length, const uint8_t *values, size_t length, const size_t *lengths,
-                          size_t lengths_count, bool has_quoted_numbers, size_t *count, struct borsh_buffer *lines) {
-    struct question q = about(JSON_LINES, schema, schema_length, values, length, count);
-    q.lengths = (size_t *)lengths; /* which this call only reads */
-    q.lengths_count = lengths_count;
-    q.has_quoted_numbers = has_quoted_numbers;
-    return ask(&q, lines);
+uint32_t borsh_records(const uint8_t *schema, size_t schema_length, const uint8_t *bytes, size_t bytes_length,
+                       size_t *lengths, size_t lengths_room, size_t *count, struct borsh_buffer *text) {
+    struct question q = {
+        .call = call_records,
+        .bytes = {{schema, schema_length}, {bytes, bytes_length}},
+        .numbers = lengths,
+        .numbers_count = lengths_room,
+    };
+    return ask_number(&q, count, true, text);
 }
+
+static uint32_t call_json_lines(ASKED) {
+    return borsh_c_json_lines(q->bytes[0].start, q->bytes[0].length, q->bytes[1].start, q->bytes[1].length, q->numbers,
+                              q->numbers_count, q->flags[0], &q->number, place, room, room_length, needed);
+}
+
+uint32_t borsh_json_lines(const uint8_t *schema, size_t schema_length, const uint8_t *values, size_t values_length,
+                          const size_t *lengths, size_t lengths_count, bool has_quoted_numbers, size_t *count,
+                          struct borsh_buffer *lines) {
+    struct question q = {
+        .call = call_json_lines,
+        .bytes = {{schema, schema_length}, {values, values_length}},
+        .numbers = (size_t *)lengths,
+        .numbers_count = lengths_count,
+        .flags = {has_quoted_numbers},
+        .long_of = 2,
+    };
+    return ask_number(&q, count, true, lines);
+}
+/* tools/calls.py: end */

@@ -24,6 +24,7 @@
 extern "C" {
 #endif
 
+/* tools/calls.py writes: codes */
 enum borsh_code {
     /* Yes; the buffer has what was asked for. */
     BORSH_YES = 0,
@@ -40,6 +41,7 @@ enum borsh_code {
     /* The bytes end within a value, of which more bytes may make one: of `borsh_records` alone. */
     BORSH_SHORT = 6,
 };
+/* tools/calls.py: end */
 
 struct borsh_buffer {
     /* Never null after a call, and behind the last byte is a zero byte that isn't counted. */
@@ -58,15 +60,16 @@ struct borsh_buffer {
 /* Frees a buffer that a call filled, and empties it. A null pointer and an empty buffer are taken. */
 void borsh_free(struct borsh_buffer *buffer);
 
+/* tools/calls.py writes: calls */
 /* Whether the container keeps the rules of schemas. After BORSH_NO the text is `invalid`, the rule and a name. */
 uint32_t borsh_valid(const uint8_t *schema, size_t schema_length, struct borsh_buffer *text);
 
-/* The greatest size of the container's root, in `*size`, which otherwise is unchanged; no encoding is longer. After
- * BORSH_NO the text is `overflow`, `recursive`, or `missing` and a name. */
+/* The greatest size of the container's root, in `*size`, which otherwise is unchanged; no encoding is longer. After BORSH_NO the
+ * text is `overflow`, `recursive`, or `missing` and a name. */
 uint32_t borsh_size(const uint8_t *schema, size_t schema_length, size_t *size, struct borsh_buffer *text);
 
-/* Whether all of the bytes are a value of the root. After BORSH_NO the text says where they stop being one, and why; so do `path` and
- * `offset`. */
+/* Whether all of the bytes are a value of the root. After BORSH_NO the text says where they stop being one, and why; so do
+ * `path` and `offset`. */
 uint32_t borsh_member(const uint8_t *schema, size_t schema_length, const uint8_t *value, size_t value_length,
                       struct borsh_buffer *text);
 
@@ -79,23 +82,26 @@ uint32_t borsh_to_json(const uint8_t *schema, size_t schema_length, const uint8_
 uint32_t borsh_from_json(const uint8_t *schema, size_t schema_length, const uint8_t *json, size_t json_length,
                          struct borsh_buffer *value);
 
-/* Values one after another, as in a file. Each call decodes the schema once, so that many values cost little more than their bytes.
+/* Values one after another, as in a file: how long each of them is that the bytes begin with. This call and the next one decode
+ * the schema once, so that many values cost little more than their bytes.
  *
- * `borsh_records` says how long each of the values is that the bytes begin with: the lengths of as many as are whole are written to
- * `lengths`, at most `lengths_room` of them, and how many those are to `*count`. Each has at least one byte, and no other bytes
- * could be that value, whatever follows. After BORSH_YES there are some, unless there are no bytes or no room for a length; what is
- * behind them is for another call, which says what is wrong with it. After any other code `*count` is 0, and
+ * The lengths of as many values as are whole are written to `lengths`, at most `lengths_room` of them, and how many those are to
+ * `*count`. Each has at least one byte, and no other bytes could be that value, whatever follows. After BORSH_YES there are
+ * some, unless there are no bytes or no room for a length; what is behind them is for another call, which says what is wrong
+ * with it. After any other code `*count` is 0, and
  * - BORSH_SHORT says that the bytes end within the first value: read on, and call again;
- * - BORSH_NO says that they begin with no value, whatever bytes follow, or that a value may be empty, so that they may be any number
- *   of values. */
-uint32_t borsh_records(const uint8_t *schema, size_t schema_length, const uint8_t *bytes, size_t length, size_t *lengths,
-                       size_t lengths_room, size_t *count, struct borsh_buffer *text);
+ * - BORSH_NO says that they begin with no value, whatever bytes follow, or that a value may be empty, so that they may be any
+ *   number of values. */
+uint32_t borsh_records(const uint8_t *schema, size_t schema_length, const uint8_t *bytes, size_t bytes_length,
+                       size_t *lengths, size_t lengths_room, size_t *count, struct borsh_buffer *text);
 
-/* The JSON of each of the values that have these lengths and lie one after another at `values`, as of `borsh_to_json` on one line, and a
- * line end behind each. It stops before a value that has no JSON: `*count` is how many have a line. After BORSH_NO and BORSH_UNDECIDED
- * the first has none, and `*count` is 0. A length that reaches beyond the bytes is cut. */
-uint32_t borsh_json_lines(const uint8_t *schema, size_t schema_length, const uint8_t *values, size_t length, const size_t *lengths,
-                          size_t lengths_count, bool has_quoted_numbers, size_t *count, struct borsh_buffer *lines);
+/* The JSON of each of the values that have these lengths and lie one after another at `values`, as of `borsh_to_json` on one
+ * line, and a line end behind each. It stops before a value that has no JSON: `*count` is how many have a line. After BORSH_NO
+ * and BORSH_UNDECIDED the first has none, and `*count` is 0. A length that reaches beyond the bytes is cut. */
+uint32_t borsh_json_lines(const uint8_t *schema, size_t schema_length, const uint8_t *values, size_t values_length,
+                          const size_t *lengths, size_t lengths_count, bool has_quoted_numbers, size_t *count,
+                          struct borsh_buffer *lines);
+/* tools/calls.py: end */
 
 #ifdef __cplusplus
 }

@@ -58,8 +58,6 @@ def is_of_rt_ci(library):
 
 def prove(crate, compiling):
     """Proves the crate, and compiles it with these words."""
-    rtlib.guarded()  # sets a signal's handler, which the threads of `prove` may not
-    crate.held = rtlib.lock([*crate.below(), crate])  # until the end of this process
     if all(map(is_of_rt_ci, crate.below())):
         print("the libraries below are those that `rt ci` proved; proving `borsh_c` over them", flush=True)
         # It holds the verdict to the words that it may have.
@@ -80,6 +78,10 @@ def main():
     crate = rtlib.Crate(str(FOLDER), str(TOP), {})
     kept, module = FOLDER / (ARCHIVE + ".stamp"), FOLDER / MODULE
     stamp = crate.stamp()
+    if rtlib.text_of(str(kept)) != stamp + sums():
+        rtlib.guarded()  # sets a signal's handler, which the threads of `prove` may not
+        crate.held = rtlib.lock([*crate.below(), crate])  # until the end of this process
+    # Another build may have made it meanwhile.
     if rtlib.text_of(str(kept)) == stamp + sums():
         print("libborsh_c.a is of these files, and was proved")
         return 0

@@ -56,36 +56,68 @@ static const uint8_t json[] = "{\"y\": \"h\\u00e9\", \"x\": 12}";
 static const uint8_t values[] = "\14\0\0\0\0\0\0\0\3\0\0\0h\303\251\15\0\0\0\0\0\0\0\0\0\0\0\16";
 static const size_t lengths[] = {15, 12};
 
-static uint32_t ask(int call, struct borsh_buffer *out) {
+/* The beginning of a value. */
+static const uint8_t cut[] = "\14\0\0";
+
+#define COUNT(list) (sizeof(list) / sizeof((list)[0]))
+
+/* The calls that `ask` makes: the code that each returns, and whether it may give fewer lines where memory is refused. */
+static const struct {
+    const char *name;
+    uint32_t code;
+    bool may_be_fewer;
+} samples[] = {
+    /* tools/calls.py writes: samples */
+    {"borsh_valid", 0, false},
+    {"borsh_valid", 2, false},
+    {"borsh_size", 0, false},
+    {"borsh_member", 0, false},
+    {"borsh_member", 1, false},
+    {"borsh_to_json", 0, false},
+    {"borsh_from_json", 0, false},
+    {"borsh_records", 0, false},
+    {"borsh_records", 6, false},
+    {"borsh_json_lines", 0, true},
+    /* tools/calls.py: end */
+};
+
+static uint32_t ask(size_t call, struct borsh_buffer *out) {
     size_t size = 0, found[3];
     switch (call) {
+    /* tools/calls.py writes: calls */
     case 0:
         return borsh_valid(schema, LENGTH(schema), out);
     case 1:
-        return borsh_size(schema, LENGTH(schema), &size, out);
-    case 2:
-        return borsh_member(schema, LENGTH(schema), value, LENGTH(value), out);
-    case 3:
-        return borsh_member(schema, LENGTH(schema), value, 3, out);
-    case 4:
-        return borsh_to_json(schema, LENGTH(schema), value, LENGTH(value), false, false, out);
-    case 5:
-        return borsh_from_json(schema, LENGTH(schema), json, LENGTH(json), out);
-    case 6:
-        return borsh_records(schema, LENGTH(schema), values, LENGTH(values), found, 3, &size, out);
-    case 7:
-        return borsh_records(schema, LENGTH(schema), values, 3, found, 3, &size, out);
-    case 8:
-        return borsh_json_lines(schema, LENGTH(schema), values, LENGTH(values), lengths, 2, false, &size, out);
-    default:
         return borsh_valid(value, LENGTH(value), out);
+    case 2:
+        return borsh_size(schema, LENGTH(schema), &size, out);
+    case 3:
+        return borsh_member(schema, LENGTH(schema), value, LENGTH(value), out);
+    case 4:
+        return borsh_member(schema, LENGTH(schema), cut, LENGTH(cut), out);
+    case 5:
+        return borsh_to_json(schema, LENGTH(schema), value, LENGTH(value), false, false, out);
+    case 6:
+        return borsh_from_json(schema, LENGTH(schema), json, LENGTH(json), out);
+    case 7:
+        return borsh_records(schema, LENGTH(schema), values, LENGTH(values), found, COUNT(found), &size, out);
+    case 8:
+        return borsh_records(schema, LENGTH(schema), cut, LENGTH(cut), found, COUNT(found), &size, out);
+    case 9:
+        return borsh_json_lines(schema, LENGTH(schema), values, LENGTH(values), lengths, COUNT(lengths), false, &size, out);
+    /* tools/calls.py: end */
     }
+    return BORSH_NULL;
 }
 
 int main(void) {
-    for (int call = 0; call < 10; call++) {
+    for (size_t call = 0; call < COUNT(samples); call++) {
         struct borsh_buffer right, out;
         uint32_t code = ask(call, &right);
+        if (code != samples[call].code) {
+            printf("%s: code %u\n", samples[call].name, (unsigned)code);
+            return 1;
+        }
         size_t before = blocks;
         size_t count = 0;
         for (bool refused = true; refused; count++) {
@@ -93,17 +125,16 @@ int main(void) {
             uint32_t said = ask(call, &out);
             refused = granted == 0;
             granted = SIZE_MAX;
-            /* Lines may be fewer. */
             bool same = said == code && out.length <= right.length && memcmp(out.data, right.data, out.length) == 0 &&
-                        (out.length == right.length || (call == 8 && refused && out.length > 0));
+                        (out.length == right.length || (samples[call].may_be_fewer && refused && out.length > 0));
             bool none = said == BORSH_OUT_OF_MEMORY && strcmp((const char *)out.data, "out of memory") == 0;
             borsh_free(&out);
             if (!(same || (refused && none)) || blocks != before) {
-                printf("call %d, request %zu: code %u, %zu blocks left\n", call, count, (unsigned)said, blocks - before);
+                printf("%s, request %zu: code %u, %zu blocks left\n", samples[call].name, count, (unsigned)said, blocks - before);
                 return 1;
             }
         }
-        printf("call %d: code %u, each of %zu requests refused in turn\n", call, (unsigned)code, count - 1);
+        printf("%s: code %u, each of %zu requests refused in turn\n", samples[call].name, (unsigned)code, count - 1);
         borsh_free(&right);
     }
     return 0;

@@ -1,17 +1,29 @@
 /** What a call has no answer for. */
 export class BorshError extends Error {
-  constructor(kind: ErrorKind, text: string, found?: { path?: string; type?: string; offset?: number | string; reason?: string; record?: number });
+  constructor(
+    kind: ErrorKind,
+    text: string,
+    found?: { path?: string; type?: string; offset?: number | string; reason?: string; record?: number; cause?: unknown },
+  );
 
   readonly kind: ErrorKind;
   /** The path of the part that the error is about, as `A.y[3]` or `A.y[3]::V.0`. A name is written in it as it is in the schema. */
-  readonly path?: string;
+  readonly path: string | undefined;
   /** The name of the part's type, of an error about bytes. */
-  readonly type?: string;
+  readonly type: string | undefined;
   /** The byte at which bytes stop being a value, or near which a text stops being JSON. */
-  readonly offset?: number;
+  readonly offset: number | undefined;
   /** Of an error of {@link Schema.records}: the byte of the stream at which the value begins. The offset is within the value. */
-  readonly record?: number;
+  readonly record: number | undefined;
   /** The error without its path, type and offset. */
+  readonly reason: string;
+}
+
+/** What is thrown for an argument of another type, as for `schema.check(7)`: it has the properties of a {@link BorshError}. */
+export interface ArgumentError extends TypeError {
+  readonly kind: "argument";
+  readonly path: undefined;
+  readonly offset: undefined;
   readonly reason: string;
 }
 
@@ -24,26 +36,33 @@ export class BorshError extends Error {
 export type ErrorKind = "no" | "malformed" | "undecided" | "out of memory";
 
 /** Bytes, or their hexadecimal digits; white space between digits and a `0x` before them are passed over. */
-export type Source = Uint8Array | ArrayBuffer | string;
+export type Source = Uint8Array | ArrayBufferLike | string;
 
 /** Bytes in pieces, which are cut anywhere: a stream of the browser's or of Node's, an iterable, or all bytes at once. */
-export type Pieces =
-  | ReadableStream<Uint8Array>
-  | AsyncIterable<Uint8Array | ArrayBuffer>
-  | Iterable<Uint8Array | ArrayBuffer>
-  | Uint8Array
-  | ArrayBuffer;
+export type Pieces = Stream | AsyncIterable<Uint8Array | ArrayBufferLike> | Iterable<Uint8Array | ArrayBufferLike> | Uint8Array | ArrayBufferLike;
+
+/** What a `ReadableStream` has. */
+export interface Stream {
+  getReader(): {
+    read(): Promise<{ done: boolean; value?: Uint8Array | undefined }>;
+    cancel(): Promise<unknown>;
+  };
+}
 
 /**
- * A value, by the table "JSON" of docs/TOOL.md, with these instead of some texts:
+ * A value as it is decoded, by the table "JSON" of docs/TOOL.md, with these instead of some texts:
  *
  * - whole numbers of 64 and 128 bits are `bigint`s, or decimal strings where that is asked for; smaller ones are `number`s
- * - lists and arrays of `u8`, and primitives that are no whole numbers (floats among them), are `Uint8Array`s, as the bytes lie
+ * - floats are `number`s, those of their shortest decimals: an `f32` may be 0.1
+ * - lists and arrays of `u8`, and primitives of other names, are `Uint8Array`s, as the bytes lie
  *
  * So texts are strings, `bool`s booleans, lists and tuples arrays, structs objects, maps by texts or numbers objects too and other
  * maps arrays of pairs; an `Option` is `null` or what it has; a variant is its name, or an object `{ Name: value }`.
  */
 export type Value = null | boolean | number | bigint | string | Uint8Array | Value[] | { [name: string]: Value };
+
+/** What may be a value: all but `undefined` and symbols. Which it has to be, only the schema says. */
+export type Encodable = null | boolean | number | bigint | string | object;
 
 /** What some bytes of a value are: a number, a text, a list of numbers, the count of another list, or the tag of an enum. */
 export interface Row {
@@ -61,6 +80,27 @@ export interface Row {
   value: string;
 }
 
+/** A definition as JSON has it, and as `Schema.ofSchemas().decode` gives it in `definitions`. */
+export type DefinitionJson =
+  | { readonly Primitive: Whole }
+  | {
+      readonly Sequence: {
+        readonly length_width: Whole;
+        readonly length_range: { readonly start: Whole; readonly end: Whole };
+        readonly elements: string;
+      };
+    }
+  | { readonly Tuple: { readonly elements: readonly string[] } }
+  | {
+      readonly Struct: {
+        readonly fields: "Empty" | { readonly UnnamedFields: readonly string[] } | { readonly NamedFields: readonly (readonly [string, string])[] };
+      };
+    }
+  | { readonly Enum: { readonly tag_width: Whole; readonly variants: readonly (readonly [Whole, string, string])[] } };
+
+/** A whole number; as a string in decimal, where it has 64 bits. */
+export type Whole = number | bigint | string;
+
 /** What a schema says of a name. Tags and lengths are `bigint`s, since they have 64 bits. `name` is `null` of a field without one. */
 export type Definition =
   | { kind: "primitive"; size: number }
@@ -70,8 +110,8 @@ export type Definition =
   | { kind: "enum"; tagWidth: number; variants: { tag: bigint; name: string; type: string }[] };
 
 /**
- * A schema: what an encoded schema container says. Each call throws a {@link BorshError} where it has no answer, and a `TypeError` for
- * an argument of another type; the schema is unchanged after either.
+ * A schema: what an encoded schema container says. Each call throws a {@link BorshError} where it has no answer, and an
+ * {@link ArgumentError} for an argument of another type; the schema is unchanged after either.
  *
  * ```js
  * const schema = Schema.from(containerBytes);
@@ -86,6 +126,15 @@ export class Schema {
 
   /** The schema of schemas: by it an encoded container is itself a value. */
   static ofSchemas(): Schema;
+
+  /**
+   * The schema with this root and these definitions by their names, as JSON has them or as {@link Schema.definitions} gives them. The error
+   * is `"no"` for what are no definitions, with the path in a container.
+   */
+  static of(
+    root: string,
+    definitions: { readonly [name: string]: DefinitionJson | Definition } | ReadonlyMap<string, DefinitionJson | Definition>,
+  ): Schema;
 
   /** A copy of the encoded container. */
   readonly bytes: Uint8Array;
@@ -116,10 +165,12 @@ export class Schema {
   decode(bytes: Source, options?: { longNumbers?: "bigint" | "string" }): Value;
 
   /**
-   * The bytes of a value, as {@link Schema.decode} returns it. Numbers of 64 bits may be `number`s up to 2^53 too, and fields and
-   * entries may come in any order. A `TypeError` refuses what has no exact JSON: `undefined`, a function, NaN, 2^53 as a `number`.
+   * The bytes of a value, as {@link Schema.decode} returns it. A whole number may be a `number` or a `bigint`, and also be given for a float; an
+   * `f32` is rounded. Of an object its own properties with names count, and fields and entries may come in any order; any map may be a
+   * `Map`. The error `"no"` says which part doesn't fit, is no value (`undefined`, a function, a `Date`), can't be read (a getter throws),
+   * isn't exact (2^53 as a `number` for a whole number), or has half of a surrogate pair.
    */
-  encode(value: Value): Uint8Array;
+  encode(value: Encodable): Uint8Array;
 
   /** The value's JSON, on one line unless `compact` is false. With `longNumbers: "string"` numbers of 64 bits are strings. */
   toJson(bytes: Source, options?: { compact?: boolean; longNumbers?: "number" | "string" }): string;

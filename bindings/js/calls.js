@@ -4,7 +4,9 @@
 // proved code leaves nothing in the heap, so that all memory is taken back after each call.
 
 /** What a call's code says: those of `crates/borsh_c`. */
+// tools/calls.py writes: codes
 const KINDS = ["yes", "no", "malformed", "out of memory", "null", "undecided", "short"];
+// tools/calls.py: end
 
 /** In the place of an argument: where the call writes a number of 8 bytes. */
 const RESULT = Symbol("result");
@@ -56,6 +58,8 @@ export class Calls {
     this.#instance = new WebAssembly.Instance(module);
   }
 
+  // Those of `borsh.h`, which says what they answer. Of a room for numbers it is given for how many.
+  // tools/calls.py writes: calls
   valid(schema) {
     return this.#call("borsh_c_valid", [schema], 256);
   }
@@ -76,15 +80,14 @@ export class Calls {
     return this.#call("borsh_c_from_json", [schema, json, PLACE], roomFor(json));
   }
 
-  /** The lengths of the values that the bytes begin with, at most so many; "short" where the bytes end within the first. */
-  records(schema, bytes, most) {
-    return this.#call("borsh_c_records", [schema, bytes, new Room(most), RESULT, PLACE], 256);
+  records(schema, bytes, lengthsRoom) {
+    return this.#call("borsh_c_records", [schema, bytes, new Room(lengthsRoom), RESULT, PLACE], 256);
   }
 
-  /** The JSON of values with these lengths, a line of each, up to one that has none; the number is how many. */
   jsonLines(schema, values, lengths, hasQuotedNumbers) {
     return this.#call("borsh_c_json_lines", [schema, values, lengths, Number(hasQuotedNumbers), RESULT, PLACE], roomFor(values));
   }
+  // tools/calls.py: end
 
   /** What the module exports, for tests. */
   get exports() {

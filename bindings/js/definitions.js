@@ -9,8 +9,14 @@ for (const size of [1, 2, 4, 8, 16]) {
   }
 }
 
+/** Floats by the names of their types: how many bytes they have. */
+const FLOATS = new Map([["f32", 4], ["f64", 8]]);
+
 /** How many structs with one part without a name are gone through to see whether a value may be null, as in `borsh_json`. */
 const MOST_NEWTYPES = 128;
+
+/** The greatest length of the format's own lists and texts. */
+const MOST_ELEMENTS = 2n ** 32n - 1n;
 
 /** The whole numbers of a primitive of this name and size, or undefined. */
 export function numberOf(name, size) {
@@ -22,6 +28,7 @@ export function numberOf(name, size) {
 export class Definitions {
   #zeros;
   #variants = new Map();
+  #forms = new Map();
 
   /** Of the container's JSON, with numbers of 64 bits as strings. */
   constructor(json) {
@@ -45,8 +52,61 @@ export class Definitions {
     return this.#variants.get(definition).get(tagOrName);
   }
 
+  /**
+   * How values of a name that aren't null are written: by `kind`, with what that needs. Where it is told by what is in a newtype or an
+   * `Option`, `steps` lead there.
+   */
+  form(name) {
+    if (!this.#forms.has(name)) this.#forms.set(name, this.#formOf(name));
+    return this.#forms.get(name);
+  }
+
+  #formOf(name) {
+    let steps = "";
+    for (let count = 0; count < MOST_NEWTYPES && !this.isZeroSize(name); count++) {
+      const only = onlyPart(this.map.get(name));
+      const part = only ?? this.#optionalPart(name);
+      if (part === undefined) break;
+      steps += only === undefined ? "::Some" : ".0";
+      name = part;
+    }
+    const definition = this.isZeroSize(name) ? undefined : this.map.get(name);
+    return { steps, ...this.#contentOf(name, definition) };
+  }
+
+  #contentOf(name, definition) {
+    switch (definition?.kind) {
+      case "primitive":
+        return { kind: kindOfPrimitive(name, definition.size), size: definition.size };
+      case "sequence":
+        if (isText(this, name)) return { kind: "text" };
+        return this.#mapOf(name, definition) ?? { kind: "list", element: definition.elements };
+      case "tuple":
+        return { kind: "tuple", parts: definition.elements };
+      case "struct": {
+        const { fields } = definition;
+        if (fields[0].name === null) return { kind: "tuple", parts: fields.map((field) => field.type) };
+        return { kind: "record", step: ".", types: new Map(fields.map((field) => [field.name, field.type])) };
+      }
+      case "enum":
+        return { kind: "choice", step: "::", types: new Map(definition.variants.map((it) => [it.name, it.type])) };
+      default:
+        return { kind: "other" };
+    }
+  }
+
+  /** The form of a map whose keys are texts or numbers, which is written as an object. */
+  #mapOf(name, definition) {
+    const entry = this.map.get(definition.elements);
+    if (!isCounted(definition) || entry?.kind !== "tuple" || entry.elements.length !== 2) return undefined;
+    const [key, value] = entry.elements;
+    const hasNumbers = numberOf(key, this.map.get(key)?.size) !== undefined;
+    const isMap = ["BTreeMap", "HashMap"].some((map) => name === `${map}<${key}, ${value}>`);
+    return isMap && (hasNumbers || isText(this, key)) ? { kind: "map", hasNumbers, value } : undefined;
+  }
+
   /** The name of what an `Option` has, if values of this name are written as null or what they have; else undefined. */
-  optionalPart(name) {
+  #optionalPart(name) {
     const part = this.#optionPart(name);
     return part !== undefined && !this.#mayBeNull(part) ? part : undefined;
   }
@@ -75,20 +135,55 @@ export class Definitions {
 }
 
 /** The name of the only part of a struct that has one field, without a name; else undefined. */
-export function onlyPart(definition) {
-  const isOne = definition.kind === "struct" && definition.fields.length === 1 && definition.fields[0].name === null;
+function onlyPart(definition) {
+  const isOne = definition?.kind === "struct" && definition.fields.length === 1 && definition.fields[0].name === null;
   return isOne ? definition.fields[0].type : undefined;
 }
 
-/** Whether values of a sequence of this name are texts. */
-export function isText(definitions, name, definition) {
-  return name === "String" && isByte(definitions, definition.elements);
+function kindOfPrimitive(name, size) {
+  if (FLOATS.get(name) === size) return "float";
+  return numberOf(name, size) ? "whole" : "other";
+}
+
+/** Whether a sequence has the format's own length before it. */
+function isCounted({ lengthWidth, least, greatest }) {
+  return lengthWidth === 4 && least === 0n && greatest === MOST_ELEMENTS;
+}
+
+/** Whether values of a name are texts. */
+export function isText(definitions, name) {
+  const definition = definitions.get(name);
+  return name === "String" && definition?.kind === "sequence" && isCounted(definition) && isByte(definitions, definition.elements);
 }
 
 /** Whether a name is that of bytes. */
-export function isByte(definitions, name) {
+function isByte(definitions, name) {
   const definition = definitions.get(name);
   return name === "u8" && definition?.kind === "primitive" && definition.size === 1;
+}
+
+/** A definition as JSON has it, of one as `Schema.definitions` gives it; any other as it is. */
+export function definitionGiven(it) {
+  switch (it?.kind) {
+    case "primitive":
+      return { Primitive: it.size };
+    case "sequence":
+      return { Sequence: { length_width: it.lengthWidth, length_range: { start: it.least, end: it.greatest }, elements: it.elements } };
+    case "tuple":
+      return { Tuple: { elements: it.elements } };
+    case "struct":
+      return { Struct: { fields: fieldsGiven([...it.fields]) } };
+    case "enum":
+      return { Enum: { tag_width: it.tagWidth, variants: Array.from(it.variants, ({ tag, name, type }) => [tag, name, type]) } };
+    default:
+      return it;
+  }
+}
+
+function fieldsGiven(fields) {
+  if (fields.length === 0) return "Empty";
+  if (fields[0].name === null) return { UnnamedFields: fields.map((field) => field.type) };
+  return { NamedFields: fields.map(({ name, type }) => [name, type]) };
 }
 
 function definitionOf(json) {

@@ -3,7 +3,7 @@
 /** What a call has no answer for. */
 export class BorshError extends Error {
   constructor(kind, text, found) {
-    super(text);
+    super(text, found?.cause === undefined ? undefined : { cause: found.cause });
     this.name = "BorshError";
     this.kind = kind;
     this.path = found?.path;
@@ -14,14 +14,33 @@ export class BorshError extends Error {
   }
 }
 
+/** What is thrown of an argument of another type: a `TypeError` with the properties of a `BorshError`. */
+export function wrongArgument(text) {
+  return Object.assign(new TypeError(text), { kind: "argument", path: undefined, offset: undefined, reason: text });
+}
+
+/** What a call returns that makes texts; an error of the engine, as of a text that is longer than its own may be, is want of memory. */
+export function withinMemory(call) {
+  try {
+    return call();
+  } catch (error) {
+    if (error instanceof BorshError) throw error;
+    throw new BorshError("out of memory", "out of memory", { cause: error });
+  }
+}
+
 /** Texts of the proved code are UTF-8. */
-export const decoder = new TextDecoder("utf-8", { ignoreBOM: true });
+const decoder = new TextDecoder("utf-8", { ignoreBOM: true });
+
+export function decoded(bytes) {
+  return withinMemory(() => decoder.decode(bytes));
+}
 
 /** The bytes of the answer, or else an error: of a part of one of many values with the byte at which the value begins. */
 export function answerOf(answer, record) {
   if (answer.kind === "yes") return answer.bytes;
   const kind = answer.kind === "short" ? "no" : answer.kind;
-  const text = decoder.decode(answer.bytes);
+  const text = decoded(answer.bytes);
   if (record === undefined || answer.path === undefined) throw new BorshError(kind, text, foundIn(answer));
   throw errorOf(record, kind, answer.kind === "short" ? `cut short: ${text}` : text, foundIn(answer));
 }
@@ -34,8 +53,8 @@ export function errorOf(record, kind, text, found) {
 /** What the text of an answer says: `PATH: REASON`, or of a fault of bytes ``PATH (`TYPE` at byte OFFSET): REASON``. */
 function foundIn({ bytes, offset, path }) {
   if (path === undefined) return { offset };
-  const rest = decoder.decode(bytes.subarray(path.end));
-  const found = { offset, path: decoder.decode(bytes.subarray(path.start, path.end)), reason: rest.slice(": ".length) };
+  const rest = decoded(bytes.subarray(path.end));
+  const found = { offset, path: decoded(bytes.subarray(path.start, path.end)), reason: rest.slice(": ".length) };
   if (offset === undefined) return found;
   // No reason of a fault has such words.
   const middle = `\` at byte ${offset}): `;

@@ -1,5 +1,6 @@
 // Values one after another, whose bytes come in pieces.
-import { answerOf, errorOf } from "./errors.js";
+import { bytesOfSource } from "./bytes.js";
+import { answerOf, errorOf, wrongArgument } from "./errors.js";
 
 /** So many values are asked for at once, of so many bytes, unless one is longer. */
 const MOST_VALUES = 4096;
@@ -13,17 +14,20 @@ const LONG = 2 ** 20;
  * bytes begin with. Throws where the bytes are no value, or end within one, or a value is longer than `maxLength`.
  */
 export async function* batchesOf(source, maxLength, measure) {
+  if (typeof maxLength !== "number" || !(maxLength >= 0)) throw wrongArgument("maxLength is no number of bytes");
   const batches = new Batches(maxLength, measure);
-  for await (const piece of piecesOf(source)) yield* batches.add(bytesOfPiece(piece));
+  const bytes = bytesOfSource(source);
+  if (bytes !== undefined) yield* batches.add(bytes);
+  // Whose piece it is may put others in its place.
+  else for await (const piece of piecesOf(source)) yield* batches.add(bytesOfPiece(piece).slice());
   yield* batches.whole(true);
 }
 
-/** The bytes themselves, or what the source iterates over, or a stream reads where it is no iterable, as in some browsers. */
+/** What the source iterates over, or a stream reads where it is no iterable, as in some browsers. */
 function piecesOf(source) {
-  if (source instanceof Uint8Array || source instanceof ArrayBuffer) return [source];
   if (source?.[Symbol.asyncIterator] || (source?.[Symbol.iterator] && typeof source !== "string")) return source;
   if (typeof source?.getReader === "function") return piecesRead(source);
-  throw new TypeError("neither a ReadableStream, nor an iterable of Uint8Arrays, nor bytes");
+  throw wrongArgument("neither a ReadableStream, nor an iterable of Uint8Arrays, nor bytes");
 }
 
 async function* piecesRead(stream) {
@@ -36,9 +40,9 @@ async function* piecesRead(stream) {
 }
 
 function bytesOfPiece(piece) {
-  if (piece instanceof Uint8Array) return new Uint8Array(piece.buffer, piece.byteOffset, piece.byteLength);
-  if (piece instanceof ArrayBuffer) return new Uint8Array(piece);
-  throw new TypeError("a piece is neither a Uint8Array nor an ArrayBuffer");
+  const bytes = bytesOfSource(piece);
+  if (bytes === undefined) throw wrongArgument("a piece is neither a Uint8Array nor an ArrayBuffer");
+  return bytes;
 }
 
 class Batches {

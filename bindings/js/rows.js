@@ -5,6 +5,9 @@ import { isText, numberOf } from "./definitions.js";
 /** How many values a part may be in, as for the proved code's JSON. */
 const MOST_DEPTH = 128;
 
+/** How many bytes a number has at most that is exact as a number of JavaScript. */
+const MOST_EXACT = 6;
+
 /** Where and why the bytes aren't gone through any further. */
 class Stop {
   constructor(path, reason) {
@@ -20,92 +23,237 @@ class Stop {
  */
 export function rowsOf(definitions, bytes) {
   const walk = new Walk(definitions, bytes);
-  try {
-    walk.part(definitions.root, definitions.root, 0);
-  } catch (stop) {
-    if (!(stop instanceof Stop)) throw stop;
-    return { rows: walk.rows, stop };
-  }
-  return { rows: walk.rows, stop: undefined };
+  const rows = [];
+  while (walk.next()) rows.push(walk.row());
+  return { rows, stop: walk.stop };
 }
 
-class Walk {
-  rows = [];
+/** A value that a walk is in: its definition, which of its parts the walk is at, of how many, and the value that it is itself in. */
+class Inside {
+  /** Whether it is of a place that was given away, and so has to stay as it is. */
+  isKept = false;
+
+  constructor(definition, index, count, variant, outer) {
+    this.definition = definition;
+    this.index = index;
+    this.count = count;
+    this.variant = variant;
+    this.outer = outer;
+    this.depth = outer === undefined ? 0 : outer.depth + 1;
+  }
+
+  /** This, at the next part. */
+  next() {
+    if (this.isKept) return new Inside(this.definition, this.index + 1, this.count, this.variant, this.outer);
+    this.index++;
+    return this;
+  }
+
+  /** The type of the part. */
+  get type() {
+    const { definition, index } = this;
+    switch (definition.kind) {
+      case "sequence":
+        return definition.elements;
+      case "struct":
+        return definition.fields[index].type;
+      case "enum":
+        return this.variant.type;
+      default:
+        return definition.elements[index];
+    }
+  }
+
+  /** The last step of the part's path. */
+  get step() {
+    const { definition, index } = this;
+    switch (definition.kind) {
+      case "sequence":
+        return `[${index}]`;
+      case "enum":
+        return `::${this.variant.name}`;
+      case "root":
+        return this.type;
+      default:
+        return `.${definition.fields?.[index].name ?? index}`;
+    }
+  }
+
+  get path() {
+    return (this.outer?.path ?? "") + this.step;
+  }
+
+  /** Whether the path is this, up to an end, from which it is gone through. */
+  isAt(path, end = path.length) {
+    const start = end - this.step.length;
+    if (start < 0 || !path.startsWith(this.step, start)) return false;
+    return this.outer === undefined ? start === 0 : this.outer.isAt(path, start);
+  }
+}
+
+/** Goes through the bytes, a row at a time. `place` is where it is: another walk through the same bytes is taken up there. */
+export class Walk {
   #definitions;
   #bytes;
-  #offset = 0;
+  /** What the walk is in, and the row's part in turn; where the row begins, and the next one. */
+  #inside;
+  #part;
+  #start = 0;
+  #end;
+  #rows;
+  #type;
+  /** What the row has, by which its value is told, and what is needed for that. */
+  #kind;
+  #count;
+  #lengthWidth;
+  #variant;
+  /** The path and reason for which it goes no further. */
+  stop = undefined;
 
-  constructor(definitions, bytes) {
+  constructor(definitions, bytes, place) {
     this.#definitions = definitions;
     this.#bytes = bytes;
+    this.#inside = place?.inside ?? new Inside({ kind: "root", elements: [definitions.root] }, -1, 1);
+    this.#end = place?.offset ?? 0;
+    this.#rows = place?.rows ?? 0;
   }
 
-  /** Goes through a part that has this type and path, and is in so many values. */
-  part(type, path, depth) {
-    if (this.#definitions.isZeroSize(type)) return;
+  /** After so many rows, at this byte. */
+  get place() {
+    for (let it = this.#inside; it !== undefined && !it.isKept; it = it.outer) it.isKept = true;
+    return { inside: this.#inside, offset: this.#end, rows: this.#rows };
+  }
+
+  /** Goes to the next row, if there is one. */
+  next() {
+    if (this.stop !== undefined) return false;
+    try {
+      return this.#goOn();
+    } catch (stop) {
+      if (!(stop instanceof Stop)) throw stop;
+      this.stop = stop;
+      return false;
+    }
+  }
+
+  /** Where the row begins, and where the next one does. */
+  get start() {
+    return this.#start;
+  }
+  get end() {
+    return this.#end;
+  }
+
+  /** Whether the row's part has this path. */
+  isAt(path) {
+    return this.#part.isAt(path);
+  }
+
+  /** The row, with at most so many bytes of a text. */
+  row(most = Infinity) {
+    const bytes = this.#bytes.subarray(this.#start, this.#end);
+    const { path, depth } = this.#part;
+    return { offset: this.#start, depth, bytes, path, type: this.#type, value: this.#value(bytes, most) };
+  }
+
+  #value(bytes, most) {
+    switch (this.#kind) {
+      case "text":
+        return textOf(bytes.subarray(this.#lengthWidth), most);
+      case "elements":
+        return elementsText(this.#count);
+      case "tag":
+        return this.#variant.name;
+      default:
+        return textOfPrimitive(this.#type, bytes);
+    }
+  }
+
+  #goOn() {
+    while (this.#inside !== undefined) {
+      const at = this.#inside.next();
+      if (at.index >= at.count) {
+        this.#inside = at.outer;
+        continue;
+      }
+      this.#inside = at;
+      if (this.#definitions.isZeroSize(at.type)) {
+        // So are all elements of a list.
+        if (at.definition.kind === "sequence") this.#inside = at.outer;
+      } else if (this.#enter(at)) {
+        return true;
+      }
+    }
+    return false;
+  }
+
+  /** Goes into a part, and says whether it begins with a row. */
+  #enter(at) {
+    const { type } = at;
     const definition = this.#definitions.get(type);
-    if (definition === undefined) throw new Stop(path, "it has no definition");
-    if (depth > MOST_DEPTH) throw new Stop(path, "nests more than 128 deep");
+    if (definition === undefined) throw new Stop(at.path, "it has no definition");
+    if (at.depth > MOST_DEPTH) throw new Stop(at.path, "nests more than 128 deep");
     switch (definition.kind) {
       case "primitive":
-        this.#row(definition.size, path, type, depth, (bytes) => textOfPrimitive(type, bytes));
-        break;
+        return this.#row(at, type, definition.size, "primitive");
       case "sequence":
-        this.#sequence(definition, type, path, depth);
-        break;
-      case "tuple":
-        definition.elements.forEach((element, index) => this.part(element, `${path}.${index}`, depth + 1));
-        break;
-      case "struct":
-        definition.fields.forEach((field, index) => this.part(field.type, `${path}.${field.name ?? index}`, depth + 1));
-        break;
+        return this.#sequence(at, type, definition);
+      case "enum": {
+        const tag = this.#number(definition.tagWidth, at);
+        const variant = this.#definitions.variant(definition, BigInt(tag));
+        if (variant === undefined) throw new Stop(at.path, "no variant has this tag");
+        this.#inside = new Inside(definition, -1, 1, variant, at);
+        this.#variant = variant;
+        return this.#row(at, type, definition.tagWidth, "tag");
+      }
       default:
-        this.#choice(definition, type, path, depth);
+        this.#inside = new Inside(definition, -1, (definition.elements ?? definition.fields).length, undefined, at);
+        return false;
     }
   }
 
-  #sequence(definition, type, path, depth) {
+  #sequence(at, type, definition) {
     const { lengthWidth, least, greatest, elements } = definition;
-    if (lengthWidth === 0 && least !== greatest) throw new Stop(path, "its count isn't known");
-    const count = lengthWidth === 0 ? least : unsigned(this.#peek(lengthWidth, path));
-    if (count < least || count > greatest) throw new Stop(path, "the number of elements isn't allowed");
+    if (lengthWidth === 0 && least !== greatest) throw new Stop(at.path, "its count isn't known");
+    const count = lengthWidth === 0 ? least : this.#number(lengthWidth, at);
+    if (count < least || count > greatest) throw new Stop(at.path, "the number of elements isn't allowed");
+    this.#count = count;
+    this.#lengthWidth = lengthWidth;
     const element = this.#definitions.get(elements);
     if (element?.kind === "primitive" && element.size > 0) {
-      const size = lengthWidth + this.#inBytes(count, path) * element.size;
-      this.#row(size, path, type, depth, (bytes) =>
-        isText(this.#definitions, type, definition) ? textOf(bytes.subarray(lengthWidth)) : elementsText(count));
-      return;
+      const kind = isText(this.#definitions, type) ? "text" : "elements";
+      return this.#row(at, type, lengthWidth + this.#inBytes(count, at) * element.size, kind);
     }
-    this.#row(lengthWidth, path, type, depth, () => elementsText(count));
-    if (this.#definitions.isZeroSize(elements)) return;
-    const end = this.#inBytes(count, path);
-    for (let index = 0; index < end; index++) this.part(elements, `${path}[${index}]`, depth + 1);
-  }
-
-  #choice(definition, type, path, depth) {
-    const tag = unsigned(this.#peek(definition.tagWidth, path));
-    const variant = this.#definitions.variant(definition, tag);
-    if (variant === undefined) throw new Stop(path, "no variant has this tag");
-    this.#row(definition.tagWidth, path, type, depth, () => variant.name);
-    this.part(variant.type, `${path}::${variant.name}`, depth + 1);
+    const isRow = this.#row(at, type, lengthWidth, "elements");
+    if (!this.#definitions.isZeroSize(elements)) this.#inside = new Inside(definition, -1, this.#inBytes(count, at), undefined, at);
+    return isRow;
   }
 
   /** A count of elements that have bytes, of which there can't be more than bytes. */
-  #inBytes(count, path) {
-    if (count > BigInt(this.#bytes.length)) throw new Stop(path, "too few bytes are left");
+  #inBytes(count, at) {
+    if (count > this.#bytes.length) throw new Stop(at.path, "too few bytes are left");
     return Number(count);
   }
 
-  #peek(size, path) {
-    if (size > this.#bytes.length - this.#offset) throw new Stop(path, "too few bytes are left");
-    return this.#bytes.subarray(this.#offset, this.#offset + size);
+  /** The number that the next bytes are: a bigint where it may not be exact otherwise. */
+  #number(size, at) {
+    if (size > this.#bytes.length - this.#end) throw new Stop(at.path, "too few bytes are left");
+    if (size > MOST_EXACT) return unsigned(this.#bytes.subarray(this.#end, this.#end + size));
+    let number = 0;
+    for (let index = this.#end + size - 1; index >= this.#end; index--) number = 256 * number + this.#bytes[index];
+    return number;
   }
 
-  #row(size, path, type, depth, valueOf) {
-    const bytes = this.#peek(size, path);
-    if (size === 0) return;
-    this.rows.push({ offset: this.#offset, depth, bytes, path, type, value: valueOf(bytes) });
-    this.#offset += size;
+  #row(at, type, size, kind) {
+    if (size > this.#bytes.length - this.#end) throw new Stop(at.path, "too few bytes are left");
+    if (size === 0) return false;
+    this.#part = at;
+    this.#type = type;
+    this.#kind = kind;
+    this.#start = this.#end;
+    this.#end += size;
+    this.#rows++;
+    return true;
   }
 }
 
@@ -117,16 +265,19 @@ function textOfPrimitive(type, bytes) {
   return String(number.isSigned ? BigInt.asIntN(8 * bytes.length, value) : value);
 }
 
-function textOf(bytes) {
+/** A text, or how it begins. */
+function textOf(bytes, most) {
+  const isCut = bytes.length > most;
   try {
-    return `"${new TextDecoder("utf-8", { fatal: true, ignoreBOM: true }).decode(bytes)}"`;
+    const text = new TextDecoder("utf-8", { fatal: true, ignoreBOM: true }).decode(isCut ? bytes.subarray(0, most) : bytes, { stream: isCut });
+    return isCut ? `"${text}…` : `"${text}"`;
   } catch {
     return "not UTF-8";
   }
 }
 
 function elementsText(count) {
-  return count === 1n ? "1 element" : `${count} elements`;
+  return Number(count) === 1 ? "1 element" : `${count} elements`;
 }
 
 /** The number that bytes are, the least first. */

@@ -1,11 +1,13 @@
 // A schema, over the calls of a compiled module.
+import { bytesOfHex, bytesOfSource } from "./bytes.js";
 import { Calls } from "./calls.js";
 import { CONTAINER_OF_CONTAINERS } from "./container.js";
-import { Definitions } from "./definitions.js";
-import { BorshError, answerOf, decoder } from "./errors.js";
+import { Definitions, definitionGiven } from "./definitions.js";
+import { isWellFormed, jsonOfValue } from "./encode.js";
+import { BorshError, answerOf, decoded, wrongArgument } from "./errors.js";
 import { batchesOf } from "./records.js";
 import { rowsOf } from "./rows.js";
-import { bytesOfHex, jsonOfValue, valueOfJson } from "./values.js";
+import { valueOfJson } from "./values.js";
 
 export { BorshError };
 
@@ -22,17 +24,35 @@ export function useModule(module) {
 
 const encoder = new TextEncoder();
 
-/** The bytes of a `Uint8Array`, an `ArrayBuffer` or hexadecimal digits. */
+/** In the place of a text that has no UTF-8. */
+const NOT_UTF8 = Uint8Array.of(0xff);
+
+/** What only this file has. */
+const MAKER = Symbol("maker");
+
+/** The schema of schemas, once it was asked for. */
+let schemas;
+
+/** The bytes of a `Uint8Array`, of a buffer or of hexadecimal digits. */
 function bytesFrom(source) {
-  if (source instanceof Uint8Array) return source;
-  if (source instanceof ArrayBuffer) return new Uint8Array(source);
-  const bytes = typeof source === "string" ? bytesOfHex(source) : undefined;
-  if (bytes === undefined) throw new TypeError("neither a Uint8Array, nor an ArrayBuffer, nor hexadecimal digits");
+  const bytes = typeof source === "string" ? bytesOfHex(source) : bytesOfSource(source);
+  if (bytes === undefined) throw wrongArgument("neither a Uint8Array, nor an ArrayBuffer, nor hexadecimal digits");
   return bytes;
 }
 
+/** Definitions by their names, as JSON has them. */
+function definitionsFrom(definitions) {
+  if (definitions === null || typeof definitions !== "object") throw wrongArgument("the definitions are no object");
+  try {
+    const entries = definitions instanceof Map ? [...definitions] : Object.entries(definitions);
+    return new Map(entries.map(([name, definition]) => [name, definitionGiven(definition)]));
+  } catch (cause) {
+    throw new BorshError("no", "the definitions can't be read", { cause });
+  }
+}
+
 function takesBigints(longNumbers) {
-  if (longNumbers !== "bigint" && longNumbers !== "string") throw new TypeError('longNumbers is neither "bigint" nor "string"');
+  if (longNumbers !== "bigint" && longNumbers !== "string") throw wrongArgument('longNumbers is neither "bigint" nor "string"');
   return longNumbers === "bigint";
 }
 
@@ -40,12 +60,13 @@ export class Schema {
   #bytes;
   #definitions;
 
-  constructor(bytes) {
+  constructor(bytes, maker) {
+    if (maker !== MAKER) throw wrongArgument("Schema.from and Schema.of make schemas");
     this.#bytes = bytes;
   }
 
   static from(source) {
-    const schema = new Schema(bytesFrom(source).slice());
+    const schema = new Schema(bytesFrom(source).slice(), MAKER);
     const answer = calls.valid(schema.#bytes);
     if (answer.kind !== "no") answerOf(answer);
     return schema;
@@ -53,7 +74,13 @@ export class Schema {
 
   /** The container of containers. */
   static ofSchemas() {
-    return Schema.from(CONTAINER_OF_CONTAINERS);
+    schemas ??= Schema.from(CONTAINER_OF_CONTAINERS);
+    return schemas;
+  }
+
+  static of(root, definitions) {
+    if (typeof root !== "string") throw wrongArgument("the name of the type is no string");
+    return Schema.from(Schema.ofSchemas().encode({ declaration: root, definitions: definitionsFrom(definitions) }));
   }
 
   get bytes() {
@@ -89,16 +116,21 @@ export class Schema {
   }
 
   encode(value) {
-    return this.fromJson(jsonOfValue(value));
+    return this.#fromText(encoder.encode(jsonOfValue(this.#defined(), value)));
   }
 
   toJson(value, { compact = true, longNumbers = "number" } = {}) {
-    if (longNumbers !== "number" && longNumbers !== "string") throw new TypeError('longNumbers is neither "number" nor "string"');
-    return decoder.decode(answerOf(calls.toJson(this.#bytes, bytesFrom(value), compact, longNumbers === "string")));
+    if (longNumbers !== "number" && longNumbers !== "string") throw wrongArgument('longNumbers is neither "number" nor "string"');
+    return decoded(answerOf(calls.toJson(this.#bytes, bytesFrom(value), compact, longNumbers === "string")));
   }
 
   fromJson(json) {
-    return answerOf(calls.fromJson(this.#bytes, encoder.encode(json)));
+    if (typeof json !== "string") throw wrongArgument("JSON is a string");
+    return this.#fromText(isWellFormed(json) ? encoder.encode(json) : NOT_UTF8);
+  }
+
+  #fromText(bytes) {
+    return answerOf(calls.fromJson(this.#bytes, bytes));
   }
 
   async *records(source, { longNumbers = "bigint", maxLength } = {}) {
@@ -108,7 +140,7 @@ export class Schema {
       while (lengths.length > 0) {
         const answer = calls.jsonLines(this.#bytes, values, lengths, true);
         // No text of JSON has a line end in it, which is written as its escape.
-        const lines = decoder.decode(answerOf(answer, start)).slice(0, -1);
+        const lines = decoded(answerOf(answer, start)).slice(0, -1);
         const list = JSON.parse(`[${lines.replaceAll("\n", ",")}]`);
         for (const json of list) yield valueOfJson(this.#defined(), this.root, json, isBigint);
         const size = lengths.slice(0, list.length).reduce((sum, length) => sum + length, 0);
@@ -145,8 +177,8 @@ export class Schema {
 
   #defined() {
     if (this.#definitions === undefined) {
-      const answer = calls.toJson(bytesOfHex(CONTAINER_OF_CONTAINERS), this.#bytes, true, true);
-      this.#definitions = new Definitions(JSON.parse(decoder.decode(answerOf(answer))));
+      const answer = calls.toJson(Schema.ofSchemas().#bytes, this.#bytes, true, true);
+      this.#definitions = new Definitions(JSON.parse(decoded(answerOf(answer))));
     }
     return this.#definitions;
   }

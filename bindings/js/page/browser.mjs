@@ -1,15 +1,18 @@
 // A headless Chromium that answers over a pipe, by the protocol of its own developer tools.
+import assert from "node:assert/strict";
 import { spawn } from "node:child_process";
 import { mkdtempSync, rmSync } from "node:fs";
 import { tmpdir } from "node:os";
 import { join } from "node:path";
+import { isDeepStrictEqual } from "node:util";
 
 /** Whether there is one: CHROMIUM, or `chromium`. */
 export const program = process.env.CHROMIUM ?? "chromium";
 
 export class Browser {
   #process;
-  #profile = mkdtempSync(join(tmpdir(), "borsh-page-"));
+  /** The folder of its own that it was given. */
+  profile = mkdtempSync(join(tmpdir(), "borsh-page-"));
   #waiting = new Map();
   #last = 0;
   #session;
@@ -24,7 +27,7 @@ export class Browser {
   }
 
   async #open() {
-    const words = ["--headless", "--no-sandbox", "--disable-gpu", "--hide-scrollbars", "--remote-debugging-pipe", `--user-data-dir=${this.#profile}`];
+    const words = ["--headless", "--no-sandbox", "--disable-gpu", "--hide-scrollbars", "--remote-debugging-pipe", `--user-data-dir=${this.profile}`];
     this.#process = spawn(program, words, { stdio: ["ignore", "ignore", "ignore", "pipe", "pipe"] });
     let rest = "";
     this.#process.stdio[4].setEncoding("utf8").on("data", (text) => {
@@ -72,12 +75,34 @@ export class Browser {
     throw new Error(`the page isn't ready: ${this.messages.join("; ")}`);
   }
 
+  /** Waits until the page knows all of what it was given. */
+  async settle() {
+    await this.eventually(() => this.value(`document.querySelector("main").getAttribute("aria-busy")`), "false");
+  }
+
+  /** Waits until it is so, for some seconds. */
+  async eventually(read, wanted, seconds = 20) {
+    for (const start = Date.now(); Date.now() - start < 1000 * seconds; ) {
+      if (isDeepStrictEqual(await read(), wanted)) return;
+      await new Promise((resolve) => setTimeout(resolve, 10));
+    }
+    assert.deepEqual(await read(), wanted);
+  }
+
+  /** Gives a field for files some, as a person does. */
+  async setFiles(selector, ...files) {
+    const { root } = await this.send("DOM.getDocument");
+    const { nodeId } = await this.send("DOM.querySelector", { nodeId: root.nodeId, selector });
+    await this.send("DOM.setFileInputFiles", { nodeId, files });
+  }
+
   async picture() {
     return Buffer.from((await this.send("Page.captureScreenshot", { format: "png" })).data, "base64");
   }
 
-  /** Moves the pointer to the middle of an element. */
+  /** Moves the pointer to the middle of an element, once there is one, and returns where that is. */
   async point(selector) {
+    await this.eventually(() => this.value(`document.querySelector(${JSON.stringify(selector)}) !== null`), true);
     const { x, y } = await this.value(`(() => {
       const it = document.querySelector(${JSON.stringify(selector)});
       it.scrollIntoView({ block: "center" });
@@ -85,6 +110,7 @@ export class Browser {
       return { x: left + width / 2, y: top + height / 2 };
     })()`);
     await this.send("Input.dispatchMouseEvent", { type: "mouseMoved", x, y });
+    return { x, y };
   }
 
   async press(key) {
@@ -95,6 +121,6 @@ export class Browser {
     const ended = new Promise((resolve) => this.#process.once("exit", resolve));
     await this.send("Browser.close");
     await ended;
-    rmSync(this.#profile, { recursive: true, force: true, maxRetries: 5 });
+    rmSync(this.profile, { recursive: true, force: true, maxRetries: 5 });
   }
 }

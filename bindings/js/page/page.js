@@ -1,282 +1,450 @@
-// The page: what is in its fields is read at each change, and all that it shows is made of that.
-const MOST_BYTES = 4096; // that the grid shows, and rows that the table shows
-const PARTS = 6; // how many colours there are
-const HELP = "Point at a byte or a part, or move among the bytes with the arrow keys.";
+// The page: what is given in its fields or as files is read by a worker at each change, and all that it shows is made of the answers.
+
+/** A text of more characters isn't kept in a field, but as a file. */
+const LONG = 2 ** 17;
+
+/** After so many milliseconds of work the page says how far it is. */
+const PATIENCE = 200;
+
+const HELP = "Point at a byte or a part, or move among them with the arrow keys.";
 
 const field = (id) => document.getElementById(id);
 
-/** What is shown: the schema and the bytes, where the fields have them; the rows; the row of each byte; the byte that is wrong. */
-const shown = { schema: undefined, bytes: undefined, rows: [], rowOfByte: [], fault: undefined, focused: 0 };
+/** What is given: a text, or a file, which may itself be a text; and whether the worker has read it. */
+const given = { schema: { text: "" }, value: { text: "" } };
+const isRead = { schema: false, value: false };
+
+/** What is shown: how many bytes and rows, the wrong byte, the marked row, and where the keys are among bytes and parts. */
+const shown = { length: 0, rows: 0, fault: undefined, marked: undefined, cursor: 0, bytesSeen: undefined, partsSeen: undefined };
+
+/** Of the schema and the value as the worker has read them: the container's bytes; the value's file, where it is large; its JSON. */
+const found = { schema: undefined, file: undefined, json: undefined };
+
+const module = await WebAssembly.compile(Uint8Array.from(atob(field("module").textContent), (letter) => letter.charCodeAt(0)));
+const script = URL.createObjectURL(new Blob([field("worker").textContent], { type: "text/javascript" }));
+
+/** The worker that reads and shows, and one that judges a large value, which takes the proved code a while. */
+let reader = new Helper(script, module);
+let judge;
+
+/** Counts changes: what belongs to an earlier one is passed over. */
+let turn = 0;
+
+/** Whether all is known of the value, and whether at least its parts are. */
+let isSettled = true;
+let isOpen = true;
+
+function know(parts, all) {
+  isOpen = parts;
+  isSettled = all;
+  document.querySelector("main").setAttribute("aria-busy", String(!all));
+}
+
+const askBytes = (first, end) => reader.ask("bytes", { first: first * lineLength(), end: Math.min(end * lineLength(), shown.length) });
+const bytesView = new View("grid", askBytes, byteLines);
+const partsView = new View("parts", (first, end) => reader.ask("rows", { first, count: end - first }), partLines);
 
 function say(id, text, isRight) {
   field(id).textContent = text;
-  field(id).className = text === "" ? "" : isRight ? "is-right" : "is-wrong";
+  field(id).className = text === "" || isRight === undefined ? "" : isRight ? "is-right" : "is-wrong";
 }
 
-/** The bytes of a field's text; throws an error that says what it isn't. */
-function bytesOfText(text) {
-  const format = field("format").value;
-  const hex = format === "base64" ? undefined : bytesOfHex(text);
-  if (hex !== undefined) return hex;
-  if (format === "hex") throw new Error("these aren't pairs of hexadecimal digits");
-  try {
-    const binary = atob(text.replace(/\s+/g, "").replace(/-/g, "+").replace(/_/g, "/"));
-    return Uint8Array.from(binary, (letter) => letter.charCodeAt(0));
-  } catch {
-    throw new Error(format === "base64" ? "this isn't base64" : "this is neither hexadecimal digits, in pairs, nor base64");
+const numberText = (number) => number.toLocaleString("en");
+const countText = (number, name) => `${numberText(number)} ${number === 1 ? name : `${name}s`}`;
+
+// What is being done
+
+const works = new Set();
+let isWatching;
+
+/** Asks for what may take a while; until it is answered the page says how far it is. */
+function ask(helper, name, question, onProgress) {
+  const it = { said: "working", part: undefined, since: performance.now(), ofSaid: performance.now() };
+  works.add(it);
+  isWatching ??= setInterval(showWork, PATIENCE / 2);
+  return helper
+    .ask(name, question, (progress) => {
+      if (progress.said !== it.said) it.ofSaid = performance.now();
+      Object.assign(it, progress);
+      onProgress?.(progress);
+    })
+    .finally(() => {
+      works.delete(it);
+      if (works.size === 0) showWork();
+    });
+}
+
+function showWork() {
+  const now = performance.now();
+  const long = [...works].filter((it) => now - it.since >= PATIENCE);
+  if (works.size === 0) {
+    clearInterval(isWatching);
+    isWatching = undefined;
   }
+  field("work").hidden = long.length === 0;
+  if (long.length === 0) return;
+  const howFar = ({ part, ofSaid }) => (part === undefined ? `${((now - ofSaid) / 1000).toFixed(1)} s` : `${Math.floor(100 * part)} %`);
+  field("work-said").textContent = long.map((it) => `${it.said}: ${howFar(it)}`).join("; ");
+  const part = long.find((it) => it.part !== undefined)?.part;
+  if (part === undefined) field("progress").removeAttribute("value");
+  else field("progress").value = part;
 }
 
-function base64Of(bytes) {
-  return btoa(Array.from(bytes, (byte) => String.fromCharCode(byte)).join("")).replace(/\+/g, "-").replace(/\//g, "_").replace(/=/g, "");
+function endJudge() {
+  judge?.end();
+  judge = undefined;
 }
 
-function readSchema() {
-  shown.schema = undefined;
-  field("definitions").textContent = "";
-  const text = field("schema").value;
-  if (text.trim() === "") {
-    say("schema-said", "");
+/** Ends the work: what isn't known yet stays unknown, until it is begun again. */
+function stop() {
+  turn++;
+  endJudge();
+  field("again").hidden = false;
+  if (isOpen) {
+    say("value-said", "Stopped: whether these bytes are a value isn't known, and the parts are as the definitions read them.", false);
   } else {
-    try {
-      shown.schema = Schema.from(bytesOfText(text));
-      field("definitions").textContent = definitionLines(shown.schema).join("\n");
-      say("schema-said", ...judged(shown.schema));
-    } catch (error) {
-      say("schema-said", error.message, false);
+    reader.end();
+    reader = new Helper(script, module);
+    for (const id of ["schema", "value"]) {
+      if (!isRead[id] || id === "value") say(`${id}-said`, "Stopped.", false);
+      isRead[id] = false;
     }
+    show({ length: 0, rows: 0 });
   }
-  readValue();
+  know(true, true);
 }
 
-/** Whether the schema keeps the rules, and the greatest size of a value; and whether the first is so. */
-function judged(schema) {
-  let size;
+// Reading
+
+/** Reads what has changed, and shows it. */
+async function read({ schema = false, value = false } = {}) {
+  const mine = ++turn;
+  endJudge();
+  field("again").hidden = true;
+  know(false, false);
+  if (schema) isRead.schema = false;
+  if (value || given.value.text?.trim() === "") isRead.value = false;
+  for (const id of ["schema", "value"]) {
+    if (!isRead[id] && !(await readOne(id, mine))) return;
+  }
+  await open(mine);
+}
+
+/** Has the worker read the schema or the value; false if there was another change since. */
+async function readOne(id, mine) {
+  const question = { ...given[id], format: field("format").value };
+  const isEmpty = question.file === undefined && question.text.trim() === "" && (id === "schema" || given.schema.text === "");
   try {
-    const most = schema.maxSize();
-    size = `a value has at most ${most} ${most === 1n ? "byte" : "bytes"}`;
+    const answer = await ask(reader, isEmpty ? "forget" : id, isEmpty ? { id } : question);
+    if (mine !== turn) return false;
+    if (id === "schema") showSchema(answer);
+    else takeValue(answer);
+    isRead[id] = true;
   } catch (error) {
-    size = `no greatest size: ${error.message}`;
+    if (error instanceof Unanswered || mine !== turn) return false;
+    if (id === "schema") showSchema({ said: error.message, isRight: false });
+    else takeValue({ said: error.message });
+    // The worker has none, as long as nothing changes.
+    isRead[id] = true;
+  }
+  return true;
+}
+
+function showSchema({ kind, text, lines = [], said = "", isRight, bytes }) {
+  found.schema = bytes;
+  if (given.schema.file !== undefined && text !== undefined) give("schema", { text });
+  field("definitions").textContent = lines.join("\n");
+  field("schema-kind").textContent = kind === undefined ? "" : `Taken as ${kind}.`;
+  say("schema-said", said, isRight);
+}
+
+function takeValue({ kind, length, file, hex, said = "", isLarge = false }) {
+  found.length = length;
+  found.isLarge = isLarge;
+  found.file = file ?? (length === undefined ? undefined : given.value.file);
+  if (given.value.file !== undefined && hex !== undefined) give("value", { text: hex });
+  field("value-kind").textContent = kind === undefined ? "" : `Taken as ${kind}.`;
+  say("value-said", said, false);
+}
+
+/** Shows the value's bytes and parts, and says what it is. Its JSON is kept where that is what it was made of. */
+async function open(mine, { keepsJson = false } = {}) {
+  const hasBoth = found.schema !== undefined && found.length !== undefined;
+  if (!keepsJson) showJson(undefined, hasBoth ? "It isn't known yet." : undefined);
+  field("save-value").disabled = found.length === undefined;
+  if (!hasBoth) {
+    show({ length: found.length ?? 0, rows: 0 });
+    know(true, true);
+    return;
   }
   try {
-    schema.validate();
-    return [`valid; ${size}`, true];
+    const judging = found.isLarge ? judgeFile(mine) : undefined;
+    let isDrawn = false;
+    const opened = await ask(reader, "open", undefined, (progress) => {
+      if (mine !== turn || progress.rows === undefined) return;
+      if (isDrawn) showMore(progress);
+      else show({ length: found.length, rows: progress.rows });
+      isDrawn = true;
+    });
+    if (mine !== turn) return;
+    if (isDrawn) showMore(opened);
+    else show({ length: found.length, rows: opened.rows, fault: opened.verdict?.fault });
+    know(true, false);
+    const verdict = opened.verdict ?? (await judging);
+    if (mine !== turn) return;
+    if (found.isLarge && !verdict.isRight) showFault(await reader.ask("fault", verdict));
+    if (mine !== turn) return;
+    say("value-said", verdict.said, verdict.isRight);
+    // JSON that is being written stays as it is.
+    if (!keepsJson || verdict.json instanceof Blob) showJson(verdict.json);
+    else found.json = new Blob([verdict.json ?? ""], { type: "application/json" });
+    know(true, true);
   } catch (error) {
-    return [`${error.message}; ${size}`, false];
-  }
-}
-
-function definitionLines(schema) {
-  const others = [...schema.definitions.keys()].filter((name) => name !== schema.root).sort();
-  return [schema.root, ...others].map((name) => definitionLine(name, schema.definitions.get(name)));
-}
-
-function definitionLine(name, definition) {
-  switch (definition?.kind) {
-    case "primitive":
-      return `primitive ${name} = ${definition.size} ${definition.size === 1 ? "byte" : "bytes"}`;
-    case "sequence": {
-      const { lengthWidth, least, greatest, elements } = definition;
-      if (lengthWidth === 0 && least === greatest) return `array ${name} = [${elements}; ${least}]`;
-      return `sequence ${name} = [${elements}; ${least}..=${greatest}], length in ${lengthWidth} ${lengthWidth === 1 ? "byte" : "bytes"}`;
-    }
-    case "tuple":
-      return `tuple ${name} = (${definition.elements.join(", ")})`;
-    case "struct":
-      return `struct ${name} { ${definition.fields.map((it, index) => `${it.name ?? index}: ${it.type}`).join(", ")} }`;
-    case "enum":
-      return `enum ${name} { ${definition.variants.map((it) => `${it.name} = ${it.tag}: ${it.type}`).join(", ")} }, tag in ${definition.tagWidth} ${definition.tagWidth === 1 ? "byte" : "bytes"}`;
-    default:
-      return `missing ${name}`;
-  }
-}
-
-/** Reads the value's bytes, and shows them; the JSON too, unless that is where they come from. */
-function readValue({ keepsJson = false } = {}) {
-  Object.assign(shown, { bytes: undefined, rows: [], fault: undefined, focused: 0 });
-  if (!keepsJson) {
-    field("json").value = "";
-    say("json-said", "");
-  }
-  say("value-said", "");
-  const text = field("value").value;
-  if (text.trim() !== "" || shown.schema !== undefined) {
-    try {
-      shown.bytes = bytesOfText(text);
-      if (shown.schema !== undefined) judgeValue(keepsJson);
-    } catch (error) {
-      say("value-said", error.message, false);
-    }
-  }
-  draw();
-}
-
-function judgeValue(keepsJson) {
-  const { schema, bytes } = shown;
-  shown.rows = schema.rowsBefore(bytes);
-  try {
-    const json = schema.toJson(bytes, { compact: false });
-    shown.rows = schema.rows(bytes);
-    if (!keepsJson) field("json").value = json;
-    say("value-said", `a value of ${schema.root}, of ${bytes.length} ${bytes.length === 1 ? "byte" : "bytes"}`, true);
-  } catch (error) {
-    // Bytes that are no value have a place; a part that the type refuses is known by its path.
-    shown.fault = error.offset ?? shown.rows.findLast((row) => row.path === error.path)?.offset;
-    if (error.type !== undefined) shown.rows = shown.rows.filter((row) => row.offset + row.bytes.length <= shown.fault);
+    if (error instanceof Unanswered || mine !== turn) return;
     say("value-said", error.message, false);
+    know(true, true);
   }
+}
+
+/** What a worker of its own says of a large value. */
+async function judgeFile(mine) {
+  const own = new Helper(script, module);
+  judge = own;
+  try {
+    const verdict = await ask(own, "judge", { schema: found.schema, file: found.file }, ({ described }) => {
+      if (mine === turn && described !== undefined) say("value-said", `${described}; the rest is being checked`);
+    });
+    if (mine === turn) say("value-said", verdict.said, verdict.isRight);
+    return verdict;
+  } finally {
+    own.end();
+  }
+}
+
+/** Shows that there are more parts by now. */
+function showMore({ rows, end }) {
+  const isSeen = end > (shown.bytesSeen?.partsEnd ?? 0);
+  shown.rows = rows;
+  partsView.setLines(rows, { stays: true });
+  if (isSeen) {
+    bytesView.kept.forget({ stays: true });
+    bytesView.rolling.redraw();
+  }
+  showCounts();
+}
+
+function show({ length, rows, fault }) {
+  Object.assign(shown, { length, rows, fault, marked: undefined, cursor: fault ?? 0, partCursor: -1 });
+  setByteLines();
+  partsView.setLines(rows);
+  showCounts();
+  mark(undefined);
+  if (fault !== undefined) bytesView.rolling.show(lineOfByte(fault));
+}
+
+function setByteLines(options) {
+  const size = lineLength();
+  field("grid").setAttribute("aria-colcount", size + 1);
+  bytesView.setLines(Math.ceil((shown.length + (shown.fault === shown.length ? 1 : 0)) / size), options);
+}
+
+function showFault({ fault, rows }) {
+  Object.assign(shown, { fault, rows: rows ?? shown.rows, cursor: fault ?? 0 });
+  setByteLines({ stays: true });
+  partsView.setLines(shown.rows, { stays: true });
+  showCounts();
+  if (fault !== undefined) bytesView.rolling.show(lineOfByte(fault));
+}
+
+function showCounts() {
+  field("bytes-count").textContent = shown.length === 0 ? "" : countText(shown.length, "byte");
+  field("parts-count").textContent = shown.rows === 0 ? "" : countText(shown.rows, "part");
+  field("grid").setAttribute("aria-rowcount", Math.ceil(shown.length / lineLength()));
+  field("parts").setAttribute("aria-rowcount", shown.rows);
+}
+
+// The JSON
+
+/** Shows the JSON of the value, or where it is long says so, or why there is none. */
+function showJson(json, whyNot = "There is no value.") {
+  const isLong = json instanceof Blob;
+  found.json = json === undefined || isLong ? json : new Blob([json], { type: "application/json" });
+  field("json").value = isLong || json === undefined ? "" : json;
+  field("json").placeholder = isLong ? `The JSON has ${countText(json.size, "byte")}, which are too many to be shown.` : whyNot;
+  field("save-json").disabled = found.json === undefined;
+  say("json-said", "");
 }
 
 /** The bytes become those of the JSON, if it describes a value. */
-function readJson() {
-  if (shown.schema === undefined) return say("json-said", "there is no schema", false);
+async function readJson(source) {
+  if (found.schema === undefined) return say("json-said", "there is no schema", false);
+  const mine = ++turn;
+  const wasSettled = isSettled;
+  endJudge();
+  know(false, false);
   try {
-    field("value").value = hexOf(shown.schema.fromJson(field("json").value));
+    const answer = await ask(reader, "json", source);
+    if (mine !== turn) return;
+    say("json-said", "");
+    give("value", answer.hex === undefined ? { file: answer.file, name: "bytes of the JSON" } : { text: answer.hex });
+    takeValue(answer);
+    isRead.value = true;
+    await open(mine, { keepsJson: source.file === undefined });
   } catch (error) {
-    return say("json-said", error.message, false);
+    if (error instanceof Unanswered || mine !== turn) return;
+    say("json-said", error.message, false);
+    know(true, true);
+    if (!wasSettled) await read();
   }
-  say("json-said", "");
-  readValue({ keepsJson: true });
 }
 
-/** How many bytes a line of the grid has. */
-function lineLength() {
-  return matchMedia("(max-width: 52rem)").matches ? 8 : 16;
+function save(content, name) {
+  const address = URL.createObjectURL(content);
+  element("a", { href: address, download: name }).click();
+  setTimeout(() => URL.revokeObjectURL(address), 60000);
 }
 
-function draw() {
-  const bytes = shown.bytes ?? new Uint8Array();
-  const count = Math.min(bytes.length, MOST_BYTES);
-  shown.rowOfByte = [];
-  shown.rows.forEach((row, index) => {
-    for (let at = row.offset; at < Math.min(row.offset + row.bytes.length, count); at++) shown.rowOfByte[at] = index;
-  });
-  const cells = Array.from({ length: count }, (_, at) => byteCell(bytes, at));
-  if (shown.fault === bytes.length) cells.push(faultAtEnd(bytes.length));
-  const lines = [];
-  for (let start = 0; start < cells.length; start += lineLength()) lines.push(lineOf(start, cells.slice(start, start + lineLength())));
-  field("grid").replaceChildren(...lines);
-  field("more").textContent = count < bytes.length ? `These are the first ${count} of ${bytes.length} bytes.` : "";
-  field("parts").replaceChildren(...shown.rows.slice(0, MOST_BYTES).map(tableRow));
-  mark(undefined);
+async function saveValue() {
+  const { bytes } = await reader.ask("bytes", { first: 0, end: found.length });
+  save(found.file ?? new Blob([bytes]), "value.borsh");
 }
 
-function element(name, properties, ...children) {
-  const made = Object.assign(document.createElement(name), properties);
-  made.append(...children);
-  return made;
-}
+// Marks
 
-function lineOf(start, cells) {
-  const offset = element("div", { className: "offset", textContent: String(start) });
-  offset.setAttribute("role", "rowheader");
-  const line = element("div", {}, offset, ...cells);
-  line.setAttribute("role", "row");
-  return line;
-}
-
-function byteCell(bytes, at) {
-  const index = shown.rowOfByte[at];
-  const isFirst = at === 0 || shown.rowOfByte[at - 1] !== index;
-  const isLast = shown.rowOfByte[at + 1] !== index;
-  const classes = ["byte", index === undefined ? "" : `part${index % PARTS}`, isFirst ? "first" : "", isLast ? "last" : "", at === shown.fault ? "is-fault" : ""];
-  return gridCell(at, hexOf(bytes.subarray(at, at + 1)), classes.join(" "));
-}
-
-function faultAtEnd(at) {
-  return gridCell(at, "end", "byte first last is-fault");
-}
-
-function gridCell(at, text, className) {
-  const cell = element("div", { className, textContent: text, tabIndex: at === shown.focused ? 0 : -1 });
-  cell.setAttribute("role", "gridcell");
-  cell.dataset.at = at;
-  const row = shown.rows[shown.rowOfByte[at]];
-  const wrong = at === shown.fault ? ", wrong here" : "";
-  cell.setAttribute("aria-label", `byte ${at}, ${text}${row ? `, ${row.path}` : ""}${wrong}`);
-  return cell;
-}
-
-function tableRow(row, index) {
-  const made = element("tr", {});
-  made.dataset.index = index;
-  const swatch = element("span", { className: `swatch part${index % PARTS}` });
-  swatch.setAttribute("aria-hidden", "true");
-  const digits = hexOf(row.bytes.subarray(0, 16)) + (row.bytes.length > 16 ? "…" : "");
-  made.append(element("td", {}, swatch, String(row.offset)));
-  for (const text of [row.path, row.type, row.value, digits]) made.append(element("td", { textContent: text }));
-  return made;
-}
-
-/** Marks a row's bytes and its line of the table, and says what it is; or nothing. */
-function mark(index, at) {
+/** Marks a row's bytes and its line among the parts, and says what it is; or nothing. */
+function mark(row, at) {
+  shown.marked = row;
   for (const cell of field("grid").querySelectorAll(".byte")) {
-    cell.classList.toggle("is-marked", index !== undefined && shown.rowOfByte[cell.dataset.at] === index);
+    const place = Number(cell.dataset.at);
+    cell.classList.toggle("is-marked", row !== undefined && row.offset <= place && place < row.end);
+    cell.classList.toggle("is-cursor", place === shown.cursor);
   }
-  for (const row of field("parts").children) row.classList.toggle("is-marked", Number(row.dataset.index) === index);
-  const row = shown.rows[index];
-  const parts = row ? [partText(row)] : [];
-  if (at !== undefined && at === shown.fault) parts.unshift(field("value-said").textContent);
-  else if (!row) parts.push(at === undefined ? HELP : `byte ${at}`);
-  field("part").textContent = parts.join("; ");
+  for (const line of field("parts").querySelectorAll(".part")) {
+    const isMarked = Number(line.dataset.index) === row?.index;
+    line.classList.toggle("is-marked", isMarked);
+    line.setAttribute("aria-selected", String(isMarked));
+  }
+  const texts = row ? [partText(row)] : [];
+  if (at !== undefined && at === shown.fault) texts.unshift(field("value-said").textContent);
+  else if (!row) texts.push(at === undefined ? HELP : `byte ${at}`);
+  field("part").textContent = texts.join("; ");
 }
 
-function partText(row) {
-  const end = row.offset + row.bytes.length - 1;
-  const place = end === row.offset ? `byte ${end}` : `bytes ${row.offset} to ${end}`;
-  return `${place} · ${row.path} · ${row.type}${row.value === "" ? "" : ` · ${row.value}`}`;
+/** What the pointer is at. It marks as it moves: lines that are drawn under one that rests don't take the mark from the keys. */
+let pointed;
+
+function markOf({ target }) {
+  if (target === pointed) return;
+  pointed = target;
+  const cell = target.closest("[data-at]");
+  if (cell) return mark(rowOfSeen(Number(cell.dataset.at)), Number(cell.dataset.at));
+  const line = target.closest("[data-index]");
+  if (line) mark(shown.partsSeen?.find((row) => row.index === Number(line.dataset.index)));
 }
 
-function markOf(event) {
-  const cell = event.target.closest("[data-at]");
-  if (cell) return mark(shown.rowOfByte[cell.dataset.at], Number(cell.dataset.at));
-  const row = event.target.closest("[data-index]");
-  if (row) mark(Number(row.dataset.index));
+const lineOfByte = (at) => Math.floor(at / lineLength());
+
+/** Goes to a byte, and to its part. */
+async function goToByte(at) {
+  shown.cursor = at;
+  field("grid").setAttribute("aria-activedescendant", `byte-${at}`);
+  bytesView.rolling.show(lineOfByte(at));
+  const { rows } = await reader.ask("bytes", { first: at, end: at + 1 });
+  if (shown.cursor !== at) return;
+  mark(rows[0], at);
+  if (rows[0]) partsView.rolling.show(rows[0].index);
 }
 
-/** The arrow keys, Home and End move the focus among the bytes. */
-function moveFocus(event) {
-  const cells = [...field("grid").querySelectorAll("[data-at]")];
-  const moves = { ArrowLeft: -1, ArrowRight: 1, ArrowUp: -lineLength(), ArrowDown: lineLength(), Home: -cells.length, End: cells.length };
-  if (!(event.key in moves) || cells.length === 0) return;
+/** Goes to a part, and to its first byte. */
+async function goToPart(index) {
+  shown.partCursor = index;
+  field("parts").setAttribute("aria-activedescendant", `part-${index}`);
+  partsView.rolling.show(index);
+  const { rows } = await reader.ask("rows", { first: index, count: 1 });
+  if (shown.partCursor !== index || rows.length === 0) return;
+  shown.cursor = rows[0].offset;
+  mark(rows[0]);
+  bytesView.rolling.show(lineOfByte(rows[0].offset));
+}
+
+/** The keys that move among so many bytes or parts. */
+function moveBy(event, { at, count, line, seen, goTo }) {
+  const page = Math.max(seen - 1, 1) * line;
+  const moves = { ArrowUp: -line, ArrowDown: line, PageUp: -page, PageDown: page, Home: -count, End: count };
+  if (line > 1) Object.assign(moves, { ArrowLeft: -1, ArrowRight: 1 });
+  if (!(event.key in moves) || count === 0 || event.altKey || event.metaKey) return;
   event.preventDefault();
-  const from = cells.findIndex((cell) => cell.tabIndex === 0);
-  const to = Math.min(Math.max(from + moves[event.key], 0), cells.length - 1);
-  cells[from].tabIndex = -1;
-  cells[to].tabIndex = 0;
-  shown.focused = to;
-  cells[to].focus();
+  goTo(Math.min(Math.max(at + moves[event.key], 0), count - 1));
 }
 
-function take(id, bytes) {
-  field(id).value = hexOf(bytes);
-  if (id === "schema") readSchema();
-  else readValue();
+// What is given
+
+/** Gives the schema or the value a text, which its field shows, or a file, whose name is shown in the field's place. */
+function give(id, source) {
+  given[id] = source;
+  const isFile = source.file !== undefined;
+  field(id).value = isFile ? "" : source.text;
+  field(id).hidden = isFile;
+  field(`${id}-held`).hidden = !isFile;
+  if (isFile) field(`${id}-held`).firstElementChild.textContent = `${source.name}, ${countText(source.file.size, "byte")}`;
+}
+
+/** Takes what a field has, or will have: as a file if it is long. */
+function takeText(id, text) {
+  const source = text.length > LONG ? { file: new Blob([text]), isText: true, name: "a long text" } : { text };
+  if (id === "json") {
+    if (source.file !== undefined) field("json").value = "";
+    return readJson(source);
+  }
+  if (source.file !== undefined) give(id, source);
+  else given[id] = source;
+  return read({ [id]: true });
+}
+
+/** A long text isn't pasted, since the field would take as long as it has lines. */
+function paste(id, event, text) {
+  const { value, selectionStart, selectionEnd } = field(id);
+  if (value.length + text.length <= LONG) return;
+  event.preventDefault();
+  takeText(id, value.slice(0, selectionStart) + text + value.slice(selectionEnd));
 }
 
 async function takeFile(id, file) {
-  if (file) take(id, new Uint8Array(await file.arrayBuffer()));
+  if (!file) return;
+  const source = { file, name: file.name };
+  if (id === "json") return readJson(source);
+  give(id, source);
+  return read({ [id]: true });
 }
 
-const README_SCHEMA = "0100000041040000000100000041040002000000010000007803000000753634010000007906000000537472696e6706000000537472696e6701040000000000000000ffffffff0000000002000000753803000000753634000802000000753800" + "01";
+function takeBoth(schema, value) {
+  field("format").value = "any";
+  give("schema", { text: schema });
+  give("value", { text: value });
+  return read({ schema: true, value: true });
+}
+
+const EXAMPLE_VALUE = "0c000000000000000300000068c3a9";
 const EXAMPLES = {
-  struct: { schema: README_SCHEMA, value: "0c000000000000000300000068c3a9" },
-  container: { schema: CONTAINER_OF_CONTAINERS, value: README_SCHEMA },
-  broken: { schema: README_SCHEMA, value: "0c000000000000000900000068c3a9" },
+  struct: { schema: EXAMPLE_HEX, value: EXAMPLE_VALUE },
+  container: { schema: CONTAINER_OF_CONTAINERS, value: EXAMPLE_HEX },
+  broken: { schema: EXAMPLE_HEX, value: "0c000000000000000900000068c3a9" },
 };
 
 function takeExample() {
   const example = EXAMPLES[field("example").value];
-  if (!example) return;
-  field("format").value = "any";
-  field("value").value = example.value;
-  take("schema", bytesOfHex(example.schema));
+  return example && takeBoth(example.schema, example.value);
 }
 
 /** Puts the schema and the value into the page's address, behind `#`, which no browser sends. */
 async function makeLink() {
-  if (shown.schema === undefined || shown.bytes === undefined) return say("linked", "a link has a schema and a value, and one of them is missing", false);
-  location.hash = `schema=${base64Of(shown.schema.bytes)}&value=${base64Of(shown.bytes)}`;
+  try {
+    const { schema, value } = await reader.ask("link");
+    // It is read already.
+    history.replaceState(undefined, "", `#schema=${schema}&value=${value}`);
+  } catch (error) {
+    return say("linked", error.message, false);
+  }
   try {
     await navigator.clipboard.writeText(location.href);
     say("linked", "the link is in the address bar, and copied", true);
@@ -285,50 +453,103 @@ async function makeLink() {
   }
 }
 
-function takeLink() {
-  const given = new URLSearchParams(location.hash.slice(1));
-  if (!given.has("schema")) return;
-  field("format").value = "any";
-  for (const id of ["value", "schema"]) {
+async function takeLink() {
+  const link = new URLSearchParams(location.hash.slice(1));
+  if (!link.has("schema")) return;
+  const texts = {};
+  for (const id of ["schema", "value"]) {
     try {
-      const text = given.get(id) ?? "";
-      const binary = atob(text.replace(/-/g, "+").replace(/_/g, "/"));
-      take(id, Uint8Array.from(binary, (letter) => letter.charCodeAt(0)));
+      const binary = atob((link.get(id) ?? "").replace(/-/g, "+").replace(/_/g, "/"));
+      texts[id] = Array.from(binary, (letter) => byteText(letter.charCodeAt(0))).join("");
     } catch {
-      say("linked", `the link's ${id} isn't base64`, false);
+      return say("linked", `the link's ${id} isn't base64`, false);
     }
   }
+  await takeBoth(texts.schema, texts.value);
 }
 
 function listen() {
-  field("schema").addEventListener("input", readSchema);
-  field("value").addEventListener("input", () => readValue());
-  field("json").addEventListener("input", readJson);
-  field("format").addEventListener("change", readSchema);
-  field("example").addEventListener("change", takeExample);
-  field("link").addEventListener("click", makeLink);
+  // Of a worker that was ended nobody waits for the answers.
+  addEventListener("unhandledrejection", (event) => event.reason instanceof Unanswered && event.preventDefault());
+  for (const id of ["schema", "value", "json"]) {
+    field(id).addEventListener("input", () => takeText(id, field(id).value));
+    field(id).addEventListener("paste", (event) => paste(id, event, event.clipboardData.getData("text/plain")));
+  }
   for (const id of ["schema", "value"]) {
     field(`${id}-file`).addEventListener("change", (event) => takeFile(id, event.target.files[0]));
-    field(id).addEventListener("dragover", (event) => event.preventDefault());
-    field(id).addEventListener("drop", (event) => {
-      if (event.dataTransfer.files.length === 0) return;
-      event.preventDefault();
-      takeFile(id, event.dataTransfer.files[0]);
+    field(`${id}-held`).querySelector("button").addEventListener("click", () => {
+      give(id, { text: "" });
+      field(`${id}-file`).value = "";
+      field(id).focus();
+      read({ [id]: true });
     });
   }
-  for (const id of ["grid", "parts"]) field(id).addEventListener("mouseover", markOf);
-  field("grid").addEventListener("focusin", markOf);
-  field("grid").addEventListener("keydown", moveFocus);
+  for (const { name, example } of SCHEMA_KINDS) {
+    const button = element("button", { type: "button", textContent: name });
+    button.addEventListener("click", () => takeBoth(example, EXAMPLE_VALUE));
+    field("kinds").append(button);
+  }
+  listenForDrops();
+  field("format").addEventListener("change", () => read({ schema: true, value: true }));
+  field("example").addEventListener("change", takeExample);
+  field("link").addEventListener("click", makeLink);
+  field("stop").addEventListener("click", stop);
+  field("again").addEventListener("click", () => read({ schema: true, value: true }));
+  field("save-json").addEventListener("click", () => save(found.json, "value.json"));
+  field("save-value").addEventListener("click", saveValue);
+  for (const id of ["grid", "parts"]) field(id).addEventListener("mousemove", markOf);
+  field("grid").addEventListener("click", ({ target }) => target.dataset.at && goToByte(Number(target.dataset.at)));
+  field("parts").addEventListener("click", ({ target }) => {
+    const line = target.closest("[data-index]");
+    if (line) goToPart(Number(line.dataset.index));
+  });
+  // A click goes to its own byte.
+  field("grid").addEventListener("focus", ({ target }) => target.matches(":focus-visible") && shown.length > 0 && goToByte(shown.cursor));
+  field("grid").addEventListener("keydown", (event) => {
+    const count = shown.length + (shown.fault === shown.length ? 1 : 0);
+    moveBy(event, { at: shown.cursor, count, line: lineLength(), seen: bytesView.rolling.seen, goTo: goToByte });
+  });
+  field("parts").addEventListener("keydown", (event) => {
+    moveBy(event, { at: shown.partCursor, count: shown.rows, line: 1, seen: partsView.rolling.seen, goTo: goToPart });
+  });
   addEventListener("hashchange", takeLink);
-  matchMedia("(max-width: 52rem)").addEventListener("change", draw);
+  narrow.addEventListener("change", () => {
+    setByteLines({ stays: false });
+    partsView.rolling.setLines(shown.rows);
+  });
 }
 
-useModule(await WebAssembly.compile(Uint8Array.from(atob(MODULE), (letter) => letter.charCodeAt(0))));
+/** Files go where they are dropped; what is dropped beside a field would make the browser leave the page, and is a value. */
+function listenForDrops() {
+  const zoneOf = (event) => event.target.closest?.("[data-drop]");
+  addEventListener("dragover", (event) => {
+    if (![...event.dataTransfer.types].includes("Files")) return;
+    event.preventDefault();
+    for (const zone of document.querySelectorAll("[data-drop]")) zone.classList.toggle("is-target", zone === zoneOf(event));
+  });
+  addEventListener("dragleave", (event) => event.relatedTarget === null && endDrag());
+  addEventListener("drop", (event) => {
+    endDrag();
+    const id = zoneOf(event)?.dataset.drop ?? "value";
+    const { files } = event.dataTransfer;
+    if (files.length > 0) {
+      event.preventDefault();
+      takeFile(id, files[0]);
+    } else if (event.target === field(id)) {
+      paste(id, event, event.dataTransfer.getData("text/plain"));
+    }
+  });
+}
+
+function endDrag() {
+  for (const zone of document.querySelectorAll(".is-target")) zone.classList.remove("is-target");
+}
+
 listen();
 if (location.hash.length > 1) {
-  takeLink();
+  await takeLink();
 } else {
   field("example").value = "struct";
-  takeExample();
+  await takeExample();
 }
 document.documentElement.dataset.ready = "yes";

@@ -19,15 +19,20 @@ after(() => browser.end());
 const text = (id) => browser.value(`document.getElementById("${id}").textContent`);
 const input = (id) => browser.value(`document.getElementById("${id}").value`);
 const marked = () => browser.value(`[...document.querySelectorAll(".byte.is-marked")].map((it) => Number(it.dataset.at))`);
-const markedPaths = () => browser.value(`[...document.querySelectorAll("tr.is-marked")].map((it) => it.children[1].textContent)`);
+const markedPaths = () => browser.value(`[...document.querySelectorAll(".part.is-marked")].map((it) => it.children[1].textContent)`);
+const parts = () => browser.value(`[...document.querySelectorAll("#parts .part")].map((it) => [...it.children].map((cell) => cell.textContent))`);
+const eventually = (read, wanted) => browser.eventually(read, wanted);
 const faults = () => browser.value(`[...document.querySelectorAll(".is-fault")].map((it) => Number(it.dataset.at))`);
 
-/** Writes into a field as a person does. */
-const write = (id, content, event = "input") => browser.value(`(() => {
-  const it = document.getElementById("${id}");
-  it.value = ${JSON.stringify(content)};
-  it.dispatchEvent(new Event("${event}", { bubbles: true }));
-})()`);
+/** Writes into a field as a person does, and waits until the page knows what that is. */
+async function write(id, content, event = "input") {
+  await browser.value(`(() => {
+    const it = document.getElementById("${id}");
+    it.value = ${JSON.stringify(content)};
+    it.dispatchEvent(new Event("${event}", { bubbles: true }));
+  })()`);
+  await browser.settle();
+}
 const range = (first, end) => Array.from({ length: end - first }, (_, index) => first + index);
 
 test("it begins with an example: the definitions, the greatest size, the JSON", async () => {
@@ -36,54 +41,58 @@ test("it begins with an example: the definitions, the greatest size, the JSON", 
   assert.match(await text("definitions"), /^struct A \{ x: u64, y: String \}\nsequence String = \[u8; 0\.\.=4294967295\], length in 4 bytes\n/);
   assert.equal(await text("value-said"), "a value of A, of 15 bytes");
   assert.deepEqual(JSON.parse(await input("json")), { x: 12, y: "hé" });
-  assert.deepEqual(await browser.value(`[...document.querySelectorAll("#parts tr")].map((it) => [...it.children].map((cell) => cell.textContent))`), [
-    ["0", "A.x", "u64", "12", "0c00000000000000"],
-    ["8", "A.y", "String", '"hé"', "0300000068c3a9"],
-  ]);
+  await eventually(parts, [["0", "A.x", "u64", "12"], ["8", "A.y", "String", '"hé"']]);
+  assert.equal(await text("bytes-count"), "15 bytes");
+  assert.equal(await text("parts-count"), "2 parts");
 });
 
 test("a part marks its bytes, and a byte its part", async () => {
   await browser.visit(PAGE);
+  await eventually(async () => (await parts()).length, 2);
   assert.deepEqual(await marked(), []);
-  await browser.point("#parts tr:nth-child(2)");
-  assert.deepEqual(await marked(), range(8, 15));
-  await browser.point('[data-at="3"]');
-  assert.deepEqual(await marked(), range(0, 8));
+  await browser.point("#part-1");
+  await eventually(marked, range(8, 15));
+  await browser.point("#byte-3");
+  await eventually(marked, range(0, 8));
   assert.deepEqual(await markedPaths(), ["A.x"]);
   assert.equal(await text("part"), "bytes 0 to 7 · A.x · u64 · 12");
 });
 
 test("the arrow keys move among the bytes", async () => {
   await browser.visit(PAGE);
-  await browser.value(`document.querySelector('[data-at="0"]').focus()`);
+  const active = () => browser.value(`document.activeElement.getAttribute("aria-activedescendant")`);
+  await browser.value(`document.getElementById("grid").focus()`);
   for (const key of ["ArrowRight", "ArrowRight", "End", "ArrowLeft"]) await browser.press(key);
-  assert.equal(await browser.value("document.activeElement.dataset.at"), "13");
-  assert.equal(await text("part"), 'bytes 8 to 14 · A.y · String · "hé"');
-  assert.equal(await browser.value(`document.querySelectorAll('#grid [tabindex="0"]').length`), 1);
+  assert.equal(await active(), "byte-13");
+  await eventually(() => text("part"), 'bytes 8 to 14 · A.y · String · "hé"');
+  await eventually(() => browser.value(`document.querySelector(".is-cursor")?.id`), "byte-13");
   await browser.press("Home");
-  assert.deepEqual(await marked(), range(0, 8));
+  await eventually(marked, range(0, 8));
+  await browser.value(`document.getElementById("parts").focus()`);
+  for (const key of ["ArrowDown", "ArrowDown"]) await browser.press(key);
+  assert.equal(await active(), "part-1");
+  await eventually(marked, range(8, 15));
 });
 
 test("bytes that are no value: what is wrong, at its byte, and the parts before it", async () => {
   await browser.visit(PAGE);
   await write("example", "broken", "change");
   assert.equal(await text("value-said"), "A.y (`String` at byte 8): too few bytes are left");
-  assert.deepEqual(await faults(), [8]);
-  assert.equal(await browser.value(`document.querySelectorAll("#parts tr").length`), 1);
+  await eventually(faults, [8]);
+  await eventually(async () => (await parts()).length, 1);
   assert.equal(await input("json"), "");
   await write("value", VALUE.slice(0, 16));
-  assert.deepEqual(await faults(), [8]);
-  assert.equal(await browser.value(`document.querySelector(".is-fault").textContent`), "end");
+  await eventually(() => browser.value(`[...document.querySelectorAll(".is-fault")].map((it) => it.id + it.textContent)`), ["byte-8end"]);
   await write("value", `${VALUE}00`);
   assert.match(await text("value-said"), /at byte 15\): the value ends, and bytes are left$/);
-  assert.deepEqual(await faults(), [15]);
+  await eventually(faults, [15]);
 });
 
 test("a part that the type refuses is marked", async () => {
   await browser.visit(PAGE);
   await write("value", "0c0000000000000001000000ff");
   assert.equal(await text("value-said"), "A.y: not UTF-8");
-  assert.deepEqual(await faults(), [8]);
+  await eventually(faults, [8]);
 });
 
 test("changed JSON changes the bytes, and wrong JSON says where", async () => {
@@ -99,16 +108,25 @@ test("changed JSON changes the bytes, and wrong JSON says where", async () => {
   assert.match(await text("json-said"), /^not JSON, near byte 1/);
 });
 
-test("base64, a broken schema, and what is neither", async () => {
+test("each kind of schema by its example, a broken one, and what is none", async () => {
   await browser.visit(PAGE);
-  await write("schema", Buffer.from(SCHEMA, "hex").toString("base64"));
-  assert.match(await text("schema-said"), /^valid/);
+  const kinds = await browser.value(`[...document.querySelectorAll("#kinds button")].map((it) => it.textContent)`);
+  assert.deepEqual(kinds, ["JSON of a container", "hexadecimal digits", "base64"]);
+  for (const [index, kind] of kinds.entries()) {
+    await browser.value(`document.querySelectorAll("#kinds button")[${index}].click()`);
+    await browser.settle();
+    assert.equal(await text("schema-kind"), `Taken as ${kind}.`);
+    assert.match(await text("schema-said"), /^valid/);
+    assert.equal(await text("value-said"), "a value of A, of 15 bytes");
+  }
+  await write("schema", '{"declaration": "A"}');
+  assert.match(await text("schema-said"), /definitions/);
   await write("schema", "010000004100000000");
   assert.equal(await text("schema-said"), "invalid MissingDefinition A; no greatest size: missing A");
   await write("schema", "00");
   assert.match(await text("schema-said"), /^not a schema container/);
   await write("schema", "§");
-  assert.match(await text("schema-said"), /neither hexadecimal digits/);
+  assert.equal(await text("schema-said"), "this is neither hexadecimal digits, in pairs, nor base64, nor JSON of a container");
 });
 
 test("a container by the container of containers", async () => {
@@ -118,41 +136,40 @@ test("a container by the container of containers", async () => {
   assert.equal(JSON.parse(await input("json")).declaration, "A");
 });
 
-/** Waits until the value's field has something. */
-async function givenValue() {
-  for (let tries = 0; tries < 100 && (await input("value")) === ""; tries++) await new Promise((resolve) => setTimeout(resolve, 20));
-  return input("value");
-}
+/** Drops files with these bytes on an element. */
+const drop = (selector, ...bytes) => browser.value(`(() => {
+  const dataTransfer = new DataTransfer();
+  dataTransfer.items.add(new File([new Uint8Array(${JSON.stringify(bytes)})], "dropped"));
+  document.querySelector("${selector}").dispatchEvent(new DragEvent("drop", { dataTransfer, bubbles: true, cancelable: true }));
+})()`);
 
-test("a file of a value, one that is dropped, and a large value", async () => {
+test("a file of a value, and files that are dropped", async () => {
   await browser.visit(PAGE);
-  const { root } = await browser.send("DOM.getDocument");
-  const { nodeId } = await browser.send("DOM.querySelector", { nodeId: root.nodeId, selector: "#value-file" });
-  const file = new URL("../../../crates/borsh_tool/data/value.borsh", import.meta.url).pathname;
   await write("value", "");
-  await browser.send("DOM.setFileInputFiles", { nodeId, files: [file] });
-  assert.equal(await givenValue(), VALUE);
-  await write("value", "");
-  await browser.value(`(() => {
-    const dataTransfer = new DataTransfer();
-    dataTransfer.items.add(new File([new Uint8Array([7, 0, 0, 0, 0, 0, 0, 0, 0, 0, 0, 0])], "value"));
-    document.getElementById("value").dispatchEvent(new DragEvent("drop", { dataTransfer, bubbles: true, cancelable: true }));
-  })()`);
-  assert.equal(await givenValue(), "070000000000000000000000");
-  const long = `0c00000000000000${"88130000"}${"61".repeat(5000)}`;
-  await write("value", long);
-  assert.equal(await text("more"), "These are the first 4096 of 5012 bytes.");
+  await browser.setFiles("#value-file", new URL("../../../crates/borsh_tool/data/value.borsh", import.meta.url).pathname);
+  await eventually(() => input("value"), VALUE);
+  assert.equal(await text("value-kind"), "Taken as bytes of a file.");
+  await drop("#value", 7, 0, 0, 0, 0, 0, 0, 0, 0, 0, 0, 0);
+  await eventually(() => input("value"), "070000000000000000000000");
+  await drop("h1", ...Buffer.from(VALUE, "hex"));
+  await eventually(() => input("value"), VALUE);
+  await drop("#json", ...Buffer.from('{"x": 1, "y": ""}'));
+  await eventually(() => input("value"), "010000000000000000000000");
+  await drop("#schema", ...Buffer.from('{"declaration": "u8", "definitions": {"u8": {"Primitive": 1}}}'));
+  await eventually(() => text("schema-kind"), "Taken as JSON of a container.");
+  await drop("#schema", ...Buffer.from(SCHEMA, "hex"));
+  await eventually(() => input("schema"), SCHEMA);
 });
 
 test("a link has the schema and the value, and nothing is sent", async () => {
   await browser.visit(PAGE);
   await write("json", '{"x": 7, "y": "link"}');
   await browser.value(`document.getElementById("link").click()`);
+  await eventually(() => browser.value("/#schema=[\\w-]+&value=[\\w-]+$/.test(location.href)"), true);
   const address = await browser.value("location.href");
-  assert.match(address, /#schema=[\w-]+&value=[\w-]+$/);
   await browser.visit(address);
   assert.deepEqual(JSON.parse(await input("json")), { x: 7, y: "link" });
-  const sent = browser.requests.filter((url) => !url.startsWith(PAGE) && url !== "about:blank");
+  const sent = browser.requests.filter((url) => !url.startsWith(PAGE) && !url.startsWith("blob:") && url !== "about:blank");
   assert.deepEqual(sent, []);
   assert.equal(await browser.value(`fetch("https://example.org").then(() => "sent", () => "refused")`), "refused");
   assert.ok(browser.messages.some((it) => it.includes("Content Security Policy")));
@@ -199,17 +216,18 @@ for (const theme of ["light", "dark"]) {
   for (const width of [1200, 400]) {
     test(`${theme}, ${width} wide: contrast, names of fields, no scrolling sideways, a picture`, async () => {
       await browser.send("Emulation.setEmulatedMedia", { features: [{ name: "prefers-color-scheme", value: theme }] });
-      await browser.send("Emulation.setDeviceMetricsOverride", { width, height: width === 400 ? 1900 : 1000, deviceScaleFactor: 1, mobile: false });
+      await browser.send("Emulation.setDeviceMetricsOverride", { width, height: width === 400 ? 1900 : 1150, deviceScaleFactor: 1, mobile: false });
       mkdirSync(PICTURES, { recursive: true });
       for (const example of ["broken", "container", "struct"]) {
         await browser.visit(PAGE);
         await write("example", example, "change");
-        await browser.point(example === "container" ? '[data-at="40"]' : example === "broken" ? ".is-fault" : "#parts tr:nth-child(2)");
+        await browser.point({ container: "#byte-40", broken: ".is-fault", struct: "#part-1" }[example]);
         await browser.value("scrollTo(0, 0)");
         writeFileSync(new URL(`${example}-${theme}-${width}.png`, PICTURES), await browser.picture());
         assert.ok(await browser.value("document.documentElement.scrollWidth <= innerWidth"), "it scrolls sideways");
       }
-      const pairs = await browser.value(`[...document.querySelectorAll("h1, h2, p, label, textarea, select, button, pre, .byte, .offset, th, td")].map((it) => {
+      const texts = "h1, h2, small, p, label, textarea, select, button, pre, .byte, .offset, .letters, .part span, .part div";
+      const pairs = await browser.value(`[...document.querySelectorAll("${texts}")].map((it) => {
         let back = it;
         while (back && /rgba\\(0, 0, 0, 0\\)/.test(getComputedStyle(back).backgroundColor)) back = back.parentElement;
         return [getComputedStyle(it).color, getComputedStyle(back ?? document.body).backgroundColor, it.outerHTML.slice(0, 60)];

@@ -39,36 +39,44 @@ function changed(bytes) {
   return Uint8Array.from(random(12) ? result : result.slice(0, random(result.length + 1)));
 }
 
-const CALLS = {
-  valid: ({ bytes }) => calls.valid(bytes),
-  size: ({ bytes }) => calls.size(bytes),
-  member: ({ bytes, value }) => calls.member(bytes, value),
-  compact: ({ bytes, value }) => calls.toJson(bytes, value, true, false),
-  quoted: ({ bytes, value }) => calls.toJson(bytes, value, false, true),
-  from: ({ bytes, json }) => calls.fromJson(bytes, json),
-  records: ({ bytes, value }) => calls.records(bytes, value, MOST_VALUES),
-  lines: ({ bytes, value }) => calls.jsonLines(bytes, value, value.length === 0 ? [] : [value.length >> 1, 1, value.length], true),
-};
+/** Of each call, what it is given of a case, in the order of its arguments. */
+const CALLS = [
+  ["valid", ({ bytes }) => [bytes]],
+  ["size", ({ bytes }) => [bytes]],
+  ["member", ({ bytes, value }) => [bytes, value]],
+  ["toJson", ({ bytes, value }) => [bytes, value, true, false]],
+  ["toJson", ({ bytes, value }) => [bytes, value, false, true]],
+  ["fromJson", ({ bytes, json }) => [bytes, json]],
+  ["records", ({ bytes, value }) => [bytes, value, MOST_VALUES]],
+  ["jsonLines", ({ bytes, value }) => [bytes, value, value.length === 0 ? [] : [value.length >> 1, 1, value.length], true]],
+];
 const MOST_VALUES = 64;
 
 /** As the native program prints it. */
-function said(name, answer) {
+function said(answer) {
   const number = answer.number ?? 0n;
   const place = `${answer.offset ?? ""}${answer.path ? `:${answer.path.start}+${answer.path.end - answer.path.start}` : ""}`;
   return `${CODES.indexOf(answer.kind)} ${number} ${place} ${hexOf(answer.bytes)} ${answer.lengths?.join(" ") ?? ""}`.trimEnd();
 }
 
+/** The line for the native program. */
+function lineOf([name, given]) {
+  const words = given.map((it) => {
+    if (it instanceof Uint8Array) return hexOf(it) || "-";
+    return Array.isArray(it) ? it.join() || "-" : Number(it);
+  });
+  return [name.replace(/[A-Z]/g, (letter) => `_${letter.toLowerCase()}`), ...words].join(" ");
+}
+
 function native(cases) {
-  const lines = cases.map(([name, it]) => [name, ...[it.bytes, name === "from" ? it.json : it.value].map((bytes) => hexOf(bytes) || "-")].join(" "));
   const program = fileURLToPath(new URL("../out/native", import.meta.url));
-  const { stdout, status } = spawnSync(program, { input: `${lines.join("\n")}\n`, maxBuffer: 2 ** 30 });
+  const { stdout, status } = spawnSync(program, { input: `${cases.map(lineOf).join("\n")}\n`, maxBuffer: 2 ** 30 });
   assert.equal(status, 0);
   return stdout.toString().split("\n").map((line) => line.trimEnd());
 }
 
 test(`${CASES} changed containers and values: the native library's code and bytes`, () => {
   const rows = originals();
-  const names = Object.keys(CALLS);
   const kinds = {};
   for (let done = 0; done < CASES; done += AT_ONCE) {
     const cases = Array.from({ length: Math.min(AT_ONCE, CASES - done) }, () => {
@@ -76,15 +84,16 @@ test(`${CASES} changed containers and values: the native library's code and byte
       const isOther = random(8) === 0;
       const { value, json } = isOther ? rows[random(rows.length)] : row;
       const [bytes, ...rest] = [row.bytes, value, json].map((it) => (random(2) ? changed(it) : it));
-      return [names[random(names.length)], { bytes, value: rest[0], json: rest[1] }];
+      const [name, givenOf] = CALLS[random(CALLS.length)];
+      return [name, givenOf({ bytes, value: rest[0], json: rest[1] })];
     });
     const wanted = native(cases);
-    cases.forEach(([name, it], index) => {
-      const answer = CALLS[name](it);
-      assert.equal(said(name, answer), wanted[index], `${name} ${hexOf(it.bytes)} ${hexOf(it.value)} ${hexOf(it.json)}`);
+    cases.forEach(([name, given], index) => {
+      const answer = calls[name](...given);
+      assert.equal(said(answer), wanted[index], lineOf([name, given]));
       kinds[`${name} ${answer.kind}`] = (kinds[`${name} ${answer.kind}`] ?? 0) + 1;
     });
   }
   console.log(Object.entries(kinds).map(([kind, count]) => `${kind}: ${count}`).sort().join(", "));
-  for (const name of names) assert.ok(kinds[`${name} yes`] > CASES / 100 && kinds[`${name} no`] > CASES / 200, name);
+  for (const [name] of CALLS) assert.ok(kinds[`${name} yes`] > CASES / 100 && kinds[`${name} no`] > CASES / 200, name);
 });

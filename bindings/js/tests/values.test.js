@@ -15,9 +15,14 @@ function assertRefused(error, wanted) {
   else if (error.path !== undefined) assert.equal(`${error.path}: ${error.reason}`, wanted);
 }
 
-/** Bytes as digits and bigints as decimal texts, and so the JSON with long numbers as strings. */
-function plain(value) {
-  return JSON.parse(JSON.stringify(value, (_, it) => (typeof it === "bigint" ? String(it) : it instanceof Uint8Array ? `0x${hexOf(it)}` : it)));
+/** That a value is what JSON with long numbers as strings says: bytes are digits there, and infinities words. */
+function assertSaid(value, json) {
+  if (typeof value === "bigint") return assert.equal(String(value), json);
+  if (value instanceof Uint8Array) return assert.equal(`0x${hexOf(value)}`, json);
+  if (Math.abs(value) === Infinity) return assert.equal(value > 0 ? "inf" : "-inf", json);
+  if (value === null || typeof value !== "object") return assert.equal(value, json);
+  assert.deepEqual([Array.isArray(value), Object.keys(value)], [Array.isArray(json), Object.keys(json)]);
+  for (const key of Object.keys(value)) assertSaid(value[key], json[key]);
 }
 
 /** The rows of a value are its bytes, one after another, and each has a definition. */
@@ -40,8 +45,8 @@ function assertValue(schema, bytes, json) {
   const value = schema.decode(bytes);
   assert.deepEqual(schema.encode(value), bytes);
   const quoted = JSON.parse(schema.toJson(bytes, { longNumbers: "string" }));
-  assert.deepEqual(plain(value), quoted);
-  assert.deepEqual(plain(schema.decode(bytes, { longNumbers: "string" })), quoted);
+  assertSaid(value, quoted);
+  assertSaid(schema.decode(bytes, { longNumbers: "string" }), quoted);
   assertRows(schema, bytes);
 }
 

@@ -93,9 +93,10 @@ class Calls(unittest.TestCase):
         with self.assertRaises(Error):
             schema_of("f32").decode(bytes.fromhex("0000c07f"))
 
-    def test_floats_are_their_bits_and_an_f32_is_rounded(self):
-        self.assertEqual(schema_of("f32").encode(0.1).hex(), "cdcccc3d")
-        self.assertEqual(schema_of("f64").encode(1.5).hex(), "000000000000f83f")
+    def test_floats_are_their_shortest_decimal_and_rounded_once(self):
+        for name, number, digits in [("f32", 0.1, "cdcccc3d"), ("f32", 7.038531e-26, "fd43ae15"), ("f64", 1.5, "000000000000f83f")]:
+            self.assertEqual(schema_of(name).encode(number).hex(), digits)
+            self.assertEqual(schema_of(name).decode(bytes.fromhex(digits)), number)
 
     def test_a_text_that_looks_like_bytes_is_a_text(self):
         value = self.schema.encode({"x": 0, "y": "0x0a"})

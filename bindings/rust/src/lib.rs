@@ -25,13 +25,23 @@
 //! Calls share nothing, so any thread may make them. None ends the process, whatever it is given. Each call decodes the schema.
 #![deny(missing_docs)]
 
+#[cfg(feature = "serde")]
+mod decode;
+#[cfg(feature = "serde")]
+mod definitions;
+#[cfg(feature = "serde")]
+mod encode;
+#[cfg(feature = "serde")]
+mod fault;
+#[cfg(feature = "serde")]
+mod order;
 mod records;
 mod sys;
 
 pub use records::{Record, RecordError, Records};
 
-// The program of the README is run as a test.
-#[cfg(doctest)]
+// The programs of the README are run as tests.
+#[cfg(all(doctest, feature = "serde"))]
 #[doc = include_str!("../README.md")]
 mod readme {}
 
@@ -219,7 +229,13 @@ impl Schema {
     /// [`ErrorKind::No`] with the place, if the bytes are no value or the type refuses it as far as names tell;
     /// [`ErrorKind::Undecided`]; [`ErrorKind::OutOfMemory`].
     pub fn to_json(&self, value: &[u8], style: Style) -> Result<String, Error> {
-        outcome(sys::to_json(&self.encoding, value, style)).map(text_of)
+        outcome(sys::to_json(
+            &self.encoding,
+            value,
+            style.is_compact,
+            style.has_quoted_numbers,
+        ))
+        .map(text_of)
     }
 
     /// The bytes of the value that the JSON says. Fields and entries may come in any order, and numbers of 64 bits may be strings.
@@ -230,6 +246,58 @@ impl Schema {
     /// [`ErrorKind::OutOfMemory`].
     pub fn from_json(&self, json: &str) -> Result<Vec<u8>, Error> {
         outcome(sys::from_json(&self.encoding, json.as_bytes()))
+    }
+
+    #[cfg(feature = "serde")]
+    fn definitions(&self) -> Result<definitions::Definitions, Error> {
+        let error = || Error::new(2, "not a schema container".to_owned());
+        definitions::Definitions::new(&self.encoding).ok_or_else(error)
+    }
+
+    /// The bytes of a value of any type that implements `serde::Serialize` (feature `serde`). Its parts go to those of the schema: fields
+    /// and variants by the names that serde has, numbers exactly, and elements of hashed sets and maps in the order of their keys.
+    ///
+    /// ```
+    /// # use borsh_proved::Schema;
+    /// #[derive(Debug, PartialEq, serde::Serialize, serde::Deserialize)]
+    /// struct A {
+    ///     x: u64,
+    ///     y: String,
+    /// }
+    /// # let schema = Schema::new(include_bytes!("../../../crates/borsh_tool/data/readme.borsh").as_slice())?;
+    /// let value = A { x: u64::MAX, y: "h".to_owned() };
+    /// let bytes = schema.encode(&value)?;
+    /// assert_eq!(bytes, [255, 255, 255, 255, 255, 255, 255, 255, 1, 0, 0, 0, b'h']);
+    /// assert_eq!(schema.decode::<A>(&bytes)?, value);
+    /// assert_eq!(schema.encode(&(1, 2)).unwrap_err().to_string(), "A: a tuple, where the schema has `A`");
+    /// # Ok::<(), borsh_proved::Error>(())
+    /// ```
+    ///
+    /// # Errors
+    ///
+    /// [`ErrorKind::No`] with the path, if the value hasn't the parts that the schema has, or the type refuses it as far as names tell;
+    /// also if a hashed set or map has keys whose order the schema doesn't say, as those of a struct. [`ErrorKind::Undecided`];
+    /// [`ErrorKind::OutOfMemory`].
+    #[cfg(feature = "serde")]
+    pub fn encode<T: serde::Serialize + ?Sized>(&self, value: &T) -> Result<Vec<u8>, Error> {
+        let definitions = self.definitions()?;
+        match encode::json_of(&definitions, value) {
+            Ok(json) => outcome(sys::from_json(&self.encoding, &json)),
+            Err(fault) => Err(fault.into_error(definitions.root())),
+        }
+    }
+
+    /// The value that all of the bytes are, of any type that implements `serde::Deserialize` (feature `serde`). As everywhere in serde, a
+    /// type may leave out fields that it doesn't have; `#[serde(deny_unknown_fields)]` refuses them.
+    ///
+    /// # Errors
+    ///
+    /// As of [`Schema::to_json`], and [`ErrorKind::No`] with the path, if the type hasn't the parts that the schema has.
+    #[cfg(feature = "serde")]
+    pub fn decode<T: serde::de::DeserializeOwned>(&self, value: &[u8]) -> Result<T, Error> {
+        let definitions = self.definitions()?;
+        let json = outcome(sys::to_json(&self.encoding, value, true, false))?;
+        decode::value_of(&definitions, &json).map_err(|it| it.into_error(definitions.root()))
     }
 
     /// The bytes of each of the values that follow one another to the end of a reader, in bounded memory. They are checked as by

@@ -1,6 +1,4 @@
-//! The calls of `borsh.h`.
-
-use crate::Style;
+//! The calls of `borsh.h`. One that gives a number beside its answer returns both.
 
 /// The code of bytes that end within a value.
 pub const SHORT: u32 = 6;
@@ -27,6 +25,7 @@ pub struct Answer {
 
 extern "C" {
     fn borsh_free(buffer: *mut Buffer);
+    // tools/calls.py writes: declarations
     fn borsh_valid(schema: *const u8, schema_length: usize, text: *mut Buffer) -> u32;
     fn borsh_size(
         schema: *const u8,
@@ -61,7 +60,7 @@ extern "C" {
         schema: *const u8,
         schema_length: usize,
         bytes: *const u8,
-        length: usize,
+        bytes_length: usize,
         lengths: *mut usize,
         lengths_room: usize,
         count: *mut usize,
@@ -71,13 +70,14 @@ extern "C" {
         schema: *const u8,
         schema_length: usize,
         values: *const u8,
-        length: usize,
+        values_length: usize,
         lengths: *const usize,
         lengths_count: usize,
         has_quoted_numbers: bool,
         count: *mut usize,
         lines: *mut Buffer,
     ) -> u32;
+    // tools/calls.py: end
 }
 
 impl Drop for Buffer {
@@ -110,59 +110,59 @@ fn call(fill: impl FnOnce(*mut Buffer) -> u32) -> Answer {
     }
 }
 
+// SAFETY: each slice lies at its pointer, and the buffer is ours.
+// tools/calls.py writes: calls
 pub fn valid(schema: &[u8]) -> Answer {
-    // SAFETY: the slice lies at its pointer, and the buffer is ours. So below.
-    call(|text| unsafe { borsh_valid(schema.as_ptr(), schema.len(), text) })
+    call(|out| unsafe { borsh_valid(schema.as_ptr(), schema.len(), out) })
 }
 
 pub fn size(schema: &[u8]) -> (usize, Answer) {
-    let mut size = 0;
-    let answer = call(|text| unsafe { borsh_size(schema.as_ptr(), schema.len(), &mut size, text) });
-    (size, answer)
+    let mut number = 0;
+    let answer = call(|out| unsafe { borsh_size(schema.as_ptr(), schema.len(), &mut number, out) });
+    (number, answer)
 }
 
 pub fn member(schema: &[u8], value: &[u8]) -> Answer {
-    call(|text| unsafe {
+    call(|out| unsafe {
         borsh_member(
             schema.as_ptr(),
             schema.len(),
             value.as_ptr(),
             value.len(),
-            text,
+            out,
         )
     })
 }
 
-pub fn to_json(schema: &[u8], value: &[u8], style: Style) -> Answer {
-    call(|json| unsafe {
+pub fn to_json(schema: &[u8], value: &[u8], is_compact: bool, has_quoted_numbers: bool) -> Answer {
+    call(|out| unsafe {
         borsh_to_json(
             schema.as_ptr(),
             schema.len(),
             value.as_ptr(),
             value.len(),
-            style.is_compact,
-            style.has_quoted_numbers,
-            json,
+            is_compact,
+            has_quoted_numbers,
+            out,
         )
     })
 }
 
 pub fn from_json(schema: &[u8], json: &[u8]) -> Answer {
-    call(|value| unsafe {
+    call(|out| unsafe {
         borsh_from_json(
             schema.as_ptr(),
             schema.len(),
             json.as_ptr(),
             json.len(),
-            value,
+            out,
         )
     })
 }
 
-/// How many values the bytes begin with, whose lengths are written to `lengths`.
 pub fn records(schema: &[u8], bytes: &[u8], lengths: &mut [usize]) -> (usize, Answer) {
-    let mut count = 0;
-    let answer = call(|text| unsafe {
+    let mut number = 0;
+    let answer = call(|out| unsafe {
         borsh_records(
             schema.as_ptr(),
             schema.len(),
@@ -170,22 +170,21 @@ pub fn records(schema: &[u8], bytes: &[u8], lengths: &mut [usize]) -> (usize, An
             bytes.len(),
             lengths.as_mut_ptr(),
             lengths.len(),
-            &mut count,
-            text,
+            &mut number,
+            out,
         )
     });
-    (count, answer)
+    (number, answer)
 }
 
-/// How many of the values with these lengths have a line of JSON.
 pub fn json_lines(
     schema: &[u8],
     values: &[u8],
     lengths: &[usize],
     has_quoted_numbers: bool,
 ) -> (usize, Answer) {
-    let mut count = 0;
-    let answer = call(|lines| unsafe {
+    let mut number = 0;
+    let answer = call(|out| unsafe {
         borsh_json_lines(
             schema.as_ptr(),
             schema.len(),
@@ -194,9 +193,10 @@ pub fn json_lines(
             lengths.as_ptr(),
             lengths.len(),
             has_quoted_numbers,
-            &mut count,
-            lines,
+            &mut number,
+            out,
         )
     });
-    (count, answer)
+    (number, answer)
 }
+// tools/calls.py: end

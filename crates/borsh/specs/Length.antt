@@ -4,12 +4,7 @@ use Rattle.borsh_io.specs.declared.error.Error.{Error}
 use Rattle.borsh_io.specs.declared.error.ErrorKind.{ErrorKind}
 use Rattle.borsh_io.specs.declared.error.ErrorKind.TheVariants.{InvalidData, OutOfMemory}
 use Rattle.borsh_io.specs.Errors.{error_kind}
-
--- the encoding is there and has n bytes
-pub record IsLength (encoding : Option (List ℕ)) (n : ℕ) : Type 0 where
-  pub bytes : List ℕ
-  pub is : encoding ≡ Some bytes
-  pub long : n ≡ length bytes
+use Rattle.borsh_codec.specs.Writing.{IsLength}
 
 -- there is no encoding, an allocation failed, or the length doesn't fit in a `usize`
 pub data WhyNoLength (own : Bool) (encoding : Option (List ℕ)) (kind : ErrorKind) : Type 0 where

@@ -6,7 +6,7 @@ pub use borsh_de::{
     BorshDeserialize, EnumExt, FromParts, TryFromParts, hint, invalid_data, read_bytes,
     read_checked, read_parts, read_tag,
 };
-pub use borsh_enums::{Case, Cases, DecodeCases, Fork, FromCases, read_enum, read_variant};
+pub use borsh_enums::{Case, Cases, DecodeCases, Fork, FromCases, TagOf, read_enum, read_variant};
 use borsh_io::{Read, Result, Unordered};
 use std::alloc::Global;
 

@@ -7,10 +7,10 @@ use super::length::LengthWriter;
 pub use borsh_enums::Tag;
 use borsh_io::{Error, ErrorKind, Result, Write};
 pub use borsh_ser::{
-    BorshSerialize, put_bytes, put_eight, put_eleven, put_five, put_four, put_nine, put_seven,
-    put_six, put_tagged, put_ten, put_three, put_twelve, put_two, write_bytes, write_eight,
-    write_eleven, write_five, write_four, write_nine, write_seven, write_six, write_tagged,
-    write_ten, write_three, write_twelve, write_two,
+    BorshSerialize, bytes_length, joined_length, put_bytes, put_eight, put_eleven, put_five,
+    put_four, put_nine, put_seven, put_six, put_tagged, put_ten, put_three, put_twelve, put_two,
+    tagged_length, write_bytes, write_eight, write_eleven, write_five, write_four, write_nine,
+    write_seven, write_six, write_tagged, write_ten, write_three, write_twelve, write_two,
 };
 use std::alloc::Global;
 
@@ -63,6 +63,9 @@ pub fn to_writer<T: BorshSerialize, W: Write>(
 pub fn object_length<T: BorshSerialize>(alloc: Global, value: &T) -> Result<usize>
     ensures { AnswersLength T.codec.encoding_allocates (T.codec.encoding value.now) result }
 {
+    if let Some(length) = value.encoded_length() {
+        return Ok(length as usize);
+    }
     let mut writer = LengthWriter::new();
     value.serialize(alloc, &mut writer)?;
     writer.len().ok_or(Error::from(ErrorKind::OutOfMemory))

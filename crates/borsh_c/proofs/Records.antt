@@ -6,9 +6,10 @@ use Rattle.std.proofs.lemmas.List.{append-nil, take_more, take_more_set}
 use Rattle.borsh_walks.specs.Container.{Shape}
 use Rattle.borsh_walks.specs.Definitions.{definitions_in}
 use Rattle.borsh_definitions.specs.Codecs.{root_and_map}
+use Rattle.borsh_plan.specs.Plan.{IsPlanOf, definitions_of, map_of, root_of}
 use Rattle.borsh_values.specs.Faults.{BeginsWith}
 use Rattle.borsh_values.specs.Fronts.{IsFront}
-use Rattle.borsh_values.specs.declared.layout.Layout.{Layout}
+use Rattle.borsh_plan.specs.declared.plan.Plan.{Plan}
 use Rattle.borsh_values.proofs.Valid.{none_ambiguous}
 use Rattle.borsh_json.specs.declared.definitions.Definitions.{Definitions as Json}
 use Rattle.borsh_json.specs.declared.error.JsonError.{JsonError}
@@ -74,20 +75,20 @@ module _ (m : Definitions) (root : List ℕ) where
       rw (take_more lengths i 0 h)
       (lines_more (take i lengths) values text (get_or lengths i 0) line l (subst (λ (xs : List ℕ). IsLineOf m root (take (get_or lengths i 0) xs) line) e j))
 
--- of a layout whose kinds were found
-pub by_json : (P : Definitions → List ℕ → Type 0) (d : Json) (l : Layout) → d.layout.now ≡ l → P d.layout.now.map.now d.layout.now.root.now → P l.map.now l.root.now
-by_json P d l e p = subst (λ (l : Layout). P l.map.now l.root.now) e p
+-- of a plan whose kinds were found
+pub by_json : (P : Definitions → List ℕ → Type 0) (d : Json) (l : Plan) → d.plan.now ≡ l → P (map_of d.plan.now) (root_of d.plan.now) → P (map_of l) (root_of l)
+by_json P d l e p = subst (λ (l : Plan). P (map_of l) (root_of l)) e p
 
--- what holds by a layout holds by the map that it was made of
-pub by_layout : (P : Saying) (layout : Layout) {root : Bor (List ℕ)} {map : Bor Definitions} → (layout.root ≡ root) × (layout.map ≡ map) → P layout.map.now layout.root.now → P map.now root.now
-by_layout P layout {root} {map} same p = subst (λ (m : Bor Definitions). P m.now root.now) same.1 (subst (λ (r : Bor (List ℕ)). P layout.map.now r.now) same.0 p)
+-- what holds by a plan holds by the map that it was made of
+pub by_plan : (P : Saying) (plan : Plan) {root : List ℕ} {map : Definitions} → IsPlanOf map root plan → P (map_of plan) (root_of plan) → P map root
+by_plan P plan {root} {map} h p = subst (λ (m : Definitions). P m root) h.map (subst (λ r. P (map_of plan) r) h.root p)
 
 -- why the values were gone through no further than to the beginning
-pub stopped : (layout : Layout) {root : Bor (List ℕ)} {map : Bor Definitions} → (layout.root ≡ root) × (layout.map ≡ map) → (lengths bytes : List ℕ) (count : ℕ) {stop here : Stop} → count ≤ 0 → stop ≡ here → IsStop (definitions_in layout.map.now) layout.root.now (length lengths) count (behind (take count lengths) bytes) stop → IsStop (definitions_in map.now) root.now (length lengths) 0 bytes here
-stopped layout {root} {map} same lengths bytes count {stop} {here} small is told =
+pub stopped : (plan : Plan) {root : List ℕ} {map : Definitions} → IsPlanOf map root plan → (lengths bytes : List ℕ) (count : ℕ) {stop here : Stop} → count ≤ 0 → stop ≡ here → IsStop (definitions_of plan) (root_of plan) (length lengths) count (behind (take count lengths) bytes) stop → IsStop (definitions_in map) root (length lengths) 0 bytes here
+stopped plan {root} {map} h lengths bytes count {stop} {here} small is told =
     let all = length lengths in
-    let found = by_layout (λ m r. IsStop (definitions_in m) r all count (behind (take count lengths) bytes) stop) layout same told in
-    at_first (definitions_in map.now) root.now lengths bytes all count here small (subst (IsStop (definitions_in map.now) root.now all count (behind (take count lengths) bytes)) is found)
+    let found = by_plan (λ m r. IsStop (definitions_in m) r all count (behind (take count lengths) bytes) stop) plan h told in
+    at_first (definitions_in map) root lengths bytes all count here small (subst (IsStop (definitions_in map) root all count (behind (take count lengths) bytes)) is found)
 
 module _ {schema : List ℕ} (c : String Global × Definitions) (encoded : root_and_map.encoding c ≡ Some schema) (root : List ℕ) (named : root ≡ string_bytes c.0) where
   -- why the first value has no line

@@ -4,6 +4,7 @@ use Rattle.std.specs.Global.{Global}
 use Rattle.std.specs.BTreeMap.{BTreeMap}
 use Rattle.borsh_json.specs.Errors.{IsTextReason}
 use Rattle.borsh_json.specs.Forms.{forms_in}
+use Rattle.borsh_json.specs.InOrder.{TextRepresents}
 use Rattle.borsh_json.specs.Printed.{IsPrinted}
 use Rattle.borsh_json.specs.Represents.{TextSays}
 use Rattle.borsh_json.specs.NoJson.{RefusesBytes}
@@ -133,18 +134,18 @@ abbrev pub IsNoMember : List ℕ → Option ℕ → List ℕ → Saying
 IsNoMember value None text m root = ⊥
 IsNoMember value (Some offset) text m root = (Member (definitions_in m) root value → ⊥) × ((f : Fault) × IsFault (definitions_in m) root value f × (f.offset ≡ offset)) × IsShort text
 
--- the JSON says these bytes, which are a member of the root
+-- the JSON says these bytes, which are a member of the root, and the elements of its sets and the keys of its maps ascend where their order is known
 abbrev pub AreBytesOf : List ℕ → List ℕ → Saying
-AreBytesOf json value m root = TextSays (forms_in m) root json value
+AreBytesOf json value m root = TextRepresents (forms_in m) root json value
 
 -- on one line, or in several
 abbrev pub layout_if : Bool → Layout
 layout_if true = Compact
 layout_if false = Pretty
 
--- the other way about, with no white space but that of the layout
+-- the text is JSON that says these bytes, which are a member of the root, with no white space but that of the layout
 abbrev pub IsJsonOf : Layout → List ℕ → List ℕ → Saying
-IsJsonOf layout value text m root = AreBytesOf text value m root × IsPrinted layout text
+IsJsonOf layout value text m root = TextSays (forms_in m) root text value × IsPrinted layout text
 
 -- an offset is told only where the bytes are no member of the root, and is then that of a fault; without one they are a member, and there is a reason why it has no JSON
 abbrev pub HasNoJson : List ℕ → Option ℕ → List ℕ → Saying

@@ -1,6 +1,7 @@
-// The codes that the calls return. `bindings/c/borsh.h` has the same numbers.
+// The codes that the calls return.
 
-/// Yes; what was asked for was given.
+// tools/calls.py writes: codes
+/// Yes; the buffer has what was asked for.
 pub const YES: u32 = 0;
 /// No: the container breaks a rule or has no size, the bytes are no value, or the JSON says none.
 pub const NO: u32 = 1;
@@ -10,7 +11,8 @@ pub const MALFORMED: u32 = 2;
 pub const OUT_OF_MEMORY: u32 = 3;
 // 4 is for a null pointer: `bindings/c/borsh.c` returns it, and no call of this library.
 
-/// The definitions allow two values for the same bytes, or break a rule of widths.
+/// The container allows two values for the same bytes, or breaks a rule of widths, so it has no answer.
 pub const UNDECIDED: u32 = 5;
-/// The bytes end within a value.
+/// The bytes end within a value, of which more bytes may make one: of `borsh_records` alone.
 pub const SHORT: u32 = 6;
+// tools/calls.py: end

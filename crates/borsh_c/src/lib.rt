@@ -3,8 +3,8 @@
 //! A container is given by its encoding, as `to_vec` of a `BorshSchemaContainer` makes it. Each call returns a code (the
 //! constants of [`codes`]) and gives a text or bytes in the caller's room: their length is written to `needed`, and they are
 //! the beginning of the room if they fit; otherwise the call is made again with a larger room. `bindings/c/borsh.c` does that until they
-//! fit, and is what a C program calls. A text that isn't stated here is cut after 2^30 bytes. After code 1 the [`Place`] says where; the
-//! path that it names is within the text. After another code it has none.
+//! fit, and is what a C program calls. A text that isn't stated here is cut after 2^30 bytes. After codes 1 and 6 the [`Place`] may
+//! have an offset, and a path, which is within the text; after any other code it has neither.
 #![tactic(auto)]
 
 mod answers;
@@ -19,7 +19,7 @@ mod tests;
 ghost use Rattle.std.specs.Prelude.{◌≡◌, ◌≢◌, ◌+◌, ◌≤◌};
 ghost use Rattle.borsh_c.specs.Answers.{AnswersBytes, AnswersJson, AnswersMember, AnswersSize, AnswersValid, Gives, layout_if};
 ghost use Rattle.borsh_c.specs.Many.{AnswersLines, AnswersRecords};
-ghost use Rattle.borsh_c.specs.Places.{offset_of};
+ghost use Rattle.borsh_c.specs.Places.{IsNowhere, offset_of};
 ghost use Rattle.borsh_c.specs.Room.{IsKept};
 ghost use Rattle.borsh_json.specs.declared.output.Characters.TheVariants.{Any};
 
@@ -102,6 +102,7 @@ pub extern "C" fn borsh_c_member(
 ) -> u32
     ensures answer { let offset = offset_of place.new in
         Gives (AnswersMember schema.now value.now offset result) room.new needed.new }
+    ensures nowhere { result ≢ 1 → IsNowhere place.new }
     ensures within { place.new.path_start + place.new.path_length ≤ needed.new }
     ensures kept { IsKept room.old room.new needed.new }
 {
@@ -138,6 +139,7 @@ pub extern "C" fn borsh_c_to_json(
 ) -> u32
     ensures answer { let offset = offset_of place.new in
         Gives (AnswersJson schema.now value.now is_compact offset result) room.new needed.new }
+    ensures nowhere { result ≢ 1 → IsNowhere place.new }
     ensures within { place.new.path_start + place.new.path_length ≤ needed.new }
     ensures kept { IsKept room.old room.new needed.new }
 {
@@ -152,7 +154,7 @@ pub extern "C" fn borsh_c_to_json(
 }
 
 /// Gives the bytes of the value that `json` says, which is UTF-8. Determined: after code 0 `json` says the bytes, a member of the root,
-/// and no others; the other codes as of [`borsh_c_to_json`], but after 1 `json` isn't UTF-8, or there is a reason of those that
+/// and no others, and the keys of its sets and maps ascend where their order is known; the other codes as of [`borsh_c_to_json`], but after 1 `json` isn't UTF-8, or there is a reason of those that
 /// `borsh_json::from_json` has, and an offset only if it isn't JSON. Left open: as there; the offset.
 ///
 /// ```c
@@ -169,6 +171,7 @@ pub extern "C" fn borsh_c_from_json(
 ) -> u32
     ensures answer { let offset = offset_of place.new in
         Gives (AnswersBytes schema.now json.now offset result) room.new needed.new }
+    ensures nowhere { result ≢ 1 → IsNowhere place.new }
     ensures within { place.new.path_start + place.new.path_length ≤ needed.new }
     ensures kept { IsKept room.old room.new needed.new }
 {
@@ -226,6 +229,7 @@ pub extern "C" fn borsh_c_records(
         Gives (AnswersRecords schema.now bytes.now found count.new offset result)
         room.new needed.new }
     ensures none { result ≢ 0 → count.new ≡ 0 }
+    ensures nowhere { result ≢ 1 → result ≢ 6 → IsNowhere place.new }
     ensures within { place.new.path_start + place.new.path_length ≤ needed.new }
     ensures kept { IsKept room.old room.new needed.new }
 {
@@ -270,6 +274,7 @@ pub extern "C" fn borsh_c_json_lines(
         Gives (AnswersLines schema.now values.now lengths.now count.new offset result)
         room.new needed.new }
     ensures none { result ≢ 0 → count.new ≡ 0 }
+    ensures nowhere { result ≢ 1 → IsNowhere place.new }
     ensures within { place.new.path_start + place.new.path_length ≤ needed.new }
     ensures kept { IsKept room.old room.new needed.new }
 {

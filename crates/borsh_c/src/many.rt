@@ -1,18 +1,15 @@
 // Many values of one schema, which is decoded once.
+ghost use Rattle.borsh_plan.specs.Plan.{definitions_of, map_of, root_of};
 ghost use Rattle.borsh_c.specs.Answers.{About, IsRefused, IsUnclear};
 ghost use Rattle.borsh_c.specs.Many.{AreLines, BeginWith, HaveLines, HasNoLine, IsNoLine, IsNoRecord, IsStop, IsWhole, behind};
-ghost use Rattle.borsh_json.specs.Orders.{HasKinds};
 ghost use Rattle.borsh_json.specs.declared.output.Characters.TheVariants.{Any};
 ghost use Rattle.borsh_json.specs.declared.output.Layout.TheVariants.{Compact};
-ghost use Rattle.borsh_values.specs.Free.{KnowsSizes};
-ghost use Rattle.borsh_values.specs.Layouts.{IsLaidOut};
-ghost use Rattle.borsh_walks.specs.Definitions.{definitions_in};
 ghost use Rattle.std.specs.Prelude.{◌≡◌, ◌≤◌, IfErr, IfOk, drop, length, take};
 
 use super::answers::{container_from, no, no_value, said_of, unclear};
 use super::refusal::{Refusal, Said};
 use borsh_json::{Json, JsonError, Style};
-use borsh_values::{Fault, Front, Layout};
+use borsh_values::{Fault, Front, Plan, front_of};
 use std::alloc::{AllocError, Global};
 
 /// As the tool says it.
@@ -66,23 +63,21 @@ struct Measured<'a> {
 /// Writes the length of each of the values that the bytes begin with.
 fn measure<'a>(
     alloc: Global,
-    layout: &Layout<'a>,
+    plan: &Plan<'a>,
     bytes: &[u8],
     lengths: &mut [usize],
 ) -> Result<Measured<'a>, AllocError>
-    requires laid_out { IsLaidOut layout.now }
-    requires sizes { KnowsSizes layout.now }
     ensures room { IfOk result (λ m. m.count ≤ length lengths.new) }
-    ensures values { let C = definitions_in layout.now.map.now in
-        IfOk result (λ m. BeginWith C layout.now.root.now (take m.count lengths.new) bytes.now) }
-    ensures stop { let C = definitions_in layout.now.map.now in
+    ensures values { let C = definitions_of plan.now in
+        IfOk result (λ m. BeginWith C (root_of plan.now) (take m.count lengths.new) bytes.now) }
+    ensures stop { let C = definitions_of plan.now in
         let left = λ (m : Measured). behind (take m.count lengths.new) bytes.now in
-        IfOk result (λ m. IsStop C layout.now.root.now (length lengths.new) m.count (left m) m.stop) }
+        IfOk result (λ m. IsStop C (root_of plan.now) (length lengths.new) m.count (left m) m.stop) }
 {
     let mut left = bytes;
     let mut count = 0;
     while count < lengths.len() && !left.is_empty() {
-        match layout.front(alloc, left)? {
+        match front_of(alloc, plan, left)? {
             Front::Value(length) => {
                 if length == 0 {
                     return Ok(Measured {
@@ -140,8 +135,8 @@ pub fn whole_values(
     ensures err { IfErr result (λ e. IsRefused schema.now (IsNoRecord bytes.now) IsUnclear e) }
 {
     let (root, definitions) = container_from(alloc, schema)?;
-    let layout = Layout::new(alloc, root.as_str(), &definitions)?;
-    let measured = measure(alloc, &layout, bytes, lengths)?;
+    let plan = Plan::new(alloc, root.as_str(), &definitions)?;
+    let measured = measure(alloc, &plan, bytes, lengths)?;
     if measured.count > 0 {
         return Ok(Whole::Values(measured.count));
     }
@@ -167,20 +162,20 @@ struct Written<'a> {
 
 /// The JSON of each of the values that have these lengths, and a line end behind it, up to one that has none.
 fn write_lines<'a>(
+    alloc: Global,
     json: &Json<'a, '_>,
     values: &[u8],
     lengths: &[usize],
     style: Style,
 ) -> Result<Written<'a>, AllocError>
-    requires kinds { HasKinds json.now }
-    requires style { (style.layout ≡ Compact) × (style.characters ≡ Any) }
+    requires { (style.layout ≡ Compact) × (style.characters ≡ Any) }
     ensures room { IfOk result (λ w. w.count ≤ length lengths.now) }
-    ensures lines { let l = json.now.layout.now in
-        IfOk result (λ w. HaveLines l.map.now l.root.now (take w.count lengths.now) values.now w.text.items) }
-    ensures stop { let l = json.now.layout.now in
-        IfOk result (λ w. IsNoLine l.map.now l.root.now lengths.now values.now w.count w.stop) }
+    ensures lines { let l = json.now.plan.now in
+        IfOk result (λ w. HaveLines (map_of l) (root_of l) (take w.count lengths.now) values.now w.text.items) }
+    ensures stop { let l = json.now.plan.now in
+        IfOk result (λ w. IsNoLine (map_of l) (root_of l) lengths.now values.now w.count w.stop) }
 {
-    let mut text: Vec<u8> = Vec::new(json.alloc);
+    let mut text: Vec<u8> = Vec::new(alloc);
     let mut left = values;
     let mut count = 0;
     while count < lengths.len() {
@@ -229,9 +224,9 @@ pub fn lines_of(
     ensures err { IfErr result (λ e. IsRefused schema.now (HasNoLine values.now lengths.now) IsUnclear e) }
 {
     let (root, definitions) = container_from(alloc, schema)?;
-    let layout = Layout::new(alloc, root.as_str(), &definitions)?;
-    let json = Json::new(alloc, &layout)?;
-    let written = write_lines(&json, values, lengths, style)?;
+    let plan = Plan::new(alloc, root.as_str(), &definitions)?;
+    let json = Json::new(alloc, &plan)?;
+    let written = write_lines(alloc, &json, values, lengths, style)?;
     let (count, text) = (written.count, written.text);
     if count > 0 {
         return Ok(Lines { count, text });

@@ -1,7 +1,7 @@
 // Why a call has no answer, or the answer is no.
-ghost use Rattle.std.specs.Prelude.{◌≡◌, ◌+◌, ◌≤◌, string_bytes};
+ghost use Rattle.std.specs.Prelude.{◌≡◌, ◌≢◌, ◌+◌, ◌≤◌, string_bytes};
 ghost use Rattle.borsh_c.specs.Answers.{code_of, told_offset, told_text};
-ghost use Rattle.borsh_c.specs.Places.{offset_of};
+ghost use Rattle.borsh_c.specs.Places.{IsNowhere, offset_of};
 ghost use Rattle.borsh_c.specs.Room.{IsGiven, IsKept};
 ghost use Rattle.borsh_c.specs.declared.refusal.Refusal.TheVariants.{OutOfMemory};
 
@@ -58,6 +58,7 @@ impl Refusal {
     pub fn tell(&self, place: &mut Place, room: &mut [u8], needed: &mut usize) -> u32
         ensures code { result ≡ code_of self.now }
         ensures offset { offset_of place.new ≡ told_offset self.now }
+        ensures nowhere { result ≢ 1 → IsNowhere place.new }
         ensures given { IsGiven (told_text self.now) room.new needed.new }
         ensures within { place.new.path_start + place.new.path_length ≤ needed.new }
         ensures kept { IsKept room.old room.new needed.new }

@@ -12,6 +12,7 @@ pub mod DecodeVariants
 pub mod DecodeViews
 pub mod WriteRows
 pub mod PutSteps
+pub mod LengthSteps
 pub mod NumberBytes
 pub mod FloatBits
 pub mod ReadWhole

@@ -58,6 +58,18 @@ pub record Puts (encoding : Option (List ℕ)) (old new : List ℕ) (result : Op
   -- `Some(n)`: the encoding is the first n bytes of the room
   pub put : IfSome result (λ n. (n ≤ length new) × (encoding ≡ Some (take n new)))
 
+-- ---- a length
+
+-- the encoding is there and has n bytes
+pub record IsLength (encoding : Option (List ℕ)) (n : ℕ) : Type 0 where
+  pub bytes : List ℕ
+  pub is : encoding ≡ Some bytes
+  pub long : n ≡ length bytes
+
+-- the outcome of a call that may tell how many bytes an encoding has
+abbrev pub TellsLength : Option (List ℕ) → Option ℕ → Type 0
+TellsLength encoding result = IfSome result (IsLength encoding)
+
 -- ---- a vector
 
 -- the value has no encoding, or an allocation failed

@@ -10,7 +10,7 @@ use std::alloc::Global;
 use std::net::{IpAddr, Ipv4Addr, Ipv6Addr, SocketAddr, SocketAddrV4, SocketAddrV6};
 
 impl BorshDeserialize for Ipv4Addr {
-    #[inline]
+    #[inline(always)]
     fn deserialize_reader<R: Read>(_alloc: Global, reader: &mut R) -> Result<Ipv4Addr> {
         Ok(Ipv4Addr::from_octets(read_octets(reader)?))
     }
@@ -22,7 +22,7 @@ impl BorshDeserialize for Ipv4Addr {
 }
 
 impl BorshDeserialize for Ipv6Addr {
-    #[inline]
+    #[inline(always)]
     fn deserialize_reader<R: Read>(_alloc: Global, reader: &mut R) -> Result<Ipv6Addr> {
         Ok(Ipv6Addr::from_octets(read_octets(reader)?))
     }

@@ -16,7 +16,7 @@ use std::sync::ArcSlice;
 
 /// Reads `len` elements one after another, or at once if the type can. The errors are those of an
 /// element, and `OutOfMemory` if memory for the list can't be allocated.
-#[inline]
+#[inline(always)]
 pub(crate) fn read_elements<T: BorshDeserialize, R: Read>(
     alloc: Global,
     len: u32,
@@ -43,7 +43,7 @@ pub(crate) fn read_elements<T: BorshDeserialize, R: Read>(
 
 /// Reads a length of four bytes and that many elements. The errors are those of a number and of
 /// [`read_elements`].
-#[inline]
+#[inline(always)]
 pub(crate) fn read_counted<T: BorshDeserialize, R: Read>(
     alloc: Global,
     reader: &mut R,
@@ -56,7 +56,7 @@ pub(crate) fn read_counted<T: BorshDeserialize, R: Read>(
 
 /// As [`read_counted`], but elements whose encodings are empty are refused before anything is read: `InvalidData`.
 /// So each element takes at least one byte, and a short input can't announce many of them.
-#[inline]
+#[inline(always)]
 pub(crate) fn read_list<T: BorshDeserialize, R: Read>(
     alloc: Global,
     reader: &mut R,

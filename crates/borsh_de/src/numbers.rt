@@ -97,7 +97,7 @@ impl BorshDeserialize for u8 {
     }
 
     /// The bytes, always.
-    #[inline]
+    #[inline(always)]
     fn vec_from_reader<R: Read>(alloc: Global, len: u32, reader: &mut R) -> Result<Option<Vec<u8>>>
         ensures outcome { DecodesAtOnce len (unsigned 1) R.stream reader.old reader.new result }
         ensures some { IfOk result IsSome }

@@ -35,7 +35,7 @@ pub fn fill<R: Read>(reader: &mut R, buf: &mut [u8]) -> Result<()>
 /// ```
 /// let magic: [u8; 4] = read_bytes(reader)?;
 /// ```
-#[inline]
+#[inline(always)]
 pub fn read_bytes<R: Read, const N: usize>(reader: &mut R) -> Result<[u8; N]>
     ensures { TakesBytes N R.stream reader.old reader.new result }
 {
@@ -45,7 +45,7 @@ pub fn read_bytes<R: Read, const N: usize>(reader: &mut R) -> Result<[u8; N]>
 }
 
 /// As [`read_bytes`], as numbers of one byte.
-#[inline]
+#[inline(always)]
 pub(crate) fn read_octets<R: Read, const N: usize>(reader: &mut R) -> Result<[u8; N]>
     ensures { Decodes (octets N) R.stream reader.old reader.new result }
 {
@@ -58,7 +58,7 @@ pub(crate) fn read_octets<R: Read, const N: usize>(reader: &mut R) -> Result<[u8
 /// ```
 /// let tag = read_tag(reader)?;
 /// ```
-#[inline]
+#[inline(always)]
 pub fn read_tag<R: Read>(reader: &mut R) -> Result<u8>
     ensures { Decodes any_byte R.stream reader.old reader.new result }
 {
@@ -85,6 +85,7 @@ fn first_room(len: usize, left: Option<usize>) -> usize
 /// `len` bytes at once. If it doesn't know, room is made for 1 MiB at first and then for as many again as
 /// came, so bytes that are announced and don't come cost little memory. The errors are those of [`fill`],
 /// and `OutOfMemory` if an allocation fails.
+#[inline(always)]
 pub(crate) fn read_vec<R: Read>(alloc: Global, len: usize, reader: &mut R) -> Result<Vec<u8>>
     ensures { DecodesVec (allocated_array len (unsigned 1)) R.stream reader.old reader.new result }
 {

@@ -15,6 +15,7 @@ use std::sync::ArcStr;
 
 /// Reads the number of bytes and the bytes, which become the text without a copy. Bytes that aren't UTF-8
 /// are refused: `InvalidData`, with the text of std's error.
+#[inline(always)]
 pub(crate) fn read_text<R: Read>(alloc: Global, reader: &mut R) -> Result<String>
     ensures { DecodesAs string_bytes text R.stream reader.old reader.new result }
 {
@@ -26,7 +27,7 @@ pub(crate) fn read_text<R: Read>(alloc: Global, reader: &mut R) -> Result<String
 }
 
 impl BorshDeserialize for String {
-    #[inline]
+    #[inline(always)]
     fn deserialize_reader<R: Read>(alloc: Global, reader: &mut R) -> Result<String> {
         read_text(alloc, reader)
     }

@@ -4,8 +4,8 @@ use mathlib.Core.Logic.{inl, inr}
 use Rattle.borsh_codec.specs.Codec.{Codec}
 use Rattle.borsh_codec.specs.Shapes.{contramap}
 use Rattle.borsh_codec.specs.Variants.{either}
-use Rattle.borsh_enums.specs.declared.cases.Case.{Case}
 use Rattle.borsh_enums.specs.declared.cases.Fork.{Fork}
+use Rattle.borsh_enums.specs.declared.cases.TagOf.{TagOf}
 use Rattle.borsh_enums.specs.declared.cases.Fork.TheVariants.{Left, Right}
 
 abbrev pub fork_view : {A B : Type 0} → Fork A B → A ⊎ B
@@ -24,5 +24,5 @@ left v = Left v
 abbrev pub right : {A B : Type 0} → B → Fork A B
 right v = Right v
 
-abbrev pub fields : {n : ℕ} {A : Type 0} → A → Case n A
-fields v = record { 0 = v }
+abbrev pub fields : {n : ℕ} {A : Type 0} → A → TagOf n × A
+fields v = (record {}, v)

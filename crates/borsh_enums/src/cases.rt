@@ -26,16 +26,19 @@ pub trait Cases: Sized {
     fn element_size() -> usize;
 }
 
-/// A variant: its fields, `A`, behind the tag `TAG`. The fields are `()`, one type, or a tuple.
+/// A tag that is known when the program is compiled. It takes no memory.
 #[derive(Drop)]
-pub struct Case<const TAG: u8, A>(pub A);
+pub struct TagOf<const TAG: u8>;
+
+/// A variant: its fields, `A`, behind the tag `TAG`. The fields are `()`, one type, or a tuple.
+pub type Case<const TAG: u8, A> = (TagOf<TAG>, A);
 
 impl<const TAG: u8, A: BorshType> Cases for Case<TAG, A> {
-    ghost codec = { case_codec (λ v. v.0) TAG A.codec };
+    ghost codec = { case_codec (λ v. v.1) TAG A.codec };
 
     ghost tags = { tag_of TAG };
 
-    ghost variants = { case_variants (λ v. v.0) TAG A.lawful_if };
+    ghost variants = { case_variants (λ v. v.1) TAG A.lawful_if };
 
     fn has_tag(tag: u8) -> bool {
         tag == TAG

@@ -4,7 +4,7 @@ ghost use Rattle.borsh_codec.specs.Shapes.{contramap};
 ghost use Rattle.borsh_codec.specs.Reading.{Decodes, DecodesAfterTag};
 ghost use Rattle.borsh_codec.specs.Variants.{distinct, has};
 
-use super::cases::{Case, Cases, Fork, FromCases};
+use super::cases::{Case, Cases, Fork, FromCases, TagOf};
 use borsh_de::{BorshDeserialize, invalid_data, read_tag};
 use borsh_io::{Read, Result};
 use std::alloc::Global;
@@ -21,7 +21,7 @@ pub trait DecodeCases: Cases + Drop {
 
 impl<const TAG: u8, A: BorshDeserialize> DecodeCases for Case<TAG, A> {
     fn read_case<R: Read>(alloc: Global, reader: &mut R, tag: u8) -> Result<Case<TAG, A>> {
-        Ok(Case(A::deserialize_reader(alloc, reader)?))
+        Ok((TagOf, A::deserialize_reader(alloc, reader)?))
     }
 }
 

@@ -5,6 +5,6 @@ pub mod cases;
 pub mod decode;
 pub mod tags;
 
-pub use cases::{Case, Cases, Fork, FromCases};
+pub use cases::{Case, Cases, Fork, FromCases, TagOf};
 pub use decode::{DecodeCases, read_enum, read_variant};
 pub use tags::Tag;

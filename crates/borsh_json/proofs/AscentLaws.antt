@@ -2,8 +2,8 @@
 use Rattle.std.proofs.Common.{◌≡◌, ◌⊎◌, inl, inr, ℕ, suc, ◌+◌, ◌-◌, ◌<◌, ◌≤◌, List, [], ◌∷◌, ◌++◌, length, take, drop, Option, Some, None, refl, sym, ◌∙◌, ap, subst, arith, append_assoc, append-nil, length-append}
 use Rattle.std.proofs.Math.Seq.{drop-append_seam, take-append_seam}
 use Rattle.std.proofs.lemmas.Bool.{cases_lt}
-use Rattle.json.specs.Json.{Json, array, string, Items, no_items, item}
-use Rattle.borsh_values.specs.declared.layout.Named.{Named}
+use Rattle.json.specs.Json.{Json, array, Items, no_items, item}
+use Rattle.borsh_plan.specs.declared.named.Named.{Named}
 use Rattle.borsh_json.specs.declared.definitions.Definitions.{Definitions}
 use Rattle.borsh_json.specs.declared.definitions.Known.{Known}
 use Rattle.borsh_json.specs.declared.order.Ascent.{Ascent}
@@ -14,7 +14,7 @@ use Rattle.borsh_json.specs.Frames.{first_steps, IsMapPlace, IsListPlace, IsPlac
 use Rattle.borsh_json.specs.InOrder.{element as element_step, BeginsParts, ItemsFall}
 use Rattle.borsh_json.specs.Orders.{ValuesCompare}
 use Rattle.borsh_json.specs.Represents.{HaveBytes}
-use Rattle.borsh_json.specs.Table.{Lengths, Kind, list, byte_list, fields, HasKind, Part as JsonPart, list_parts, IsArray, Says}
+use Rattle.borsh_json.specs.Table.{Lengths, Kind, list, byte_list, fields, HasKind, Part as JsonPart, list_parts}
 use Rattle.borsh_json.proofs.FormKinds.{form_known}
 use Rattle.borsh_json.proofs.InOrderLaws.{array_one, array_said, keys_one}
 use Rattle.borsh_json.proofs.ReaderLaws.{split, joined}

@@ -9,7 +9,7 @@ use Rattle.json.specs.Token.{Token}
 use Rattle.borsh_walks.specs.Container.{Shape, sequence as sequence_shape, product, tag, references}
 use Rattle.borsh_values.specs.Nodes.{packed_size, Opens, OpensElements, IsCountOf}
 use Rattle.borsh_values.specs.Walks.{IsCounted}
-use Rattle.borsh_values.specs.declared.layout.Named.{Named}
+use Rattle.borsh_plan.specs.declared.named.Named.{Named}
 use Rattle.borsh_values.proofs.WalkedLaws.{read_count}
 use Rattle.borsh_json.specs.declared.error.WriteError.{WriteError}
 use Rattle.borsh_json.specs.declared.error.WriteError.TheVariants.{Refused}

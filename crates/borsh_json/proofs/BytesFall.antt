@@ -10,7 +10,7 @@ use Rattle.hex.proofs.HexLemmas.{decode_of-ok}
 use Rattle.json.specs.Json.{Json, string}
 use Rattle.borsh_walks.specs.Container.{tag}
 use Rattle.borsh_values.proofs.Bytes.{small_bytes}
-use Rattle.borsh_values.specs.declared.layout.Named.{Named}
+use Rattle.borsh_plan.specs.declared.named.Named.{Named}
 use Rattle.borsh_json.specs.declared.definitions.Known.{Known}
 use Rattle.borsh_json.specs.declared.error.ReadError.{ReadError}
 use Rattle.borsh_json.specs.declared.error.ReadError.TheVariants.{OutOfMemory, Refused, Descends as DescendsAt}

@@ -9,7 +9,7 @@ use Rattle.std.specs.Str.{bytes_eq}
 use Rattle.json.specs.Json.{null, string}
 use Rattle.borsh_walks.specs.Container.{Shape, choice as choice_shape, tag, references, IsIn, first, later}
 use Rattle.borsh_values.specs.Nodes.{Opens, IsVariantOf}
-use Rattle.borsh_values.specs.declared.layout.Named.{Named}
+use Rattle.borsh_plan.specs.declared.named.Named.{Named}
 use Rattle.borsh_values.proofs.WalkedLaws.{read_variant}
 use Rattle.borsh_json.specs.declared.error.WriteError.{WriteError}
 use Rattle.borsh_json.specs.declared.kinds.Kind.TheVariants.{Optional as OptionKind, Choice as ChoiceKind}

@@ -6,6 +6,7 @@ use Rattle.std.specs.declared.cmp.Ordering.{Ordering}
 use Rattle.std.specs.declared.cmp.Ordering.TheVariants.{Less}
 use Rattle.json.specs.Json.{null}
 use Rattle.borsh_walks.specs.Container.{Shape, sequence, tag, Member, Members, more_members}
+use Rattle.borsh_plan.specs.Plan.{root_of}
 use Rattle.borsh_values.specs.Nodes.{packed_size, Opens, OpensElements, AreElementsOf}
 use Rattle.borsh_json.specs.declared.definitions.Definitions.{Definitions}
 use Rattle.borsh_json.specs.declared.definitions.Known.{Known}
@@ -14,7 +15,7 @@ use Rattle.borsh_json.specs.declared.error.PartError.TheVariants.{OutOfMemory as
 use Rattle.borsh_json.specs.declared.error.Refusal.TheVariants.{Descends}
 use Rattle.borsh_json.specs.declared.kinds.Elements.{Elements as FoundElements}
 use Rattle.borsh_json.specs.declared.kinds.Kind.TheVariants.{ByteList, Numbers}
-use Rattle.borsh_values.specs.declared.layout.Named.{Named}
+use Rattle.borsh_plan.specs.declared.named.Named.{Named}
 use Rattle.borsh_json.specs.declared.kinds.Entries.{Entries as FoundEntries}
 use Rattle.borsh_json.specs.declared.kinds.KeyKind.{KeyKind}
 use Rattle.borsh_json.specs.declared.kinds.KeyKind.TheVariants.{Text as TextKeys, Number as NumberKeys}
@@ -82,8 +83,8 @@ module _ (d : Definitions) (w : Writing) (p : Place) (a : IsWritingAt d w p) (z 
   abbrev e : List ℕ
   e = order.0
 
-  l : IsLastPart C d.layout.now.root.now a.mark.0 (z ∷ zs) a.state.done i
-  l = last_part C d.layout.now.root.now i a.mark.1 starts (subst (λ (xs : List (List ℕ)). Nested C d.layout.now.root.now (opened a.mark.0 a.mark.1 xs ∷ a.state.outer) a.state.done) names a.state.nested)
+  l : IsLastPart C (root_of d.plan.now) a.mark.0 (z ∷ zs) a.state.done i
+  l = last_part C (root_of d.plan.now) i a.mark.1 starts (subst (λ (xs : List (List ℕ)). Nested C (root_of d.plan.now) (opened a.mark.0 a.mark.1 xs ∷ a.state.outer) a.state.done) names a.state.nested)
 
   -- the elements that are read, and the next one
   listed : (count : ℕ) × (l.partly.own ≡ tag 4 (pos count)) × (l.partly.read ≡ replicate (length l.partly.read) e) × (l.part ∷ z ∷ zs ≡ replicate (suc (suc (length zs))) e) × (count ≡ length l.partly.read + suc (suc (length zs))) × (count ≤ 4294967295)
@@ -124,7 +125,7 @@ module _ (d : Definitions) (w : Writing) (p : Place) (a : IsWritingAt d w p) (z 
       (c.0, subst (λ b. Compare (forms_of d) (a_value k ∷ []) (a_value k ∷ []) b w.walk.left.now c.0) (sym dropped) c.1)
 
   -- the next one isn't above the last
-  pub falls : (r : Ordering) → Compare (forms_of d) (a_value k ∷ []) (a_value k ∷ []) (drop i w.bytes.now) w.walk.left.now r → (r ≡ Less → ⊥) → IsOutOfOrder (forms_of d) d.layout.now.root.now w.bytes.now
+  pub falls : (r : Ordering) → Compare (forms_of d) (a_value k ∷ []) (a_value k ∷ []) (drop i w.bytes.now) w.walk.left.now r → (r ≡ Less → ⊥) → IsOutOfOrder (forms_of d) (root_of d.plan.now) w.bytes.now
   falls r c n =
       let s = a.state in
       let t = l.partly in
@@ -169,7 +170,7 @@ is_named ns at x y h i = let q : Some x ≡ Some y = sym h ∙ i in cc
 
 module _ (d : Definitions) (w : Writing) (p : Place) (a : IsWritingAt d w p) (es : FoundEntries) (c : ℕ) (part : FoundPart) (t : TakesEntry (forms_of d) (names_of d) es p.parts c p.last part a.state.inner)
     (s own after : List ℕ) (left : w.walk.left.now ≡ own ++ after) (says : SaysFirst (forms_of d) t.key (key_json t.keys s) own []) where
-  last_falls : (key : EntryKey) → IsMapOf d w.bytes.now a.mark.0 es → IsLastKey d w.bytes.now es (Some key) a.mark.1 → ((o : Option (List ℕ)) → IsLast es.key_kind (Some key) o → IsAbove t.keys o s → ⊥) → IsOutOfOrder (forms_of d) d.layout.now.root.now w.bytes.now
+  last_falls : (key : EntryKey) → IsMapOf d w.bytes.now a.mark.0 es → IsLastKey d w.bytes.now es (Some key) a.mark.1 → ((o : Option (List ℕ)) → IsLast es.key_kind (Some key) o → IsAbove t.keys o s → ⊥) → IsOutOfOrder (forms_of d) (root_of d.plan.now) w.bytes.now
   last_falls key m h n =
       let F = forms_of d in
       let ns = names_of d in
@@ -189,10 +190,10 @@ module _ (d : Definitions) (w : Writing) (p : Place) (a : IsWritingAt d w p) (es
       (n (Some h.3) (h.3, refl, h.9))
 
   -- the key isn't above the last one
-  pub key_falls : (above : Bool) → ((o : Option (List ℕ)) → IsLast es.key_kind p.last o → Decides above (IsAbove t.keys o s)) → above ≡ false → IsOutOfOrder (forms_of d) d.layout.now.root.now w.bytes.now
+  pub key_falls : (above : Bool) → ((o : Option (List ℕ)) → IsLast es.key_kind p.last o → Decides above (IsAbove t.keys o s)) → above ≡ false → IsOutOfOrder (forms_of d) (root_of d.plan.now) w.bytes.now
   key_falls above g e = go p.last refl
     where
-      go : (last : Option EntryKey) → p.last ≡ last → IsOutOfOrder (forms_of d) d.layout.now.root.now w.bytes.now
+      go : (last : Option EntryKey) → p.last ≡ last → IsOutOfOrder (forms_of d) (root_of d.plan.now) w.bytes.now
       go None l = let q : true ≡ false = sym ((g None (subst (λ (l : Option EntryKey). IsLast es.key_kind l None) (sym l) refl)).1 tt) ∙ e in cc
       go (Some key) l =
           let h = a.here.1 es t.entries.0 t.entries.1 in

@@ -1,6 +1,7 @@
 -- The definition that a name of a kind has.
 use Rattle.std.proofs.Common.{◌≡◌, inl, inr, ℕ, List, [], ◌∷◌, Bool, true, false, Option, Some, refl, sym, ◌∙◌, ap, subst}
 use Rattle.std.specs.Prelude.{⊤, ◌&&◌, ◌==◌, if◌then◌else◌, codes}
+use Rattle.std.specs.Float.{binary32, binary64}
 use Rattle.std.specs.Str.{bytes_eq}
 use Rattle.borsh_walks.specs.Container.{product}
 use Rattle.borsh_json.specs.Forms.{Form, primitive, sequence, tuple, newtype, unnamed, named, choice, shape_of_form, IsByte, IsMap}
@@ -16,7 +17,7 @@ module _ (F : List ℕ → Option Form) where
   IsFormOf x no_bytes d = ⊥
   IsFormOf x truth d = ⊤
   IsFormOf x (whole n signed non_zero) d = ⊤
-  IsFormOf x (float n infinity) d = ⊤
+  IsFormOf x (float g) d = ⊤
   IsFormOf x (raw n) d = ⊤
   IsFormOf x (utf8 l) d = (e : List ℕ) × IsSequence l e d
   IsFormOf x (byte_list l e) d = IsSequence l e d × IsByte F e
@@ -38,8 +39,8 @@ module _ (F : List ℕ → Option Form) where
 
   primitive_formed : (x : List ℕ) (d : Form) (n : ℕ) → IsFormOf x (primitive_kind x n) d
   primitive_formed x d n =
-      let doubles = formed_if x d (bytes_eq x (codes "f64") && (n == 8)) (float 8 0x7ff0000000000000) (number_kind number_types x n) tt (number_formed x d number_types n) in
-      let floats = formed_if x d (bytes_eq x (codes "f32") && (n == 4)) (float 4 0x7f800000) _ tt doubles in
+      let doubles = formed_if x d (bytes_eq x (codes "f64") && (n == 8)) (float binary64) (number_kind number_types x n) tt (number_formed x d number_types n) in
+      let floats = formed_if x d (bytes_eq x (codes "f32") && (n == 4)) (float binary32) _ tt doubles in
       formed_if x d (bytes_eq x (codes "bool") && (n == 1)) truth _ tt floats
 
   -- the elements of a map are tuples of its keys and values

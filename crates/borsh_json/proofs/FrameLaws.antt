@@ -15,7 +15,7 @@ use Rattle.json.specs.Json.{Json, Members, no_members, member}
 use Rattle.json.specs.Find.{BeginsWith, InMembers, get_member, Finds}
 use Rattle.borsh_walks.specs.Container.{references}
 use Rattle.borsh_walks.specs.Tables.{mark_of}
-use Rattle.borsh_values.specs.declared.layout.Named.{Named}
+use Rattle.borsh_plan.specs.declared.named.Named.{Named}
 use Rattle.borsh_json.specs.declared.kinds.KeyKind.{KeyKind}
 use Rattle.borsh_json.specs.declared.kinds.KeyKind.TheVariants.{Text as TextKeys, Number as NumberKeys}
 use Rattle.borsh_json.specs.declared.position.Key.TheVariants.{None as NoKey, Name}

@@ -7,7 +7,7 @@ use Rattle.std.specs.declared.cmp.Ordering.TheVariants.{Less, Equal, Greater}
 use Rattle.std.proofs.lemmas.Bool.{cases_lt}
 use Rattle.std.proofs.lemmas.Bool.Decides.{nat_tests}
 use Rattle.json.specs.Json.{Json}
-use Rattle.borsh_values.specs.declared.layout.Named.{Named}
+use Rattle.borsh_plan.specs.declared.named.Named.{Named}
 use Rattle.borsh_json.specs.declared.kinds.KeyKind.{KeyKind}
 use Rattle.borsh_json.specs.declared.kinds.KeyKind.TheVariants.{Text as TextKeys, Number as NumberKeys}
 use Rattle.borsh_json.specs.declared.sources.EntryKey.TheVariants.{Rank}

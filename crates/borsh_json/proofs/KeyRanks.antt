@@ -5,7 +5,7 @@ use Rattle.std.specs.Ordering.{int_cmp}
 use Rattle.std.specs.Str.Parse.{signed_digits_value}
 use Rattle.json.specs.Json.{null, number, string}
 use Rattle.borsh_walks.specs.Container.{tag}
-use Rattle.borsh_values.specs.declared.layout.Named.{Named}
+use Rattle.borsh_plan.specs.declared.named.Named.{Named}
 use Rattle.borsh_json.specs.declared.kinds.KeyKind.{KeyKind}
 use Rattle.borsh_json.specs.declared.kinds.KeyKind.TheVariants.{Text as TextKeys, Number as NumberKeys}
 use Rattle.borsh_json.specs.Forms.{Form, sequence}

@@ -1,12 +1,13 @@
 -- The orders of sets and maps, as they are found with kinds.
-use Rattle.std.proofs.Common.{◌≡◌, inl, inr, ℕ, ◌<◌, List, [], ◌∷◌, ◌++◌, length, Option, Some, None, IfSome, refl, sym, ◌∙◌, subst}
+use Rattle.std.proofs.Common.{◌≡◌, ◌⊎◌, inl, inr, ℕ, ◌<◌, List, [], ◌∷◌, ◌++◌, length, Option, Some, None, IfSome, refl, sym, ◌∙◌, subst}
 use Rattle.std.specs.Prelude.{Bool, reverse, slice_get}
 use Rattle.std.specs.Borrow.{Bor}
 use Rattle.borsh_walks.specs.declared.definition.Definition.{Definition}
-use Rattle.borsh_values.specs.declared.layout.Layout.{Layout}
-use Rattle.borsh_values.specs.declared.layout.Named.{Named}
-use Rattle.borsh_values.specs.Layouts.{name_at}
-use Rattle.borsh_values.proofs.Places.{name_there}
+use Rattle.borsh_plan.specs.declared.plan.Plan.{Plan}
+use Rattle.borsh_plan.specs.declared.named.Named.{Named}
+use Rattle.borsh_plan.specs.Names.{name_at}
+use Rattle.borsh_plan.specs.Plan.{map_of, names_of as plan_names}
+use Rattle.borsh_plan.proofs.Places.{name_there}
 use Rattle.borsh_json.specs.declared.definitions.Definitions.{Definitions}
 use Rattle.borsh_json.specs.declared.definitions.Known.{Known}
 use Rattle.borsh_json.specs.declared.definitions.Known.TheVariants.{Order as KnownOrder}
@@ -19,15 +20,13 @@ use Rattle.borsh_json.specs.declared.order.Ordered.{Ordered}
 use Rattle.borsh_json.specs.declared.order.Ordered.TheVariants.{Text, Number as NumberOrder}
 use Rattle.borsh_json.specs.Forms.{Form, primitive, sequence, HasNoBytes, IsList, IsMap, forms_in}
 use Rattle.borsh_json.specs.Found.{IsCollection, IsPrimitiveKind, IsRefusedList, IsSetName, forms_of, names_of}
-use Rattle.borsh_json.specs.Known.{IsKnown}
 use Rattle.borsh_json.specs.Ordered.{numbers, text, HasOrder, IsOrdered, ordered}
-use Rattle.borsh_json.specs.Orders.{HasFound, KeepsOrders, Open, AreOpen, AreOpenIn, AwaitsOrder, TellsOrder, IsOrderIn, AreOrders, HasOrders, KnowsMore, KeysAscend, HasKeyOrder, KindHasOrder, KindsHaveOrders}
+use Rattle.borsh_json.specs.Orders.{HasFound, KeepsOrders, Open, AreOpen, AreOpenIn, AwaitsOrder, TellsOrder, IsOrderIn, AreOrders, HasOrders, KnowsMore, KeysAscend, HasKeyOrder, KindHasOrder, KindTellsOrder, IsFoundKind, AreFoundKinds, AreNone, KnowsNone}
 use Rattle.borsh_json.specs.Places.{AreKeysOf, IsAt, IsKindAt}
 use Rattle.borsh_json.specs.Table.{Keys, AreKeys, Kind as TableKind, whole, primitive_kind, HasKind, DefinedKind, texts, numbers as number_keys}
 use Rattle.borsh_json.proofs.FoundLaws.{full_list}
 use Rattle.borsh_json.proofs.OrderedLaws.{still}
-use Rattle.borsh_json.proofs.PlaceLaws.{get_pushed, kinds_pushed}
-use Rattle.borsh_json.proofs.WaitingLaws.{known_alike}
+use Rattle.borsh_json.proofs.PlaceLaws.{get_pushed}
 
 module _ (F : List ℕ → Option Form) (ns : List Named) where
   -- ---- keys of objects
@@ -118,44 +117,58 @@ module _ (F : List ℕ → Option Form) (ns : List Named) where
   kind_kept old new k x (Choice w vs) h = tt
   kind_kept old new k x (Repeated name) h = tt
 
-  -- the order of one kind more is known
-  pub orders_pushed : (old new : List Known) (kinds all : List (Option (Bor Definition × Kind))) (at : ℕ) (found : Option (Bor Definition × Kind)) → KeepsOrders old new → KindsHaveOrders F ns old kinds → all ≡ kinds ++ found ∷ [] → length kinds ≡ at → ((x : List ℕ) → IsAt ns at x → IfSome found (λ r. KindHasOrder F ns new x r.1)) → KindsHaveOrders F ns new all
-  orders_pushed old new kinds all at found k h e n tells i x r s a = elim (get_pushed kinds found i (Some r) (subst (λ (xs : List (Option (Bor Definition × Kind))). slice_get xs i ≡ Some (Some r)) e s)) [
-    | inl p ↦ kind_kept old new k x r.1 (h i x r p a)
-    | inr p ↦ subst (λ (o : Option (Bor Definition × Kind)). IfSome o (λ r. KindHasOrder F ns new x r.1)) p.1 (tells x (subst (λ i. IsAt ns i x) (p.0 ∙ n) a))
+  right_kept : (old new : List Known) → KeepsOrders old new → (i : ℕ) (found : Option (Bor Definition × Kind)) → IsFoundKind F ns old i found → IsFoundKind F ns new i found
+  right_kept old new k i None h = h
+  right_kept old new k i (Some r) h = (h.0, λ x a. (kind_kept old new k x r.1 (h.1 x a).0, (h.1 x a).1))
+
+  both_some : {A : Type 0} (P Q : A → Type 0) (o : Option A) → IfSome o P → IfSome o Q → IfSome o (λ a. P a × Q a)
+  both_some P Q None p q = tt
+  both_some P Q (Some a) p q = (p, q)
+
+  -- one kind more was found
+  pub kinds_pushed : (old new : List Known) (kinds all : List (Option (Bor Definition × Kind))) (at : ℕ) (found : Option (Bor Definition × Kind)) → KeepsOrders old new → AreFoundKinds F ns old kinds → all ≡ kinds ++ found ∷ [] → length kinds ≡ at → IsKindAt F ns at found → ((x : List ℕ) → IsAt ns at x → IfSome found (λ r. KindHasOrder F ns new x r.1)) → ((x : List ℕ) → IsAt ns at x → IfSome found (λ r. KindTellsOrder F x r.1)) → AreFoundKinds F ns new all
+  kinds_pushed old new kinds all at found k h e n kind has tells i o s = elim (get_pushed kinds found i o (subst (λ (xs : List (Option (Bor Definition × Kind))). slice_get xs i ≡ Some o) e s)) [
+    | inl p ↦ right_kept old new k i o (h i o p)
+    | inr p ↦ subst (λ i. IsFoundKind F ns new i o) (sym (p.0 ∙ n)) (subst (λ (o : Option (Bor Definition × Kind)). IsFoundKind F ns new at o) p.1 (kind, λ x a. both_some (λ r. KindHasOrder F ns new x r.1) (λ r. KindTellsOrder F x r.1) found (has x a) (tells x a)))
   ]
 
-  pub no_kinds : (orders : List Known) (kinds : List (Option (Bor Definition × Kind))) → kinds ≡ [] → KindsHaveOrders F ns orders kinds
-  no_kinds orders kinds e = subst (λ (kinds : List (Option (Bor Definition × Kind))). KindsHaveOrders F ns orders kinds) (sym e) (λ i x r s a. absurd cc)
+  pub no_kinds : (orders : List Known) (kinds : List (Option (Bor Definition × Kind))) → kinds ≡ [] → AreFoundKinds F ns orders kinds
+  no_kinds orders kinds e = subst (λ (kinds : List (Option (Bor Definition × Kind))). AreFoundKinds F ns orders kinds) (sym e) (λ i o s. absurd cc)
 
   pub no_orders : (orders : List Known) → orders ≡ [] → AreOrders F ns orders
   no_orders orders e = subst (λ (os : List Known). AreOrders F ns os) (sym e) (λ i x f s a. absurd cc)
 
--- what was found of the same layout before
-pub knows_more : (d e : Definitions) → e.layout ≡ d.layout → e.kinds ≡ d.kinds → HasOrders d → KnowsMore d e.orders.items → HasOrders e
-knows_more d e p q h k = (known_alike d e p q h.0, subst (λ (l : Bor Layout). AreOrders (forms_in l.now.map.now) l.now.names.items e.orders.items) (sym p) k.0)
+-- what was found of the same plan before
+pub knows_more : (d e : Definitions) → e.plan ≡ d.plan → KnowsMore d e.orders.items → HasOrders e
+knows_more d e p k = subst (λ (l : Bor Plan). AreOrders (forms_in (map_of l.now)) (plan_names l.now) e.orders.items) (sym p) k.0
 
-pub knows_then : (d e : Definitions) (orders : List Known) → e.layout ≡ d.layout → KnowsMore d e.orders.items → KnowsMore e orders → KnowsMore d orders
-knows_then d e orders p k m = (subst (λ (l : Bor Layout). AreOrders (forms_in l.now.map.now) l.now.names.items orders) p m.0, λ i z. m.1 i (k.1 i z))
+pub knows_then : (d e : Definitions) (orders : List Known) → e.plan ≡ d.plan → KnowsMore d e.orders.items → KnowsMore e orders → KnowsMore d orders
+knows_then d e orders p k m = (subst (λ (l : Bor Plan). AreOrders (forms_in (map_of l.now)) (plan_names l.now) orders) p m.0, λ i z. m.1 i (k.1 i z))
 
 pub told : (d : Definitions) (orders : List Known) (at : ℕ) (x : List ℕ) (o : Option Ordered) → AreOrders (forms_of d) (names_of d) orders → IsAt (names_of d) at x → ((found : Ordered) → o ≡ Some found → slice_get orders at ≡ Some (KnownOrder (Some found))) → IfSome o (TellsOrder d orders x)
 told d orders at x None r a g = tt
 told d orders at x (Some found) r a g = r at x found (g found refl) a
 
--- the same layout has the same names
-pub awaits_at : (d e : Definitions) (orders : List Known) (es : List Open) (k : ℕ) → d.layout ≡ e.layout → AwaitsOrder d orders es k → AwaitsOrder e orders es k
-awaits_at d e orders es k p w = subst (λ (l : Bor Layout). ((x : List ℕ) × IsAt l.now.names.items k x) × ((later : List Known) → KeepsOrders orders later → length later ≡ length orders → HasFound later k → AreOpen (forms_in l.now.map.now) l.now.names.items later (reverse es))) p w
+-- the same plan has the same names
+pub awaits_at : (d e : Definitions) (orders : List Known) (es : List Open) (k : ℕ) → d.plan ≡ e.plan → AwaitsOrder d orders es k → AwaitsOrder e orders es k
+awaits_at d e orders es k p w = subst (λ (l : Bor Plan). ((x : List ℕ) × IsAt (plan_names l.now) k x) × ((later : List Known) → KeepsOrders orders later → length later ≡ length orders → HasFound later k → AreOpen (forms_in (map_of l.now)) (plan_names l.now) later (reverse es))) p w
 
-pub open_at : (d e : Definitions) (orders : List Known) (es : List Open) → d.layout ≡ e.layout → AreOpenIn d orders es → AreOpenIn e orders es
-open_at d e orders es p o = subst (λ (l : Bor Layout). AreOpen (forms_in l.now.map.now) l.now.names.items orders (reverse es)) p o
+pub open_at : (d e : Definitions) (orders : List Known) (es : List Open) → d.plan ≡ e.plan → AreOpenIn d orders es → AreOpenIn e orders es
+open_at d e orders es p o = subst (λ (l : Bor Plan). AreOpen (forms_in (map_of l.now)) (plan_names l.now) orders (reverse es)) p o
 
-pub if_some : {A : Type 0} (P : A → Type 0) (o : Option A) → ((a : A) → o ≡ Some a → P a) → IfSome o P
-if_some P None f = tt
-if_some P (Some a) f = f a refl
+pub first_some : {A : Type 0} (P Q : A → Type 0) (o : Option A) → IfSome o (λ a. P a × Q a) → IfSome o P
+first_some P Q None h = tt
+first_some P Q (Some a) h = h.0
 
--- one kind more is known
-pub more_known : (d e : Definitions) (at : ℕ) (found : Option (Bor Definition × Kind)) → e.layout ≡ d.layout → IsKnown d → AreOrders (forms_of d) (names_of d) d.orders.items → KindsHaveOrders (forms_of d) (names_of d) d.orders.items d.kinds.items → e.kinds.items ≡ d.kinds.items ++ found ∷ [] → length d.kinds.items ≡ at → at < length (names_of d) → IsKindAt (forms_of d) (names_of d) at found → ((x : List ℕ) → IsAt (names_of d) at x → KnowsMore d e.orders.items × IfSome found (λ r. KindHasOrder (forms_of d) (names_of d) e.orders.items x r.1)) → IsKnown e × AreOrders (forms_of e) (names_of e) e.orders.items × KindsHaveOrders (forms_of e) (names_of e) e.orders.items e.kinds.items
-more_known d e at found p k r a items n low tells orders =
-    let o = (orders (name_at (names_of d) at) (name_there (names_of d) at low)).0 in
-    let q = orders_pushed (forms_of d) (names_of d) d.orders.items e.orders.items d.kinds.items e.kinds.items at found o.1 a items n (λ x i. (orders x i).1) in
-    (kinds_pushed d e at found k p items n tells, subst (λ (l : Bor Layout). AreOrders (forms_in l.now.map.now) l.now.names.items e.orders.items) (sym p) o.0, subst (λ (l : Bor Layout). KindsHaveOrders (forms_in l.now.map.now) l.now.names.items e.orders.items e.kinds.items) (sym p) q)
+pub second_some : {A : Type 0} (P Q : A → Type 0) (o : Option A) → IfSome o (λ a. P a × Q a) → IfSome o Q
+second_some P Q None h = tt
+second_some P Q (Some a) h = h.1
+
+-- one kind more was found, of the same plan
+pub more_found : (d e : Definitions) (kinds all : List (Option (Bor Definition × Kind))) (at : ℕ) (found : Option (Bor Definition × Kind)) → e.plan ≡ d.plan → AreFoundKinds (forms_of d) (names_of d) d.orders.items kinds → all ≡ kinds ++ found ∷ [] → length kinds ≡ at → at < length (names_of d) → IsKindAt (forms_of d) (names_of d) at found → ((x : List ℕ) → IsAt (names_of d) at x → KnowsMore d e.orders.items × IfSome found (λ r. KindHasOrder (forms_of d) (names_of d) e.orders.items x r.1)) → ((x : List ℕ) → IsAt (names_of d) at x → KnowsNone d e.orders.items × IfSome found (λ r. KindTellsOrder (forms_of d) x r.1)) → HasOrders e × KnowsNone e e.orders.items × AreFoundKinds (forms_of e) (names_of e) e.orders.items all
+more_found d e kinds all at found p h items n low kind has tells =
+    let there = name_there (names_of d) at low in
+    let o = (has (name_at (names_of d) at) there).0 in
+    let none = (tells (name_at (names_of d) at) there).0 in
+    let r = kinds_pushed (forms_of d) (names_of d) d.orders.items e.orders.items kinds all at found o.1 h items n kind (λ x i. (has x i).1) (λ x i. (tells x i).1) in
+    subst (λ (l : Bor Plan). AreOrders (forms_in (map_of l.now)) (plan_names l.now) e.orders.items × (((length e.orders.items ≡ 0) ⊎ (length e.orders.items ≡ length (plan_names l.now))) × AreNone (forms_in (map_of l.now)) (plan_names l.now) e.orders.items) × AreFoundKinds (forms_in (map_of l.now)) (plan_names l.now) e.orders.items all) (sym p) (o.0, none, r)

@@ -1,6 +1,7 @@
 -- Values that are written whole: primitives, texts and lists of primitives.
-use Rattle.std.proofs.Common.{◌≡◌, inl, inr, ℕ, suc, zero, ◌+◌, ◌-◌, ◌/◌, ◌^◌, ◌<◌, ◌≤◌, List, [], ◌∷◌, ◌++◌, length, map, Bool, true, false, Option, Some, refl, sym, ◌∙◌, ap, subst, arith, pow-suc}
-use Rattle.std.specs.Prelude.{⊤, ℤ, pos, negsuc, ◌&&◌, ◌==◌, if◌then◌else◌, codes, Result, Ok, Err}
+use Rattle.std.proofs.Common.{◌≡◌, inl, inr, ℕ, suc, zero, ◌+◌, ◌-◌, ◌/◌, ◌^◌, ◌<◌, ◌≤◌, List, [], ◌∷◌, ◌++◌, length, map, Bool, true, false, true≢false, Option, Some, refl, sym, ◌∙◌, ap, subst, arith, pow-suc}
+use Rattle.std.specs.Prelude.{⊤, ℤ, pos, negsuc, ◌&&◌, ◌==◌, if◌then◌else◌, codes, Result, Ok, Err, is_nan, from_bits}
+use Rattle.std.specs.Float.{Float as FloatValue, Format, binary32, binary64}
 use Rattle.std.specs.Fmt.{signed_decimal}
 use Rattle.std.specs.List.{AllByRecursion}
 use Rattle.std.specs.Str.{bytes_eq}
@@ -15,7 +16,7 @@ use Rattle.json.proofs.Printed.Decimals.{IsNumber-decimal, IsNumber-signed_decim
 use Rattle.borsh_walks.specs.Container.{tag, low_bytes}
 use Rattle.borsh_values.specs.Nodes.{Opens}
 use Rattle.borsh_values.specs.Numbers.{value_of}
-use Rattle.borsh_values.specs.declared.layout.Named.{Named}
+use Rattle.borsh_plan.specs.declared.named.Named.{Named}
 use Rattle.borsh_json.specs.declared.error.WriteError.{WriteError}
 use Rattle.borsh_json.specs.declared.kinds.Kind.{Kind as Found}
 use Rattle.borsh_json.specs.declared.kinds.Kind.TheVariants.{Number, Bool as Truth, Text, Bytes, Float, ByteList, Numbers, List as ElementList, Map as Entries, Row, Newtype, Object, Optional, Choice, Repeated}
@@ -26,9 +27,11 @@ use Rattle.borsh_json.specs.Found.{IsPrimitiveKind}
 use Rattle.borsh_json.specs.Integers.{IsEncoded}
 use Rattle.borsh_json.specs.Leaves.{Adds, HasSize, IsOpenedAs, IsWritten, RefusesLeaf, WritesHex, WritesLeaf}
 use Rattle.borsh_json.specs.NoJson.{IsNoJson}
-use Rattle.borsh_json.specs.Places.{IsInfinity, IsKindOf}
+use Rattle.borsh_json.specs.Places.{IsKindOf}
 use Rattle.borsh_json.specs.Represents.{SaysFirst, HaveBytes, next_part}
-use Rattle.borsh_json.specs.Table.{Kind, no_bytes, truth, whole, float, raw, utf8, byte_list, list, row, inner, fields, optional, variants, entries, a_text, some_bytes, an_object, some_elements, nullable, by_name, number_types, number_kind, primitive_kind, DefinedKind, HasKind, InRange, IsHex, IsNoNan, IsNumber, Part, Says}
+use Rattle.borsh_json.specs.Table.{Kind, no_bytes, truth, whole, float, float_size, raw, utf8, byte_list, list, row, inner, fields, optional, variants, entries, a_text, some_bytes, an_object, some_elements, nullable, by_name, number_types, number_kind, primitive_kind, DefinedKind, HasKind, InRange, IsFloat, IsHex, IsNumber, Part, Says}
+use Rattle.borsh_json.specs.Floats.{IsNan}
+use Rattle.borsh_json.proofs.FloatLaws.{format_one}
 use Rattle.borsh_json.proofs.ReaderLaws.{uncons}
 use Rattle.borsh_json.proofs.RepresentsLaws.{kind_one}
 
@@ -113,8 +116,8 @@ number_sized (t ∷ ts) x n h = sized_if (bytes_eq x t.0 && (t.1 == n)) (whole t
 pub primitive_sized : (x : List ℕ) (n : ℕ) → HasSize (primitive_kind x n) n
 primitive_sized x n =
     let others = number_sized number_types x n (omega arith) in
-    let doubles = sized_if (bytes_eq x (codes "f64") && (n == 8)) (float 8 0x7ff0000000000000) (number_kind number_types x n) n (λ e. sym (same_size (bytes_eq x (codes "f64")) n 8 e)) others in
-    let floats = sized_if (bytes_eq x (codes "f32") && (n == 4)) (float 4 0x7f800000) _ n (λ e. sym (same_size (bytes_eq x (codes "f32")) n 4 e)) doubles in
+    let doubles = sized_if (bytes_eq x (codes "f64") && (n == 8)) (float binary64) (number_kind number_types x n) n (λ e. sym (same_size (bytes_eq x (codes "f64")) n 8 e)) others in
+    let floats = sized_if (bytes_eq x (codes "f32") && (n == 4)) (float binary32) _ n (λ e. sym (same_size (bytes_eq x (codes "f32")) n 4 e)) doubles in
     sized_if (bytes_eq x (codes "bool") && (n == 1)) truth _ n (λ e. sym (same_size (bytes_eq x (codes "bool")) n 1 e)) floats
 
 -- ---- tokens
@@ -151,6 +154,15 @@ module _ (F : List ℕ → Option Form) (x own : List ℕ) (kind : Kind) (h : Ha
   pub no_leaf : ((j : Json) (a : List ℕ) (qs : List Part) → Says F kind j a qs → length own ≡ length a) → ((j : Json) (qs : List Part) → Says F kind j own qs → ⊥) → IsNoJson F x own
   no_leaf l d = no_json (λ j a qs bs cs s e ps r. d j qs (subst (λ a. Says F kind j a qs) (sym (front_one own bs a cs e (l j a qs s)).0) s))
 
+-- how many bytes a float has, and that they are no NaN's
+pub float_length : (f : Format) (v : FloatValue) (a : List ℕ) → IsFloat f v a → length a ≡ float_size f
+float_length f v a p = ap (λ l. length l) p.1 ∙ tag_length (float_size f) (pos p.0)
+
+nan_or_float : (f : Format) (v : FloatValue) (a : List ℕ) → IsNan f a → IsFloat f v a → ⊥
+nan_or_float f v a n p =
+    let e = tag_one (float_size f) n.0 p.0 n.2 p.2 (sym n.1 ∙ p.1) in
+    true≢false (sym n.3 ∙ ap (λ b. is_nan (from_bits f b)) e ∙ ap (λ v. is_nan v) p.3 ∙ p.4)
+
 module _ (F : List ℕ → Option Form) (x own : List ℕ) where
   pub no_bool : HasKind F x truth → length own ≡ 1 → (own ≡ 0 ∷ [] → ⊥) → (own ≡ 1 ∷ [] → ⊥) → IsNoJson F x own
   no_bool h l p q = no_leaf F x own truth h (λ j a qs s. l ∙ sym (ap (λ l. length l) s.2)) (λ j qs s. each s.0 s.2)
@@ -162,8 +174,8 @@ module _ (F : List ℕ → Option Form) (x own : List ℕ) where
   pub no_zero : (n : ℕ) (signed non_zero : Bool) → HasKind F x (whole n signed non_zero) → non_zero ≡ true → HasSize (whole n signed non_zero) (length own) → own ≡ tag n (pos 0) → IsNoJson F x own
   no_zero n signed non_zero h t l e = no_leaf F x own (whole n signed non_zero) h (λ j a qs s. let w = s.2 in l.0 ∙ sym (ap (λ l. length l) w.2 ∙ tag_length n w.0)) (λ j qs s. let w = s.2 in w.4 t (not_zero n signed w.0 l.1 w.3 (sym w.2 ∙ e)))
 
-  pub no_nan : (n infinity : ℕ) → HasKind F x (float n infinity) → length own ≡ n → (IsNoNan n infinity own → ⊥) → IsNoJson F x own
-  no_nan n infinity h l f = no_leaf F x own (float n infinity) h (λ j a qs s. l ∙ sym s.1) (λ j qs s. f s.2)
+  pub no_nan : (f : Format) → HasKind F x (float f) → length own ≡ float_size f → IsNan f own → IsNoJson F x own
+  no_nan f h l n = no_leaf F x own (float f) h (λ j a qs s. l ∙ sym (float_length f s.0 a s.2)) (λ j qs s. nan_or_float f s.0 own n s.2)
 
   pub says_bool : (b : Bool) → HasKind F x truth → own ≡ (if b then 1 else 0) ∷ [] → SaysFirst F x (boolean b) own []
   says_bool b h e = (truth, h, (b, refl, e, refl))
@@ -195,7 +207,7 @@ abbrev pub IsBare : Kind → Type 0
 IsBare no_bytes = ⊥
 IsBare truth = ⊤
 IsBare (whole n signed non_zero) = ⊤
-IsBare (float n infinity) = ⊤
+IsBare (float g) = ⊤
 IsBare (raw n) = ⊤
 IsBare (utf8 l) = ⊥
 IsBare (byte_list l e) = ⊥
@@ -242,12 +254,6 @@ raw_kind (Optional at) k e f g h = absurd e
 raw_kind (Choice w vs) k e f g h = absurd e
 raw_kind (Repeated name) k e f g h = absurd e
 
-infinity_one : (n a b : ℕ) → IsInfinity n a → IsInfinity n b → a ≡ b
-infinity_one n a b (inl p) (inl q) = p.1 ∙ sym q.1
-infinity_one n a b (inl p) (inr q) = let e = p.0 in let f = q.0 in absurd (omega arith)
-infinity_one n a b (inr p) (inl q) = let e = p.0 in let f = q.0 in absurd (omega arith)
-infinity_one n a b (inr p) (inr q) = p.1 ∙ sym q.1
-
 module _ (F : List ℕ → Option Form) (ns : List Named) (x : List ℕ) where
   -- the definition tells the kind
   pub defined : (f : Form) (k : Kind) → F x ≡ Some f → (k ≡ no_bytes → ⊥) → HasKind F x k → DefinedKind F x f k
@@ -263,7 +269,7 @@ module _ (F : List ℕ → Option Form) (ns : List Named) (x : List ℕ) where
   found_kind f Truth k e h = subst (λ k. HasKind F x k) (sym e) h
   found_kind f Text k e h = absurd e
   found_kind f (Bytes n) k e h = subst (λ k. HasKind F x k) (sym e) h
-  found_kind f (Float n) k e h = subst (λ k. HasKind F x k) (ap (λ b. float n b) (infinity_one n h.0 e.0 h.1 e.1) ∙ sym e.2) h.2
+  found_kind f (Float n) k e h = subst (λ k. HasKind F x k) (ap (λ g. float g) (format_one n h.0 e.0 h.1 e.1) ∙ sym e.2) h.2
   found_kind f (ByteList es) k e h = absurd e
   found_kind f (Numbers es) k e h = absurd e
   found_kind f (ElementList es) k e h = absurd e

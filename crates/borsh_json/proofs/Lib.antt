@@ -1,4 +1,5 @@
 pub mod FormsLaws
+pub mod FloatLaws
 pub mod RepresentsLaws
 pub mod IntegerLaws
 pub mod DecimalLaws
@@ -35,7 +36,7 @@ pub mod MapLaws
 pub mod TextLaws
 pub mod KeyJson
 pub mod NumberTexts
-pub mod LaidLaws
+pub mod PlanLaws
 pub mod FieldLaws
 pub mod LineLaws
 pub mod LeafLaws

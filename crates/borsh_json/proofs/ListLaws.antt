@@ -13,7 +13,7 @@ use Rattle.borsh_walks.specs.Definitions.{shape_of}
 use Rattle.borsh_walks.specs.declared.definition.Definition.{Definition}
 use Rattle.borsh_values.specs.Nodes.{AreElementsOf, Opens, OpensElements, packed_size}
 use Rattle.borsh_values.specs.Walks.{IsCounted}
-use Rattle.borsh_values.specs.declared.layout.Named.{Named}
+use Rattle.borsh_plan.specs.declared.named.Named.{Named}
 use Rattle.borsh_json.specs.declared.error.WriteError.{WriteError}
 use Rattle.borsh_json.specs.declared.error.WriteError.TheVariants.{OutOfMemory, Refused, Element}
 use Rattle.borsh_json.specs.declared.kinds.Elements.{Elements}
@@ -27,7 +27,7 @@ use Rattle.borsh_json.specs.Represents.{SaysFirst, HaveBytes, next_part}
 use Rattle.borsh_json.specs.Table.{Lengths, Kind, no_bytes, truth, whole, float, raw, utf8, byte_list, list, row, inner, fields, optional, variants, entries, a_text, some_bytes, an_object, some_elements, nullable, by_name, primitive_kind, DefinedKind, HasKind, IsHex, IsPrefixed, Part, Says, list_parts}
 use Rattle.borsh_json.proofs.FormsLaws.{shape_is}
 use Rattle.borsh_json.proofs.FoundLaws.{full_primitive}
-use Rattle.borsh_json.proofs.LeafLaws.{defined, front_one, no_json, primitive_sized, tag_length, tag_one}
+use Rattle.borsh_json.proofs.LeafLaws.{defined, float_length, front_one, no_json, primitive_sized, tag_length, tag_one}
 use Rattle.borsh_json.proofs.ReaderLaws.{uncons}
 use Rattle.borsh_json.proofs.RepresentsLaws.{kind_one}
 
@@ -73,7 +73,7 @@ abbrev pub IsListKind : Kind → Type 0
 IsListKind no_bytes = ⊥
 IsListKind truth = ⊥
 IsListKind (whole n signed non_zero) = ⊥
-IsListKind (float n infinity) = ⊥
+IsListKind (float g) = ⊥
 IsListKind (raw n) = ⊥
 IsListKind (utf8 l) = ⊤
 IsListKind (byte_list l e) = ⊤
@@ -89,7 +89,7 @@ no_size : (k : Kind) (n : ℕ) → HasSize k n → IsListKind k → ⊥
 no_size no_bytes n h i = i
 no_size truth n h i = i
 no_size (whole m signed non_zero) n h i = i
-no_size (float m infinity) n h i = i
+no_size (float g) n h i = i
 no_size (raw m) n h i = i
 no_size (utf8 l) n h i = h
 no_size (byte_list l e) n h i = h
@@ -107,7 +107,7 @@ module _ (F : List ℕ → Option Form) (x own es : List ℕ) (parts : List (Lis
   HasElements no_bytes e = ⊥
   HasElements truth e = ⊥
   HasElements (whole n signed non_zero) e = ⊥
-  HasElements (float n infinity) e = ⊥
+  HasElements (float g) e = ⊥
   HasElements (raw n) e = ⊥
   HasElements (utf8 l) e = IsByte F e
   HasElements (byte_list l d) e = IsByte F e
@@ -185,7 +185,7 @@ items_more F e k size h l j a qs s = sized k l (subst (λ k. Says F k j a qs) (k
     sized no_bytes l s = absurd l
     sized truth l s = (ap (λ l. length l) s.2 ∙ sym l, s.3)
     sized (whole n signed non_zero) l s = let w = s.2 in (ap (λ l. length l) w.2 ∙ tag_length n w.0 ∙ sym l.0, s.3)
-    sized (float n infinity) l s = (s.1 ∙ sym l, s.3)
+    sized (float g) l s = (float_length g s.0 a s.2 ∙ sym l, s.3)
     sized (raw n) l s = (s.1 ∙ sym l, s.2)
     sized (utf8 m) l s = absurd l
     sized (byte_list m d) l s = absurd l

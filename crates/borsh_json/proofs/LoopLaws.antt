@@ -7,7 +7,7 @@ use Rattle.std.specs.List.{IsDistinct}
 use Rattle.json.specs.Token.{Token}
 use Rattle.json.specs.Json.{Json, object, Items, no_items, item, Members}
 use Rattle.json.specs.Find.{BeginsWith, get_member}
-use Rattle.borsh_values.specs.declared.layout.Named.{Named}
+use Rattle.borsh_plan.specs.declared.named.Named.{Named}
 use Rattle.borsh_json.specs.declared.definitions.Known.{Known}
 use Rattle.borsh_json.specs.declared.error.ReadError.{ReadError}
 use Rattle.borsh_json.specs.declared.kinds.Entries.{Entries as FoundEntries}

@@ -16,7 +16,7 @@ use Rattle.json.specs.Token.{Token}
 use Rattle.json.specs.Json.{Json, object, Members, no_members, member}
 use Rattle.json.specs.Find.{BeginsWith, InMembers}
 use Rattle.borsh_walks.specs.Container.{tag}
-use Rattle.borsh_values.specs.declared.layout.Named.{Named}
+use Rattle.borsh_plan.specs.declared.named.Named.{Named}
 use Rattle.borsh_json.specs.declared.definitions.Known.{Known}
 use Rattle.borsh_json.specs.declared.error.ReadError.{ReadError}
 use Rattle.borsh_json.specs.declared.kinds.Entries.{Entries as FoundEntries}

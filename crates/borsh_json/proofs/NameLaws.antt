@@ -2,12 +2,13 @@
 use Rattle.std.proofs.Common.{◌≡◌, ◌⊎◌, inl, inr, ℕ, suc, zero, ◌<◌, List, [], ◌∷◌, Bool, true, false, Option, Some, None, refl, sym, ◌∙◌, ap, subst, arith, map, length}
 use Rattle.std.specs.Prelude.{◌==◌, ◌&&◌, ◌||◌, if◌then◌else◌, codes, not, option_map, ℤ}
 use Rattle.borsh_walks.specs.Container.{zeroed}
+use Rattle.std.specs.Float.{Format, binary32, binary64}
 use Rattle.std.specs.Str.{bytes_eq}
 use Rattle.std.specs.List.{AllByRecursion, IsDistinct}
 use Rattle.std.proofs.lemmas.Bool.{or_cases}
 use Rattle.std.proofs.lemmas.Bool.Decides.{nat_tests}
 use Rattle.std.proofs.lemmas.Slice.Eq.{bytes_eq-Decides}
-use Rattle.borsh_values.specs.declared.layout.Named.{Named}
+use Rattle.borsh_plan.specs.declared.named.Named.{Named}
 use Rattle.borsh_json.specs.declared.formats.Collection.{Collection}
 use Rattle.borsh_json.specs.declared.formats.Collection.TheVariants.{List as AList, Set, Map}
 use Rattle.borsh_values.specs.Nodes.{packed_size}
@@ -16,9 +17,9 @@ use Rattle.borsh_json.specs.declared.kinds.Kind.{Kind as Found}
 use Rattle.borsh_json.specs.declared.kinds.Kind.TheVariants.{Number as NumberKind, Bool as Truth, Text, Bytes, Float, ByteList, Numbers, List as ElementList, Map as Entries, Row, Newtype, Object, Optional, Choice, Repeated}
 use Rattle.borsh_json.specs.declared.numbers.Number.{Number}
 use Rattle.borsh_json.specs.Forms.{Form, primitive, sequence, tuple, newtype, unnamed, named, choice, HasNoBytes, IsByte, IsOption, IsMap, shape_of_form, shapes}
-use Rattle.borsh_json.specs.Table.{Lengths, IsString, Keys, texts, numbers, Kind, truth, whole, float, utf8, byte_list, list, fields, variants, optional, entries, inner, DefinedKind, number_types, number_kind, primitive_kind, AreKeys, SequenceKind, a_text, some_bytes, an_object, some_elements, nullable, by_name, HasKind, IsNullable, MayBeNull, without_bytes, an_option, in_newtype, Says}
+use Rattle.borsh_json.specs.Table.{Lengths, IsString, Keys, texts, numbers, Kind, truth, whole, float, float_size, utf8, byte_list, list, fields, variants, optional, entries, inner, DefinedKind, number_types, number_kind, primitive_kind, AreKeys, SequenceKind, a_text, some_bytes, an_object, some_elements, nullable, by_name, HasKind, IsNullable, MayBeNull, without_bytes, an_option, in_newtype, Says}
 use Rattle.borsh_json.specs.Ranks.{number_found}
-use Rattle.borsh_json.specs.Places.{IsAt, IsInfinity, IsKindOf, IsListOf, IsUnsayable, lengths_of}
+use Rattle.borsh_json.specs.Places.{IsAt, IsKindOf, IsListOf, IsUnsayable, lengths_of}
 use Rattle.borsh_json.specs.Found.{IsCollection, IsPrimitiveKind, IsRefusedList}
 use Rattle.borsh_json.proofs.FoundLaws.{full_primitive, full_list, byte_full, zero_key}
 use Rattle.borsh_json.proofs.RepresentsLaws.{byte_or_map, kind_one, map_one}
@@ -44,16 +45,16 @@ name_is x n e = (bytes_eq-Decides x n).0 e
 pub number_primitive : (x : List ℕ) (n m : ℕ) (s z : Bool) → number_kind number_types x n ≡ whole m s z → primitive_kind x n ≡ whole m s z
 number_primitive x n m s z e =
     if_not _ truth _ (λ t. (let g = subst (λ x. number_kind number_types x n ≡ whole m s z) (name_is x (codes "bool") (and_true (bytes_eq x (codes "bool")) (n == 1) t).0) e in cc))
-    ∙ if_not _ (float 4 0x7f800000) _ (λ t. (let g = subst (λ x. number_kind number_types x n ≡ whole m s z) (name_is x (codes "f32") (and_true (bytes_eq x (codes "f32")) (n == 4) t).0) e in cc))
-    ∙ if_not _ (float 8 0x7ff0000000000000) _ (λ t. (let g = subst (λ x. number_kind number_types x n ≡ whole m s z) (name_is x (codes "f64") (and_true (bytes_eq x (codes "f64")) (n == 8) t).0) e in cc))
+    ∙ if_not _ (float binary32) _ (λ t. (let g = subst (λ x. number_kind number_types x n ≡ whole m s z) (name_is x (codes "f32") (and_true (bytes_eq x (codes "f32")) (n == 4) t).0) e in cc))
+    ∙ if_not _ (float binary64) _ (λ t. (let g = subst (λ x. number_kind number_types x n ≡ whole m s z) (name_is x (codes "f64") (and_true (bytes_eq x (codes "f64")) (n == 8) t).0) e in cc))
     ∙ e
 
-pub float_primitive : (x : List ℕ) (n : ℕ) → ((bytes_eq x (codes "f32") && (n == 4)) || (bytes_eq x (codes "f64") && (n == 8))) ≡ true → (bits : ℕ) × IsInfinity n bits × (primitive_kind x n ≡ float n bits)
+pub float_primitive : (x : List ℕ) (n : ℕ) → ((bytes_eq x (codes "f32") && (n == 4)) || (bytes_eq x (codes "f64") && (n == 8))) ≡ true → (g : Format) × (n ≡ float_size g) × (primitive_kind x n ≡ float g)
 float_primitive x n e = elim (or_cases (bytes_eq x (codes "f32") && (n == 4)) (bytes_eq x (codes "f64") && (n == 8)) e) [
   | inl t ↦ (let a = and_true (bytes_eq x (codes "f32")) (n == 4) t in let q : n ≡ 4 = (let b = a.1 in grind (arith, nat_tests)) in
-      (0x7f800000, inl (q, refl), ap (λ x. primitive_kind x n) (name_is x (codes "f32") a.0) ∙ ap (λ n. primitive_kind (codes "f32") n) q ∙ ap (λ n. float n 0x7f800000) (sym q)))
+      (binary32, q, ap (λ x. primitive_kind x n) (name_is x (codes "f32") a.0) ∙ ap (λ n. primitive_kind (codes "f32") n) q))
   | inr t ↦ (let a = and_true (bytes_eq x (codes "f64")) (n == 8) t in let q : n ≡ 8 = (let b = a.1 in grind (arith, nat_tests)) in
-      (0x7ff0000000000000, inr (q, refl), ap (λ x. primitive_kind x n) (name_is x (codes "f64") a.0) ∙ ap (λ n. primitive_kind (codes "f64") n) q ∙ ap (λ n. float n 0x7ff0000000000000) (sym q)))
+      (binary64, q, ap (λ x. primitive_kind x n) (name_is x (codes "f64") a.0) ∙ ap (λ n. primitive_kind (codes "f64") n) q))
 ]
 
 -- a number has some bytes, as many as its definition
@@ -72,7 +73,7 @@ number_fits (t ∷ ts) x n h = fits_if n (bytes_eq x t.0 && (t.1 == n)) (whole t
 
 pub primitive_fits : (x : List ℕ) (n : ℕ) → Fits n (primitive_kind x n)
 primitive_fits x n =
-    fits_if n _ truth _ (λ b m s z e. cc) (fits_if n _ (float 4 0x7f800000) _ (λ b m s z e. cc) (fits_if n _ (float 8 0x7ff0000000000000) _ (λ b m s z e. cc) (number_fits number_types x n (omega arith))))
+    fits_if n _ truth _ (λ b m s z e. cc) (fits_if n _ (float binary32) _ (λ b m s z e. cc) (fits_if n _ (float binary64) _ (λ b m s z e. cc) (number_fits number_types x n (omega arith))))
 
 module _ (F : List ℕ → Option Form) where
   some_size : {x : List ℕ} (n : ℕ) → 0 < n → F x ≡ Some (primitive n) → HasNoBytes F x → ⊥

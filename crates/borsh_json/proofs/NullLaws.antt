@@ -20,7 +20,7 @@ module _ (F : List ℕ → Option Form) where
   null_says n x no_bytes own qs ps bs inner_null h s b = without_bytes (has_none h)
   null_says n x truth own qs ps bs inner_null h s b = let e = s.1 in cc
   null_says n x (whole m signed non_zero) own qs ps bs inner_null h s b = absurd (not_number m s.0 s.1)
-  null_says n x (float m infinity) own qs ps bs inner_null h s b = let e = s.0.1 in cc
+  null_says n x (float g) own qs ps bs inner_null h s b = let e = s.1 in cc
   null_says n x (raw m) own qs ps bs inner_null h s b = let e = s.0.1 in cc
   null_says n x (utf8 l) own qs ps bs inner_null h s b = let e = s.1 in cc
   null_says n x (byte_list l e) own qs ps bs inner_null h (inl s) b = let e = s.1.1 in cc

@@ -15,7 +15,7 @@ use Rattle.std.proofs.lemmas.Fmt.{decimal_digit, decimal_is_IsNumeral_wide}
 use Rattle.std.proofs.lemmas.Nat.{pow-add, pow_pos, div-add-mod', mod_below, mod-mul-add}
 use Rattle.std.proofs.Math.Nat.{pow-suc, pow-succ', pow-le-pow_right, div-lt_iff_lt-mul, div-div-eq-div-mul}
 use Rattle.borsh_walks.specs.Container.{tag, low_bytes}
-use Rattle.borsh_json.specs.Table.{InRange, IsWhole, IsNoNan}
+use Rattle.borsh_json.specs.Table.{InRange, IsWhole}
 use Rattle.borsh_json.specs.Ranks.{rank_of, HasRank}
 use Rattle.std.proofs.lemmas.Int.{ints, to_z-of_z}
 use Rattle.std.proofs.lemmas.Bool.{cases_lt}
@@ -67,53 +67,6 @@ complement (suc n) (suc k) m h l =
     let b : (256 ^ suc k - suc m) / 256 ≡ 256 ^ k - suc (m / 256) = omega (arith, p) in
     let r = complement n k (m / 256) (omega arith) (omega (arith, p)) in
     ap (λ x. x ∷ low_bytes n ((256 ^ suc k - suc m) / 256)) a ∙ ap (λ l. (255 - m % 256) ∷ l) (ap (λ x. low_bytes n x) b ∙ r)
-
--- numbers with the same lowest bytes
-mod_more : (p a : ℕ) → 0 < p → a % (256 * p) ≡ a / 256 % p * 256 + a % 256
-mod_more p a h =
-    let q = a / 256 in
-    let r = q % p * 256 + a % 256 in
-    let d : q / p * p + q % p ≡ q = div-add-mod' q p in
-    let l = mod_below q p h in
-    let e : a ≡ q / p * (256 * p) + r = omega (arith, d) in
-    ap (λ x. x % (256 * p)) e ∙ mod-mul-add (q / p) (256 * p) r (omega (arith, l))
-
-low_one : (n a b : ℕ) → low_bytes n a ≡ low_bytes n b → a % 256 ^ n ≡ b % 256 ^ n
-low_one zero a b e = omega arith
-low_one (suc n) a b e =
-    let h : a % 256 ≡ b % 256 = cc in
-    let t : low_bytes n (a / 256) ≡ low_bytes n (b / 256) = cc in
-    let r = low_one n (a / 256) (b / 256) t in
-    let p = pow-succ' 256 n in
-    let s : 0 < 256 ^ n = omega (arith, pow-le-pow_right {n = 256} (omega arith) {i = 0} {j = n} (omega arith)) in
-    ap (λ x. a % x) p ∙ mod_more (256 ^ n) a s ∙ ap (λ x. x * 256 + a % 256) r ∙ ap (λ x. b / 256 % 256 ^ n * 256 + x) h ∙ sym (mod_more (256 ^ n) b s) ∙ ap (λ x. b % x) (sym p)
-
-low_halves : (n a b : ℕ) → (k : ℕ) → 256 ^ n ≡ 2 * k → 0 < k → low_bytes n a ≡ low_bytes n b → a % k ≡ b % k
-low_halves n a b k p some e =
-    let q = low_one n a b e in
-    halved a k some ∙ ap (λ x. x % k) (ap (λ m. a % m) (sym p) ∙ q ∙ ap (λ m. b % m) p) ∙ sym (halved b k some)
-  where
-    halved : (a k : ℕ) → 0 < k → a % k ≡ a % (2 * k) % k
-    halved a k h =
-        let r = a % (2 * k) in
-        let d : a / (2 * k) * (2 * k) + r ≡ a = div-add-mod' a (2 * k) in
-        let e : r / k * k + r % k ≡ r = div-add-mod' r k in
-        let s : a ≡ (a / (2 * k) * 2 + r / k) * k + r % k = omega (arith, d, e) in
-        ap (λ x. x % k) s ∙ mod-mul-add (a / (2 * k) * 2 + r / k) k (r % k) (mod_below r k h)
-
--- whether the bits of a float, without its sign, are above those of infinity
-pub float_bits : (n k infinity v : ℕ) (bs : List ℕ) (r : Bool) → 256 ^ n ≡ 2 * k → 0 < k → bs ≡ low_bytes n v → r ≡ ltb infinity (v % k) → MatchBool r (IsNoNan n infinity bs → ⊥) (IsNoNan n infinity bs)
-float_bits n k infinity v bs r p some e q =
-    let half : 256 ^ n / 2 ≡ k = omega (arith, p) in
-    subst (λ b. MatchBool b (IsNoNan n infinity bs → ⊥) (IsNoNan n infinity bs)) (sym q) (cases (ltb infinity (v % k)) refl half)
-  where
-    cases : (b : Bool) → ltb infinity (v % k) ≡ b → 256 ^ n / 2 ≡ k → MatchBool b (IsNoNan n infinity bs → ⊥) (IsNoNan n infinity bs)
-    cases true t half = λ h.
-        let same = low_halves n h.0 v k p some (sym h.1 ∙ e) in
-        let l : h.0 % k ≤ infinity = subst (λ m. h.0 % m ≤ infinity) half h.2 in
-        let g : infinity < v % k = grind (arith, nat_tests) in
-        omega (arith, same, l, g)
-    cases false t half = (v, e, subst (λ m. v % m ≤ infinity) (sym half) (grind (arith, nat_tests)))
 
 -- those of a number of at most 8 bytes, and above them zeros
 zeros : (k : ℕ) → low_bytes k 0 ≡ replicate k 0

@@ -4,6 +4,7 @@ use Rattle.std.specs.Prelude.{Ok, String, Vec, ℤ, pos, slice_get, ◌-◌, ◌
 use Rattle.std.specs.Borrow.{Bor}
 use Rattle.std.specs.Global.{Global}
 use Rattle.std.specs.BTreeMap.{BTreeMap}
+use Rattle.std.specs.Float.{binary32, binary64}
 use Rattle.std.specs.Str.{bytes_eq}
 use Rattle.std.specs.List.{IsDistinct}
 use Rattle.json.specs.Token.{Token}
@@ -11,7 +12,7 @@ use Rattle.json.specs.Json.{Json, string, array, object, Items, Members, no_memb
 use Rattle.json.specs.Find.{InItems, Finds, as_str, as_array, get_member}
 use Rattle.borsh_walks.specs.Container.{tag, references, variant_names}
 use Rattle.borsh_walks.specs.Tables.{mark_of}
-use Rattle.borsh_values.specs.declared.layout.Named.{Named}
+use Rattle.borsh_plan.specs.declared.named.Named.{Named}
 use Rattle.borsh_json.specs.declared.definitions.Known.{Known}
 use Rattle.borsh_json.specs.declared.error.ReadError.{ReadError}
 use Rattle.borsh_json.specs.declared.position.Parts.TheVariants.{List as Elements, Row, Object}
@@ -100,8 +101,8 @@ number_fieldless (t ∷ ts) x n = fieldless_if (bytes_eq x t.0 && (t.1 == n)) (w
 
 primitive_fieldless : (x : List ℕ) (n : ℕ) → IsFieldless (primitive_kind x n)
 primitive_fieldless x n =
-    let doubles = fieldless_if (bytes_eq x (codes "f64") && (n == 8)) (float 8 0x7ff0000000000000) (number_kind number_types x n) ((λ fs e. cc), (λ w vs e. cc)) (number_fieldless number_types x n) in
-    let floats = fieldless_if (bytes_eq x (codes "f32") && (n == 4)) (float 4 0x7f800000) _ ((λ fs e. cc), (λ w vs e. cc)) doubles in
+    let doubles = fieldless_if (bytes_eq x (codes "f64") && (n == 8)) (float binary64) (number_kind number_types x n) ((λ fs e. cc), (λ w vs e. cc)) (number_fieldless number_types x n) in
+    let floats = fieldless_if (bytes_eq x (codes "f32") && (n == 4)) (float binary32) _ ((λ fs e. cc), (λ w vs e. cc)) doubles in
     fieldless_if (bytes_eq x (codes "bool") && (n == 1)) truth _ ((λ fs e. cc), (λ w vs e. cc)) floats
 
 named_is : (F : List ℕ → Option Form) (x : List ℕ) (d : Form) (kind : Kind) (fs : List (List ℕ × List ℕ)) → kind ≡ fields fs → DefinedKind F x d kind → d ≡ named fs

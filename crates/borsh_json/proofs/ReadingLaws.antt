@@ -6,7 +6,7 @@ use Rattle.std.specs.Borrow.{Bor}
 use Rattle.json.specs.Token.{Token}
 use Rattle.json.specs.Json.{Json, no_items, item}
 use Rattle.json.specs.Find.{BeginsWith}
-use Rattle.borsh_values.specs.declared.layout.Named.{Named}
+use Rattle.borsh_plan.specs.declared.named.Named.{Named}
 use Rattle.borsh_json.specs.declared.error.PartError.{PartError}
 use Rattle.borsh_json.specs.declared.error.PartError.TheVariants.{OutOfMemory as NoMemory, Refused as RefusedPart}
 use Rattle.borsh_json.specs.declared.error.ReadError.{ReadError}
@@ -364,7 +364,7 @@ module _ (F : List ℕ → Option Form) (ns : List Named) (orders : List Known) 
     failed NotBool w d = absurd w
     failed NotUtf8 w d = absurd w
     failed Zero w d = absurd w
-    failed NotNumber w d = (tt, (n, before, x, i, at, w, d), reached_none F root j at d)
+    failed NotNumber w d = absurd w
     failed Descends w d = absurd w
     failed OtherNodes w d = (tt, (n, before, x, i, at, w, d), reached_none F root j at d)
     failed (Expected wanted) w d = (tt, (n, before, x, i, at, w, d), reached_none F root j at d)

@@ -1,6 +1,7 @@
 -- A JSON value represents at most one byte string.
 use Rattle.std.proofs.Common.{◌≡◌, ◌⊎◌, inl, inr, ℕ, suc, zero, ◌<◌, ◌≤◌, ◌^◌, List, [], ◌∷◌, ◌++◌, length, map, Bool, true, false, drop, get_or, Option, Some, refl, sym, ◌∙◌, ap, subst, arith}
 use Rattle.std.specs.Prelude.{ℤ, pos, negsuc, ◌==◌, ◌&&◌, if◌then◌else◌, codes}
+use Rattle.std.specs.Float.{binary32, binary64}
 use Rattle.std.specs.Str.{bytes_eq}
 use Rattle.std.specs.Str.Parse.{AllDigits, digits_value, signed_digits_value}
 use Rattle.std.specs.Fmt.{decimal, signed_decimal}
@@ -23,6 +24,7 @@ use Rattle.borsh_walks.specs.Container.{tag}
 use Rattle.borsh_json.specs.Forms.{Form, primitive, sequence, tuple, newtype, unnamed, named, choice, HasNoBytes, IsByte, IsOption, IsMap}
 use Rattle.borsh_json.specs.Table.{Lengths, Keys, texts, numbers, Kind, no_bytes, truth, whole, float, raw, utf8, byte_list, list, row, inner, fields, optional, variants, entries, number_types, number_kind, primitive_kind, AreKeys, SequenceKind, a_text, some_bytes, an_object, some_elements, ChoiceKind, nullable, by_name, DefinedKind, HasKind, InRange, IsWhole, IsNumber, IsHex, IsPrefixed, Part, row_parts, list_parts, field_parts, IsVariant, this, that, Entry, entries_of, key_order, entry_parts, IsArray, Says}
 use Rattle.borsh_json.specs.Represents.{HaveBytes, none_left, next_part, TextSays}
+use Rattle.borsh_json.proofs.FloatLaws.{float_one}
 
 -- ---- the ascending arrangement of a map's entries is the only one
 abbrev pub IsAmong : {X : Type 0} → X → List X → Type 0
@@ -139,8 +141,8 @@ number_small (t ∷ ts) x n h = small_if (bytes_eq x t.0 && (t.1 == n)) (whole t
 pub primitive_small : (x : List ℕ) (n : ℕ) → IsSmall (primitive_kind x n)
 primitive_small x n =
     let others = number_small number_types x n (omega arith) in
-    let doubles = small_if (bytes_eq x (codes "f64") && (n == 8)) (float 8 0x7ff0000000000000) (number_kind number_types x n) (λ m s z e. cc) others in
-    let floats = small_if (bytes_eq x (codes "f32") && (n == 4)) (float 4 0x7f800000) _ (λ m s z e. cc) doubles in
+    let doubles = small_if (bytes_eq x (codes "f64") && (n == 8)) (float binary64) (number_kind number_types x n) (λ m s z e. cc) others in
+    let floats = small_if (bytes_eq x (codes "f32") && (n == 4)) (float binary32) _ (λ m s z e. cc) doubles in
     small_if (bytes_eq x (codes "bool") && (n == 1)) truth _ (λ m s z e. cc) floats
 
 -- ---- what JSON of a kind says
@@ -207,7 +209,10 @@ module _ (F : List ℕ → Option Form) where
   says_one (whole n s z) j {a = a} h p q =
       let e = number_one n p.0 q.0 j p.1 q.1 in
       (whole_one n s z (h n s z refl) (subst (λ t. IsWhole n s z t a) e p.2) q.2, p.3 ∙ sym q.3)
-  says_one (float n i) j h p q = (hex_one p.0 q.0, p.3 ∙ sym q.3)
+  says_one (float f) j h p q =
+      let e : Some p.0 ≡ Some q.0 = sym p.1 ∙ q.1 in
+      let d : p.0 ≡ q.0 = cc in
+      (float_one f d p.2 q.2, p.3 ∙ sym q.3)
   says_one (raw n) j h p q = (hex_one p.0 q.0, p.2 ∙ sym q.2)
   says_one (utf8 l) j h p q =
       let e : string p.0 ≡ string q.0 = sym p.1 ∙ q.1 in

@@ -10,8 +10,9 @@ use Rattle.borsh_walks.specs.declared.definition.Fields.TheVariants.{NamedFields
 use Rattle.borsh_walks.specs.declared.definition.LengthRange.{LengthRange}
 use Rattle.std.specs.Borrow.{Bor}
 use Rattle.std.specs.BTreeMap.{get_by_text}
-use Rattle.borsh_walks.specs.Definitions.{definitions_in, shape_of}
-use Rattle.borsh_values.specs.declared.layout.Layout.{Layout}
+use Rattle.borsh_walks.specs.Definitions.{shape_of}
+use Rattle.borsh_plan.specs.declared.plan.Plan.{Plan}
+use Rattle.borsh_plan.specs.Plan.{definitions_of, map_of}
 use Rattle.borsh_values.specs.Nodes.{AreElementsOf, IsCountOf, IsVariantOf, Opens}
 use Rattle.borsh_values.specs.Tags.{IsVariantIndex}
 use Rattle.borsh_values.specs.declared.nodes.Node.{Node}
@@ -24,7 +25,7 @@ use Rattle.borsh_json.specs.declared.error.Refusal.TheVariants.{TooDeep, Repeate
 use Rattle.borsh_json.specs.Errors.{IsNoJsonReason, IsNoRowsReason, IsTooDeep, IsUnwritable}
 use Rattle.borsh_json.specs.Forms.{Form, sequence, form_of, form_of_parts, form_of_struct}
 use Rattle.borsh_json.specs.Places.{lengths_of}
-use Rattle.borsh_json.specs.Rows.{AreRows, IsNextRow, IsPrimitiveText, IsQuoted, IsText, IsValueText, counted, rows_layout}
+use Rattle.borsh_json.specs.Rows.{AreRows, IsNextRow, IsPrimitiveText, IsQuoted, IsText, IsValueText, counted, rows_plan}
 use Rattle.borsh_json.specs.Table.{Lengths, any_length, primitive_kind}
 use Rattle.borsh_json.specs.declared.rows.Rows.{Rows}
 use Rattle.borsh_json.proofs.FormsLaws.{twice}
@@ -58,7 +59,7 @@ no_json C root bytes (Refused p r) h = (h.0, deep_reason r h.1)
 -- so far no row is given
 pub record NoneYet (old now : Rows) : Type 0 where
   pub rows : AreRows now
-  pub layout : rows_layout now ≡ rows_layout old
+  pub plan : rows_plan now ≡ rows_plan old
   pub bytes : bytes_left now.nodes ≡ bytes_left old.nodes
   pub offset : next_offset now.nodes ≡ next_offset old.nodes
 
@@ -67,10 +68,10 @@ no_bytes [] h = refl
 no_bytes (b ∷ bs) h = absurd (omega arith)
 
 -- a node without bytes is passed
-pub passed : (old now new : Rows) (n : Node) → NoneYet old now → AreRows new → rows_layout new ≡ rows_layout now → GivesNode now.nodes new.nodes n → length n.bytes.now ≡ 0 → NoneYet old new
+pub passed : (old now new : Rows) (n : Node) → NoneYet old now → AreRows new → rows_plan new ≡ rows_plan now → GivesNode now.nodes new.nodes n → length n.bytes.now ≡ 0 → NoneYet old new
 passed old now new n h rows same g none =
     let e : bytes_left now.nodes ≡ bytes_left new.nodes = g.bytes ∙ ap (λ l. l ++ bytes_left new.nodes) (no_bytes n.bytes.now none) in
-    record { rows = rows; layout = same ∙ h.layout; bytes = sym e ∙ h.bytes; offset = g.next ∙ ap (λ k. next_offset now.nodes + k) none ∙ omega arith ∙ h.offset }
+    record { rows = rows; plan = same ∙ h.plan; bytes = sym e ∙ h.bytes; offset = g.next ∙ ap (λ k. next_offset now.nodes + k) none ∙ omega arith ∙ h.offset }
 
 -- one with bytes is a row
 pub given : (old now new : Rows) (n : Node) → NoneYet old now → GivesNode now.nodes new.nodes n → (length n.bytes.now ≡ 0 → ⊥) → IsNextRow old new n
@@ -79,9 +80,9 @@ given old now new n h g some = record {
   bytes = sym h.bytes ∙ g.bytes;
   offset = g.offset ∙ h.offset;
   next = g.next ∙ ap (λ k. k + length n.bytes.now) h.offset;
-  defined = subst (λ (l : Bor Layout). get_by_text l.now.map.now n.name.now ≡ Some n.definition.now) h.layout g.defined;
+  defined = subst (λ (l : Bor Plan). get_by_text (map_of l.now) n.name.now ≡ Some n.definition.now) h.plan g.defined;
   parts = g.parts;
-  opens = subst (λ (l : Bor Layout). Opens (definitions_in l.now.map.now) (shape_of n.definition.now) n.bytes.now g.parts) h.layout g.opens;
+  opens = subst (λ (l : Bor Plan). Opens (definitions_of l.now) (shape_of n.definition.now) n.bytes.now g.parts) h.plan g.opens;
 }
 
 module _ {E : Type 0} (F : List ℕ → Option Form) (x own : List ℕ) (d : Definition) where

@@ -2,6 +2,7 @@
 use Rattle.std.proofs.Common.{◌≡◌, ◌⊎◌, inl, inr, ℕ, suc, ◌<◌, ◌≤◌, ◌^◌, List, [], ◌∷◌, ◌++◌, length, map, Bool, true, false, get_or, Option, Some, refl, sym, ◌∙◌, ap, subst, arith, append_assoc, append-nil}
 use Rattle.std.specs.Prelude.{ℤ, pos, codes, ◌==◌, ◌&&◌, if◌then◌else◌, All}
 use Rattle.std.specs.Ordering.{int_cmp}
+use Rattle.std.specs.Float.{binary32, binary64}
 use Rattle.std.specs.Str.{bytes_eq}
 use Rattle.std.specs.Cmp.Lexicographic.{slice_cmp}
 use Rattle.std.specs.declared.cmp.Ordering.{Ordering}
@@ -46,8 +47,8 @@ numbers_not_truth (t ∷ ts) x n = one_if n (bytes_eq x t.0 && (t.1 == n)) (whol
 
 truth_one : (x : List ℕ) (n : ℕ) → primitive_kind x n ≡ truth → n ≡ 1
 truth_one x n =
-    let doubles = one_if n (bytes_eq x (codes "f64") && (n == 8)) (float 8 0x7ff0000000000000) (number_kind number_types x n) (λ b e. cc) (numbers_not_truth number_types x n) in
-    let floats = one_if n (bytes_eq x (codes "f32") && (n == 4)) (float 4 0x7f800000) _ (λ b e. cc) doubles in
+    let doubles = one_if n (bytes_eq x (codes "f64") && (n == 8)) (float binary64) (number_kind number_types x n) (λ b e. cc) (numbers_not_truth number_types x n) in
+    let floats = one_if n (bytes_eq x (codes "f32") && (n == 4)) (float binary32) _ (λ b e. cc) doubles in
     one_if n (bytes_eq x (codes "bool") && (n == 1)) truth _ (λ b e. tested (bytes_eq x (codes "bool")) n b) floats
 
 bit : (b : Bool) → (m : ℕ) × (m < 256 ^ 1) × ((if b then 1 else 0) ∷ [] ≡ tag 1 (pos m))

@@ -5,8 +5,9 @@ use Rattle.std.specs.Borrow.{Bor}
 use Rattle.std.proofs.lemmas.Bool.{cases_eq}
 use Rattle.std.proofs.lemmas.List.{length-set, reverse-append}
 use Rattle.borsh_walks.specs.Container.{IsIn, first, later}
-use Rattle.borsh_values.specs.declared.layout.Layout.{Layout}
-use Rattle.borsh_values.specs.declared.layout.Named.{Named}
+use Rattle.borsh_plan.specs.declared.plan.Plan.{Plan}
+use Rattle.borsh_plan.specs.declared.named.Named.{Named}
+use Rattle.borsh_plan.specs.Plan.{map_of, names_of as plan_names}
 use Rattle.borsh_json.specs.declared.definitions.Definitions.{Definitions}
 use Rattle.borsh_json.specs.declared.definitions.Known.{Known}
 use Rattle.borsh_json.specs.declared.definitions.Known.TheVariants.{Nothing, Order as KnownOrder}
@@ -152,26 +153,26 @@ entry_there orders ns at x known len a is =
     let r = some_there orders at (let h = place_below ns at x a in omega (arith, h, len)) in
     r.1 ∙ ap (λ v. Some v) (sym (is r.0 r.1))
 
--- ---- the same layout has the same names
-pub same_names : (P : (List ℕ → Option Form) → List Named → Type 0) (d e : Definitions) → d.layout ≡ e.layout → P (forms_of d) (names_of d) → P (forms_of e) (names_of e)
-same_names P d e p h = subst (λ (l : Bor Layout). P (forms_in l.now.map.now) l.now.names.items) p h
+-- ---- the same plan has the same names
+pub same_names : (P : (List ℕ → Option Form) → List Named → Type 0) (d e : Definitions) → d.plan ≡ e.plan → P (forms_of d) (names_of d) → P (forms_of e) (names_of e)
+same_names P d e p h = subst (λ (l : Bor Plan). P (forms_in (map_of l.now)) (plan_names l.now)) p h
 
-pub layout_length : (d e : Definitions) → d.layout ≡ e.layout → length (names_of d) ≡ length (names_of e)
-layout_length d e p = ap (λ (l : Bor Layout). length l.now.names.items) p
+pub layout_length : (d e : Definitions) → d.plan ≡ e.plan → length (names_of d) ≡ length (names_of e)
+layout_length d e p = ap (λ (l : Bor Plan). length (plan_names l.now)) p
 
-pub search_at : (d e : Definitions) (orders : List Known) (es : List Open) (k : ℕ) → d.layout ≡ e.layout → SearchesAt d orders es k → SearchesAt e orders es k
+pub search_at : (d e : Definitions) (orders : List Known) (es : List Open) (k : ℕ) → d.plan ≡ e.plan → SearchesAt d orders es k → SearchesAt e orders es k
 search_at d e orders es k p s = same_names (λ F ns. AreNoneBut F ns orders (reverse es) × LeadTo F ns (reverse es) k) d e p s
 
-pub search_on : (d e : Definitions) (orders : List Known) (es : List Open) → d.layout ≡ e.layout → SearchesOn d orders es → SearchesOn e orders es
+pub search_on : (d e : Definitions) (orders : List Known) (es : List Open) → d.plan ≡ e.plan → SearchesOn d orders es → SearchesOn e orders es
 search_on d e orders es p s = same_names (λ F ns. AreNoneBut F ns orders (reverse es) × AreLinked F ns (reverse es)) d e p s
 
-pub none_at : (d e : Definitions) (orders : List Known) → d.layout ≡ e.layout → AreNone (forms_of d) (names_of d) orders → AreNone (forms_of e) (names_of e) orders
+pub none_at : (d e : Definitions) (orders : List Known) → d.plan ≡ e.plan → AreNone (forms_of d) (names_of d) orders → AreNone (forms_of e) (names_of e) orders
 none_at d e orders p s = same_names (λ F ns. AreNone F ns orders) d e p s
 
-pub all_at : (d e : Definitions) (orders : List Known) → d.layout ≡ e.layout → KnowsNoneOfAll d orders → KnowsNoneOfAll e orders
+pub all_at : (d e : Definitions) (orders : List Known) → d.plan ≡ e.plan → KnowsNoneOfAll d orders → KnowsNoneOfAll e orders
 all_at d e orders p s = same_names (λ F ns. (length orders ≡ length ns) × AreNone F ns orders) d e p s
 
-pub some_at : (d e : Definitions) (orders : List Known) → d.layout ≡ e.layout → KnowsNone d orders → KnowsNone e orders
+pub some_at : (d e : Definitions) (orders : List Known) → d.plan ≡ e.plan → KnowsNone d orders → KnowsNone e orders
 some_at d e orders p s = same_names (λ F ns. ((length orders ≡ 0) ⊎ (length orders ≡ length ns)) × AreNone F ns orders) d e p s
 
 module _ (d : Definitions) (orders : List Known) where

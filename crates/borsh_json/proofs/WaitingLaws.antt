@@ -3,33 +3,24 @@ use Rattle.std.proofs.Common.{◌≡◌, ℕ, ◌+◌, List, [], ◌∷◌, ◌+
 use Rattle.std.specs.Prelude.{slice_get}
 use Rattle.std.specs.Borrow.{Bor}
 use Rattle.std.proofs.lemmas.List.{length-set}
-use Rattle.borsh_values.specs.declared.layout.Layout.{Layout}
-use Rattle.borsh_values.specs.Free.{KnowsSizes}
-use Rattle.borsh_values.specs.Layouts.{IsLaidOut}
+use Rattle.borsh_plan.specs.declared.plan.Plan.{Plan}
+use Rattle.borsh_plan.specs.Plan.{map_of, names_of as plan_names}
+use Rattle.borsh_plan.proofs.Laws.{back}
 use Rattle.borsh_json.specs.declared.definitions.Definitions.{Definitions}
 use Rattle.borsh_json.specs.declared.definitions.Known.{Known}
 use Rattle.borsh_json.specs.declared.definitions.Known.TheVariants.{Nothing, Order as KnownOrder}
 use Rattle.borsh_json.specs.declared.order.Ordered.{Ordered}
 use Rattle.borsh_json.specs.Forms.{forms_in}
 use Rattle.borsh_json.specs.Found.{forms_of, names_of}
-use Rattle.borsh_json.specs.Known.{IsKnown}
 use Rattle.borsh_json.specs.Ordered.{Order, needs}
 use Rattle.borsh_json.specs.Orders.{FindsOrder, HasFound, KeepsOrders, AreOrders, IsOrderOf, IsNeeded, Open, AreOpenIn, AwaitsOrder, KnowsMore}
-use Rattle.borsh_json.specs.Places.{IsAt, AreKinds}
+use Rattle.borsh_json.specs.Places.{IsAt}
 use Rattle.borsh_json.proofs.OrderedLaws.{in_range, unknown_orders, found_orders, last_open, more_open, part_open}
 
--- the same layout and kinds are known
-pub known_alike : (d e : Definitions) → e.layout ≡ d.layout → e.kinds ≡ d.kinds → IsKnown d → IsKnown e
-known_alike d e p q k = record {
-  laid_out = subst (λ (l : Bor Layout). IsLaidOut l.now) (sym p) k.laid_out;
-  sizes = subst (λ (l : Bor Layout). KnowsSizes l.now) (sym p) k.sizes;
-  kinds = subst (λ ks. AreKinds (forms_in e.layout.now.map.now) e.layout.now.names.items ks.items) (sym q) (subst (λ (l : Bor Layout). AreKinds (forms_in l.now.map.now) l.now.names.items d.kinds.items) (sym p) k.kinds);
-}
-
 -- a name has one place
-pub one_place : (d : Definitions) → IsKnown d → (p : List ℕ) (i j : ℕ) → IsAt (names_of d) i p → IsAt (names_of d) j p → i ≡ j
-one_place d k p i j a b =
-    let e : Some i ≡ Some j = sym (k.laid_out.index.back p i a) ∙ k.laid_out.index.back p j b in
+pub one_place : (d : Definitions) (p : List ℕ) (i j : ℕ) → IsAt (names_of d) i p → IsAt (names_of d) j p → i ≡ j
+one_place d p i j a b =
+    let e : Some i ≡ Some j = sym (back d.plan.now p i a) ∙ back d.plan.now p j b in
     cc
 
 module _ (d : Definitions) (orders : List Known) where
@@ -41,11 +32,11 @@ module _ (d : Definitions) (orders : List Known) where
       ((n.0, n.2), λ later keep len f. more_open (forms_of d) (names_of d) later more es (at, found, index + 1) m (part_open (forms_of d) (names_of d) orders later at index k found n.0 l.0 n.1 n.2 keep len f) (λ last keeps lens g. l.1 last (λ k z. keeps k (keep k z)) (lens ∙ len) g))
 
   -- the last open name needs no further one
-  pub last_found : IsKnown d → AreOrders (forms_of d) (names_of d) orders → (all es : List Open) (at index : ℕ) (found : Ordered) (result : Option ℕ) (new : List Known) → all ≡ es ++ (at, found, index) ∷ [] → AreOpenIn d orders all → ((x : List ℕ) (o : Order) → IsOrderOf (forms_of d) (names_of d) x found o → IsNeeded (names_of d) (needs o) index result) → result ≡ None → new ≡ set orders at (KnownOrder (Some found)) → AreOrders (forms_of d) (names_of d) new × KeepsOrders orders new × AreOpenIn d new es
-  last_found known right all es at index found result new q h part e n =
+  pub last_found : AreOrders (forms_of d) (names_of d) orders → (all es : List Open) (at index : ℕ) (found : Ordered) (result : Option ℕ) (new : List Known) → all ≡ es ++ (at, found, index) ∷ [] → AreOpenIn d orders all → ((x : List ℕ) (o : Order) → IsOrderOf (forms_of d) (names_of d) x found o → IsNeeded (names_of d) (needs o) index result) → result ≡ None → new ≡ set orders at (KnownOrder (Some found)) → AreOrders (forms_of d) (names_of d) new × KeepsOrders orders new × AreOpenIn d new es
+  last_found right all es at index found result new q h part e n =
       let l = last_open (forms_of d) (names_of d) orders all es (at, found, index) q h in
       let z = subst (λ r. IsNeeded (names_of d) (needs l.0.1) index r) e (part l.0.0 l.0.1 l.0.5) in
-      let f = found_orders (forms_of d) (names_of d) orders right at found index (one_place d known) l.0 z in
+      let f = found_orders (forms_of d) (names_of d) orders right at found index (one_place d) l.0 z in
       let s = set orders at (KnownOrder (Some found)) in
       subst (λ (new : List Known). AreOrders (forms_of d) (names_of d) new × KeepsOrders orders new × AreOpenIn d new es) (sym n) (f.0, f.1, l.1 s f.1 (length-set orders at (KnownOrder (Some found))) f.2)
 
@@ -70,6 +61,6 @@ module _ (d : Definitions) (orders : List Known) where
 pub none_waits : (d : Definitions) (orders : List Known) (es : List Open) (at : ℕ) (x : List ℕ) → es ≡ [] → IsAt (names_of d) at x → AwaitsOrder d orders es at
 none_waits d orders es at x e a = ((x, a), λ later k l f. subst (λ (es : List Open). AreOpenIn d later es) (sym e) tt)
 
--- what holds of the names of one layout holds of those of the same
-pub part_for : (d e : Definitions) (index : ℕ) (found : Ordered) (result : Option ℕ) → e.layout ≡ d.layout → ((x : List ℕ) (o : Order) → IsOrderOf (forms_of e) (names_of e) x found o → IsNeeded (names_of e) (needs o) index result) → (x : List ℕ) (o : Order) → IsOrderOf (forms_of d) (names_of d) x found o → IsNeeded (names_of d) (needs o) index result
-part_for d e index found result q p = subst (λ (l : Bor Layout). (x : List ℕ) (o : Order) → IsOrderOf (forms_in l.now.map.now) l.now.names.items x found o → IsNeeded l.now.names.items (needs o) index result) q p
+-- what holds of the names of one plan holds of those of the same
+pub part_for : (d e : Definitions) (index : ℕ) (found : Ordered) (result : Option ℕ) → e.plan ≡ d.plan → ((x : List ℕ) (o : Order) → IsOrderOf (forms_of e) (names_of e) x found o → IsNeeded (names_of e) (needs o) index result) → (x : List ℕ) (o : Order) → IsOrderOf (forms_of d) (names_of d) x found o → IsNeeded (names_of d) (needs o) index result
+part_for d e index found result q p = subst (λ (l : Bor Plan). (x : List ℕ) (o : Order) → IsOrderOf (forms_in (map_of l.now)) (plan_names l.now) x found o → IsNeeded (plan_names l.now) (needs o) index result) q p

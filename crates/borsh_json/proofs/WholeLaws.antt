@@ -1,7 +1,7 @@
 -- Values without places of their own, as values of any kind.
 use Rattle.std.proofs.Common.{◌≡◌, ◌⊎◌, inl, inr, ℕ, List, [], Option, None, refl, sym, subst}
 use Rattle.borsh_walks.specs.Container.{IsIn}
-use Rattle.borsh_values.specs.declared.layout.Named.{Named}
+use Rattle.borsh_plan.specs.declared.named.Named.{Named}
 use Rattle.borsh_json.specs.declared.error.Refusal.{Refusal}
 use Rattle.borsh_json.specs.declared.error.Refusal.TheVariants.{TooDeep, RepeatedName, EmptyElements, NotBool, NotUtf8, Zero, NotNumber, Descends, OtherNodes, Expected, MissingField, UnknownName, RepeatedKey, Undefined}
 use Rattle.borsh_json.specs.declared.error.WriteError.{WriteError}
@@ -26,7 +26,7 @@ module _ (F : List ℕ → Option Form) (x own : List ℕ) where
   leaf_none NotBool a = a.1
   leaf_none NotUtf8 a = a.2
   leaf_none Zero a = a.3
-  leaf_none NotNumber a = a.3
+  leaf_none NotNumber a = a.2
   leaf_none Descends a = absurd a
   leaf_none OtherNodes a = absurd a
   leaf_none (Expected wanted) a = absurd a
@@ -70,4 +70,4 @@ module _ (F : List ℕ → Option Form) (x own : List ℕ) where
     primitive_found kind (inr (inr (inl e))) k = subst IsPrimitive (sym e.1) (refl, raw e.0, refl)
     primitive_found kind (inr (inr (inr e))) k =
         let h = subst (λ (q : Found). IsKindOf F ns x f q) e.1 k in
-        subst IsPrimitive (sym e.1) (refl, float e.0 h.0, (h.0, h.1, refl))
+        subst IsPrimitive (sym e.1) (refl, float h.0, (h.0, h.1, refl))

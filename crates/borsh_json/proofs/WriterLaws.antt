@@ -11,12 +11,13 @@ use Rattle.json.specs.Token.{Token}
 use Rattle.borsh_walks.specs.Container.{Shape, product, Member, of_primitive, of_sequence, of_parts, of_choice, Members, no_members, more_members}
 use Rattle.borsh_walks.specs.Definitions.{definitions_in}
 use Rattle.borsh_walks.specs.declared.definition.Definition.{Definition}
-use Rattle.borsh_values.specs.Layouts.{name_of}
+use Rattle.borsh_plan.specs.Names.{name_of}
+use Rattle.borsh_plan.specs.Plan.{map_of, names_of as plan_names, root_of}
 use Rattle.borsh_values.specs.Membership.{IsUndecided}
 use Rattle.borsh_values.specs.Nodes.{Opens}
 use Rattle.borsh_values.specs.Walks.{IsReadTo, IsCounted, IsNodeOf, FindsNode, FindsAt, IsWalker}
-use Rattle.borsh_values.specs.declared.layout.Layout.{Layout}
-use Rattle.borsh_values.specs.declared.layout.Named.{Named}
+use Rattle.borsh_plan.specs.declared.plan.Plan.{Plan}
+use Rattle.borsh_plan.specs.declared.named.Named.{Named}
 use Rattle.borsh_values.specs.declared.nodes.Node.{Node}
 use Rattle.borsh_values.specs.declared.walker.Walker.{Walker}
 use Rattle.borsh_json.specs.declared.definitions.Definitions.{Definitions}
@@ -83,17 +84,17 @@ module _ {A : Type 0} (m : BTreeMap (String A) Definition) (x : List ℕ) (old n
       subst (λ C. Opens C (shape_of_form (form_of n.definition.now)) n.bytes.now parts → IsReadTo C root done (x ∷ ps) old.left.now → IsReadTo C root (done ++ n.bytes.now) (parts ++ ps) new.left.now) (sym (shapes_are m))
       (λ o r. k.onward root done parts ps (subst (λ s. Opens (definitions_in m) s n.bytes.now parts) (shape_is n.definition.now) o) r)
 
-module _ (d : Definitions) (old new : Walker) (at : ℕ) (x : List ℕ) (i : IsAt (names_of d) at x) (same : old.layout.now ≡ d.layout.now) where
+module _ (d : Definitions) (old new : Walker) (at : ℕ) (x : List ℕ) (i : IsAt (names_of d) at x) (same : old.plan.now ≡ d.plan.now) where
   -- the call looked for a node of the name at the place
-  pub finds_at : (found : Option Node) → FindsAt at old new found → FindsNode d.layout.now.map.now d.layout.now.root.now x old new found
-  finds_at found g = subst (λ (l : Layout). name_of l.names.items at ≡ Some x → FindsNode l.map.now l.root.now x old new found) same (g x) i
+  pub finds_at : (found : Option Node) → FindsAt at old new found → FindsNode (map_of d.plan.now) (root_of d.plan.now) x old new found
+  finds_at found g = subst (λ (l : Plan). name_of (plan_names l) at ≡ Some x → FindsNode (map_of l) (root_of l) x old new found) same (g x) i
 
   -- and found none
-  pub undecided : (name : Bor (List ℕ)) (bytes done : List ℕ) (names : List (List ℕ)) → name.now ≡ x → FindsAt at old new None → IsHalved (forms_of d) d.layout.now.root.now bytes done old.left.now (x ∷ names) → IsUndecided (shapes (forms_of d)) d.layout.now.root.now name.now
+  pub undecided : (name : Bor (List ℕ)) (bytes done : List ℕ) (names : List (List ℕ)) → name.now ≡ x → FindsAt at old new None → IsHalved (forms_of d) (root_of d.plan.now) bytes done old.left.now (x ∷ names) → IsUndecided (shapes (forms_of d)) (root_of d.plan.now) name.now
   undecided name bytes done names e g h =
       let F = forms_of d in
-      let m = d.layout.now.map.now in
-      let root = d.layout.now.root.now in
+      let m = map_of d.plan.now in
+      let root = root_of d.plan.now in
       let u = finds_at None g names (subst (λ C. Members C (x ∷ names) old.left.now) (shapes_are m) h.read.1) in
       subst (λ C. IsUndecided C root name.now) (sym (shapes_are m)) (subst (λ y. IsUndecided (definitions_in m) root y) (sym e) u)
 
@@ -211,21 +212,21 @@ module _ (d : Definitions) (b c : Bor (List ℕ)) (same : c ≡ b) where
   still_around ps qs ms e h = subst (λ (b : Bor (List ℕ)). AreEach (IsMarked d b.now) qs ms) (sym same) (subst (λ (ps : List Place). AreEach (IsMarked d b.now) ps ms) (sym e) h)
 
 -- ---- a value was written
-module _ (d : Definitions) (w new : Writing) (x : List ℕ) (f : Form) (own : List ℕ) (a : IsAwaitingAt d w x) (same : new.bytes ≡ w.bytes) (layout : new.walk.layout.now ≡ d.layout.now) (walk : IsWalker new.walk)
+module _ (d : Definitions) (w new : Writing) (x : List ℕ) (f : Form) (own : List ℕ) (a : IsAwaitingAt d w x) (same : new.bytes ≡ w.bytes) (plan : new.walk.plan.now ≡ d.plan.now) (walk : IsWalker new.walk)
     (bytes : w.walk.left.now ≡ own ++ new.walk.left.now) (next : new.walk.offset ≡ w.walk.offset + length own)
-    (onward : (done : List ℕ) (parts ps : List (List ℕ)) → Opens (shapes (forms_of d)) (shape_of_form f) own parts → IsReadTo (shapes (forms_of d)) d.layout.now.root.now done (x ∷ ps) w.walk.left.now → IsReadTo (shapes (forms_of d)) d.layout.now.root.now (done ++ own) (parts ++ ps) new.walk.left.now) where
+    (onward : (done : List ℕ) (parts ps : List (List ℕ)) → Opens (shapes (forms_of d)) (shape_of_form f) own parts → IsReadTo (shapes (forms_of d)) (root_of d.plan.now) done (x ∷ ps) w.walk.left.now → IsReadTo (shapes (forms_of d)) (root_of d.plan.now) (done ++ own) (parts ++ ps) new.walk.left.now) where
   -- the writer is in front of the next part of the place
   pub leaf_begun : (kind : Found) → shapes (forms_of d) x ≡ Some (shape_of_form f) → leaf_depth kind ≤ a.room → IsWrittenAs (forms_of d) (names_of d) kind x f own w.out new.out None → new.position.place ≡ w.position.place → new.position.outer.items ≡ w.position.outer.items → IsWritingAt d new new.position.place
   leaf_begun kind c l h p o =
       let F = forms_of d in
       let ns = names_of d in
-      let root = d.layout.now.root.now in
+      let root = root_of d.plan.now in
       let s = a.state in
       let k = halved_on F ns root w.bytes.now x (shape_of_form f) s.done w.walk.left.now own new.walk.left.now h.1 (names_of_all (s.inner ∷ s.around)) bytes (λ r. onward s.done h.1 (names_of_all (s.inner ∷ s.around)) h.2 r) s.halved in
       let n = read_leaf (shapes F) root own (names_of_all (s.inner ∷ s.around)) (shape_of_form f) s.nested c h.2 h.3 k.read.1 in
       let t = leaf_writes F ns root w.bytes.now x a.room w.position.place w.position.outer.items a.mark a.marks w.walk.left.now w.out s own new.walk.left.now new.out (leaf_depth kind) h.1 l n h.0 h.3 k in
       record {
-        writer = record { layout = layout; walk = walk; fresh = h.0.adds.before ∙ a.writer.fresh; offset = moved w new own a.writer.offset same bytes next };
+        writer = record { plan = plan; walk = walk; fresh = h.0.adds.before ∙ a.writer.fresh; offset = moved w new own a.writer.offset same bytes next };
         mark = a.mark;
         marks = a.marks;
         state =
@@ -241,14 +242,14 @@ module _ (d : Definitions) (w new : Writing) (x : List ℕ) (f : Form) (own : Li
   place_begun q c room h z p o =
       let F = forms_of d in
       let ns = names_of d in
-      let root = d.layout.now.root.now in
+      let root = root_of d.plan.now in
       let s = a.state in
       let r = h.0 in
       let k = halved_on F ns root w.bytes.now x (shape_of_form f) s.done w.walk.left.now own new.walk.left.now (names_of_rest r) (names_of_all (s.inner ∷ s.around)) bytes (λ t. onward s.done (names_of_rest r) (names_of_all (s.inner ∷ s.around)) h.3 t) s.halved in
       let l = as_many (IsRest F ns) w.position.outer.items s.around s.there in
       let t = front_writes F ns root w.bytes.now x a.room w.position.place w.position.outer.items a.mark a.marks w.walk.left.now w.out s own new.walk.left.now new.out (shape_of_form f) r q new.position.outer.items (omega (arith, l, room)) c h.3 h.1 h.2 o k in
       record {
-        writer = record { layout = layout; walk = walk; fresh = h.2.adds.before ∙ a.writer.fresh; offset = moved w new own a.writer.offset same bytes next };
+        writer = record { plan = plan; walk = walk; fresh = h.2.adds.before ∙ a.writer.fresh; offset = moved w new own a.writer.offset same bytes next };
         mark = (x, None);
         marks = a.mark ∷ a.marks;
         state =
@@ -271,12 +272,12 @@ new_marked d bytes x f kind p q h i k a b c = (
 some_form : (f g : Form) → Some f ≡ Some g → f ≡ g
 some_form f g e = cc
 
-module _ (d : Definitions) (w : Writing) (walk : Walker) (at : ℕ) (x : List ℕ) (layout : w.walk.layout.now ≡ d.layout.now) (i : IsAt (names_of d) at x) (found : Option Node) (n : Node) (is : found ≡ Some n) (g : FindsAt at w.walk walk found) where
-  pub node_is : IsNodeOf d.layout.now.map.now x w.walk walk n
-  node_is = finds_at d w.walk walk at x i layout (Some n) (subst (λ (o : Option Node). FindsAt at w.walk walk o) is g)
+module _ (d : Definitions) (w : Writing) (walk : Walker) (at : ℕ) (x : List ℕ) (plan : w.walk.plan.now ≡ d.plan.now) (i : IsAt (names_of d) at x) (found : Option Node) (n : Node) (is : found ≡ Some n) (g : FindsAt at w.walk walk found) where
+  pub node_is : IsNodeOf (map_of d.plan.now) x w.walk walk n
+  node_is = finds_at d w.walk walk at x i plan (Some n) (subst (λ (o : Option Node). FindsAt at w.walk walk o) is g)
 
   pub node_opened : IsOpenedAs (forms_of d) x (form_of n.definition.now) n.bytes.now node_is.parts
-  node_opened = opened_as d.layout.now.map.now x w.walk walk n node_is
+  node_opened = opened_as (map_of d.plan.now) x w.walk walk n node_is
 
   pub node_form : (f : Form) → forms_of d x ≡ Some f → f ≡ form_of n.definition.now
   node_form f e = some_form f (form_of n.definition.now) (sym e ∙ node_opened.0)
@@ -284,17 +285,17 @@ module _ (d : Definitions) (w : Writing) (walk : Walker) (at : ℕ) (x : List �
   pub node_shape : shapes (forms_of d) x ≡ Some (shape_of_form (form_of n.definition.now))
   node_shape = ap (λ o. option_map shape_of_form o) node_opened.0
 
-  pub node_on : (done : List ℕ) (parts ps : List (List ℕ)) → Opens (shapes (forms_of d)) (shape_of_form (form_of n.definition.now)) n.bytes.now parts → IsReadTo (shapes (forms_of d)) d.layout.now.root.now done (x ∷ ps) w.walk.left.now → IsReadTo (shapes (forms_of d)) d.layout.now.root.now (done ++ n.bytes.now) (parts ++ ps) walk.left.now
-  node_on done parts ps = opened_on d.layout.now.map.now x w.walk walk n node_is d.layout.now.root.now done parts ps
+  pub node_on : (done : List ℕ) (parts ps : List (List ℕ)) → Opens (shapes (forms_of d)) (shape_of_form (form_of n.definition.now)) n.bytes.now parts → IsReadTo (shapes (forms_of d)) (root_of d.plan.now) done (x ∷ ps) w.walk.left.now → IsReadTo (shapes (forms_of d)) (root_of d.plan.now) (done ++ n.bytes.now) (parts ++ ps) walk.left.now
+  node_on done parts ps = opened_on (map_of d.plan.now) x w.walk walk n node_is (root_of d.plan.now) done parts ps
 
 -- ---- no room
 module _ (d : Definitions) (w : Writing) (x : List ℕ) (a : IsAwaitingAt d w x) where
-  pub is_deep : IsDeep (forms_of d) d.layout.now.root.now w.bytes.now (length w.position.outer.items) a.state.done w.walk.left.now x
+  pub is_deep : IsDeep (forms_of d) (root_of d.plan.now) w.bytes.now (length w.position.outer.items) a.state.done w.walk.left.now x
   is_deep =
       let s = a.state in
       let l = as_many (IsRest (forms_of d) (names_of d)) w.position.outer.items s.around s.there in
       let m = as_deep s.levels in
-      record { joined = s.halved.joined; depth = length s.outer; deep = omega (arith, l, m); inside = inside_of (shapes (forms_of d)) d.layout.now.root.now s.nested }
+      record { joined = s.halved.joined; depth = length s.outer; deep = omega (arith, l, m); inside = inside_of (shapes (forms_of d)) (root_of d.plan.now) s.nested }
 
   pub room_awaiting : a.room + length w.position.outer.items ≡ 128
   room_awaiting = let l = as_many (IsRest (forms_of d) (names_of d)) w.position.outer.items a.state.around a.state.there in let m = a.state.room in omega (arith, l, m)
@@ -302,7 +303,7 @@ module _ (d : Definitions) (w : Writing) (x : List ℕ) (a : IsAwaitingAt d w x)
 -- nothing was walked
 writer_still : (d : Definitions) (w new : Writing) → IsWriterOf d w → new.walk ≡ w.walk → new.bytes ≡ w.bytes → output_before new.out ≡ [] → IsWriterOf d new
 writer_still d w new a walk same fresh = record {
-  layout = subst (λ (k : Walker). k.layout.now ≡ d.layout.now) (sym walk) a.layout;
+  plan = subst (λ (k : Walker). k.plan.now ≡ d.plan.now) (sym walk) a.plan;
   walk = subst (λ (k : Walker). IsWalker k) (sym walk) a.walk;
   fresh = fresh;
   offset = subst (λ (k : Walker). k.offset + length k.left.now ≡ length new.bytes.now) (sym walk) (a.offset ∙ ap (λ (b : Bor (List ℕ)). length b.now) (sym same));
@@ -324,7 +325,7 @@ module _ (d : Definitions) (w new : Writing) (x : List ℕ) (a : IsAwaitingAt d 
   zero_begun z t p o =
       let F = forms_of d in
       let ns = names_of d in
-      let root = d.layout.now.root.now in
+      let root = root_of d.plan.now in
       let s = a.state in
       let names = names_of_all (s.inner ∷ s.around) in
       let leaf : WritesLeaf F 0 x [] w.out new.out = record { json = null; adds = t; numbers = tt; nests = omega arith; says = λ ps bs h. next_part no_bytes [] [] (inl (z, refl)) (refl, refl, refl) h } in
@@ -357,10 +358,10 @@ module _ (d : Definitions) (w new : Writing) (x : List ℕ) (a : IsAwaitingAt d 
       → new.position.place ≡ q → new.position.outer.items ≡ w.position.outer.items ++ w.position.place ∷ [] → IsWritingAt d new new.position.place
   struct_begun q walk same room kind i k r h t s z p o =
       let F = forms_of d in
-      let root = d.layout.now.root.now in
+      let root = root_of d.plan.now in
       let c : shapes F x ≡ Some (shape_of_form f) = ap (λ o. option_map shape_of_form o) e in
       let opens : Opens (shapes F) (shape_of_form f) [] (names_of_rest r) = subst (λ s. Opens (shapes F) s [] (names_of_rest r)) (sym s) (refl, refl) in
-      place_begun d w new x f [] a same (subst (λ (k : Walker). k.layout.now ≡ d.layout.now) (sym walk) a.writer.layout) (subst (λ (k : Walker). IsWalker k) (sym walk) a.writer.walk) (ap (λ (k : Walker). k.left.now) (sym walk)) (let e = ap (λ (k : Walker). k.offset) walk in omega (arith, e))
+      place_begun d w new x f [] a same (subst (λ (k : Walker). k.plan.now ≡ d.plan.now) (sym walk) a.writer.plan) (subst (λ (k : Walker). IsWalker k) (sym walk) a.writer.walk) (ap (λ (k : Walker). k.left.now) (sym walk)) (let e = ap (λ (k : Walker). k.offset) walk in omega (arith, e))
       (λ done parts ps n g. subst (λ (k : Walker). IsReadTo (shapes F) root (done ++ []) (parts ++ ps) k.left.now) (sym walk) (struct_on (shapes F) root x w.walk.left.now (names_of_rest r) (shape_of_form f) c s done parts ps n g)) q c room (r, h, t, opens) (new_marked d w.bytes.now x f kind q q z i k refl refl (subst (λ (l : Option Ascent). IsAscending d w.bytes.now l (x, None)) (sym z.0) tt)) p o
 
 -- ---- parts and their keys
@@ -427,11 +428,11 @@ at_offset d w p a =
     omega (arith, o, b, l)
 
 -- the next part isn't above the last one
-pub next_falls : (d : Definitions) (w : Writing) (p : Place) (a : IsWritingAt d w p) (z : List ℕ) (zs : List (List ℕ)) → names_of_rest a.state.inner ≡ z ∷ zs → (ascends : Bool) → ascends ≡ false → (ascent : Option Ascent) → IsAscending d w.bytes.now ascent a.mark → TellsAscent d w.bytes.now ascent w.walk.offset ascends → IsOutOfOrder (forms_of d) d.layout.now.root.now w.bytes.now
+pub next_falls : (d : Definitions) (w : Writing) (p : Place) (a : IsWritingAt d w p) (z : List ℕ) (zs : List (List ℕ)) → names_of_rest a.state.inner ≡ z ∷ zs → (ascends : Bool) → ascends ≡ false → (ascent : Option Ascent) → IsAscending d w.bytes.now ascent a.mark → TellsAscent d w.bytes.now ascent w.walk.offset ascends → IsOutOfOrder (forms_of d) (root_of d.plan.now) w.bytes.now
 next_falls d w p a z zs names ascends off None h t = let q : true ≡ false = sym t ∙ off in cc
 next_falls d w p a z zs names ascends off (Some x) h t = go x.last h.1 t
   where
-    go : (last : Option ℕ) → last ≡ a.mark.1 → MatchOption last (ascends ≡ true) (λ i. (k : List ℕ) (r : Ordering) → OrderedBy d k x.order → ValuesCompare d k (drop i w.bytes.now) (drop w.walk.offset w.bytes.now) r → Decides ascends (r ≡ Less)) → IsOutOfOrder (forms_of d) d.layout.now.root.now w.bytes.now
+    go : (last : Option ℕ) → last ≡ a.mark.1 → MatchOption last (ascends ≡ true) (λ i. (k : List ℕ) (r : Ordering) → OrderedBy d k x.order → ValuesCompare d k (drop i w.bytes.now) (drop w.walk.offset w.bytes.now) r → Decides ascends (r ≡ Less)) → IsOutOfOrder (forms_of d) (root_of d.plan.now) w.bytes.now
     go None e t = let q : true ≡ false = sym t ∙ off in cc
     go (Some i) e t =
         let F = forms_of d in
@@ -449,7 +450,7 @@ pub key_begun : (d : Definitions) (w new : Writing) (p : Place) (part : FoundPar
 key_begun d w new p part a b n t walk position bytes =
     let F = forms_of d in
     let ns = names_of d in
-    let root = d.layout.now.root.now in
+    let root = root_of d.plan.now in
     let s = a.state in
     let q = w.position.place in
     let m : Mark = (a.mark.0, Some (length s.done)) in
@@ -474,33 +475,33 @@ key_begun d w new p part a b n t walk position bytes =
 
 module _ (d : Definitions) (w new : Writing) (p : Place) (part : FoundPart) (es : FoundEntries) (a : IsWritingAt d w p) (parts : new.position.place.parts ≡ p.parts)
     (t : TakesEntry (forms_of d) (names_of d) es p.parts new.position.place.begun p.last part a.state.inner) where
-  pub entry_next : IsHalved (forms_of d) d.layout.now.root.now w.bytes.now a.state.done w.walk.left.now (t.key ∷ t.value ∷ (replicate t.count t.pair ++ names_of_all a.state.around))
-  entry_next = entry_halved (forms_of d) (names_of d) d.layout.now.root.now w.bytes.now p new.position.place w.position.outer.items a.mark a.marks w.walk.left.now (output_tokens w.out) (output_tokens new.out) a.state parts es part t
+  pub entry_next : IsHalved (forms_of d) (root_of d.plan.now) w.bytes.now a.state.done w.walk.left.now (t.key ∷ t.value ∷ (replicate t.count t.pair ++ names_of_all a.state.around))
+  entry_next = entry_halved (forms_of d) (names_of d) (root_of d.plan.now) w.bytes.now p new.position.place w.position.outer.items a.mark a.marks w.walk.left.now (output_tokens w.out) (output_tokens new.out) a.state parts es part t
 
-  entry_open : Nested (shapes (forms_of d)) d.layout.now.root.now (opened t.pair None (t.key ∷ t.value ∷ []) ∷ opened a.mark.0 (Some (length a.state.done)) (replicate t.count t.pair) ∷ a.state.outer) a.state.done
-  entry_open = entry_nested (forms_of d) (names_of d) d.layout.now.root.now w.bytes.now p new.position.place w.position.outer.items a.mark a.marks w.walk.left.now (output_tokens w.out) (output_tokens new.out) a.state parts es part t
+  entry_open : Nested (shapes (forms_of d)) (root_of d.plan.now) (opened t.pair None (t.key ∷ t.value ∷ []) ∷ opened a.mark.0 (Some (length a.state.done)) (replicate t.count t.pair) ∷ a.state.outer) a.state.done
+  entry_open = entry_nested (forms_of d) (names_of d) (root_of d.plan.now) w.bytes.now p new.position.place w.position.outer.items a.mark a.marks w.walk.left.now (output_tokens w.out) (output_tokens new.out) a.state parts es part t
 
   module _ (found : Option Node) (n : Node) (is : found ≡ Some n) (g : FindsAt es.key w.walk new.walk found) where
-    pub entry_opened : IsOpenedAs (forms_of d) t.key (form_of n.definition.now) n.bytes.now (node_is d w new.walk es.key t.key a.writer.layout t.key_named found n is g).parts
-    entry_opened = node_opened d w new.walk es.key t.key a.writer.layout t.key_named found n is g
+    pub entry_opened : IsOpenedAs (forms_of d) t.key (form_of n.definition.now) n.bytes.now (node_is d w new.walk es.key t.key a.writer.plan t.key_named found n is g).parts
+    entry_opened = node_opened d w new.walk es.key t.key a.writer.plan t.key_named found n is g
 
     pub entry_keys : AreKeysOf (forms_of d) (names_of d) t.key (form_of n.definition.now) es.key_kind t.keys
     entry_keys = keys_of_form (forms_of d) (names_of d) t.key (form_of es.key_definition.now) (form_of n.definition.now) es.key_kind t.keys t.kind entry_opened.0
 
     -- the key was written
-    pub entry_awaits : (key : EntryKey) (names : List (List ℕ)) (s : List ℕ) → IsBegunOf d w.walk.offset p w.position.place part → part.key ≡ EntryOf es → new.position.place.ascent ≡ w.position.place.ascent → new.walk.layout.now ≡ d.layout.now → IsWalker new.walk → new.bytes ≡ w.bytes → new.position.outer.items ≡ w.position.outer.items → new.position.place.last ≡ Some key
+    pub entry_awaits : (key : EntryKey) (names : List (List ℕ)) (s : List ℕ) → IsBegunOf d w.walk.offset p w.position.place part → part.key ≡ EntryOf es → new.position.place.ascent ≡ w.position.place.ascent → new.walk.plan.now ≡ d.plan.now → IsWalker new.walk → new.bytes ≡ w.bytes → new.position.outer.items ≡ w.position.outer.items → new.position.place.last ≡ Some key
         → Opens (shapes (forms_of d)) (shape_of_form (form_of n.definition.now)) n.bytes.now names → names ≡ [] → IsEntryKey es.key_kind key s → Adds (Token.key s ∷ []) w.out new.out → SaysFirst (forms_of d) t.key (key_json t.keys s) n.bytes.now [] → IsAbove t.keys t.before s
         → (x : List ℕ) × IsAt (names_of d) part.at x × IsAwaitingAt d new x
-    entry_awaits key names s b entry ascent layout walk bytes outer last opens none k adds says above =
+    entry_awaits key names s b entry ascent plan walk bytes outer last opens none k adds says above =
         let F = forms_of d in
         let ns = names_of d in
-        let root = d.layout.now.root.now in
+        let root = root_of d.plan.now in
         let v = a.state in
         let rest = t.value ∷ (replicate t.count t.pair ++ names_of_all v.around) in
-        let node = node_is d w new.walk es.key t.key a.writer.layout t.key_named found n is g in
+        let node = node_is d w new.walk es.key t.key a.writer.plan t.key_named found n is g in
         let o = subst (λ l. Opens (shapes F) (shape_of_form (form_of n.definition.now)) n.bytes.now l) none opens in
-        let h = halved_on F ns root w.bytes.now t.key (shape_of_form (form_of n.definition.now)) v.done w.walk.left.now n.bytes.now new.walk.left.now [] rest node.bytes (λ r. node_on d w new.walk es.key t.key a.writer.layout t.key_named found n is g v.done [] rest o r) entry_next in
-        let m = opens_member (shapes F) (shape_of_form (form_of n.definition.now)) n.bytes.now [] [] (node_shape d w new.walk es.key t.key a.writer.layout t.key_named found n is g) o no_members in
+        let h = halved_on F ns root w.bytes.now t.key (shape_of_form (form_of n.definition.now)) v.done w.walk.left.now n.bytes.now new.walk.left.now [] rest node.bytes (λ r. node_on d w new.walk es.key t.key a.writer.plan t.key_named found n is g v.done [] rest o r) entry_next in
+        let m = opens_member (shapes F) (shape_of_form (form_of n.definition.now)) n.bytes.now [] [] (node_shape d w new.walk es.key t.key a.writer.plan t.key_named found n is g) o no_members in
         let k2 : Mark = (a.mark.0, Some (length v.done)) in
         let keyed : IsKeyed d w.bytes.now new.position.place.parts new.position.place.last k2 = λ fs c e.
         (let q : EntryOf es ≡ EntryOf fs = sym entry ∙ its_entries d w.walk.offset p w.position.place part b v.inner fs c v.here (sym parts ∙ e) in
@@ -513,7 +514,7 @@ module _ (d : Definitions) (w new : Writing) (p : Place) (part : FoundPart) (es 
           t.value,
           t.named,
           record {
-            writer = record { layout = layout; walk = walk; fresh = adds.before ∙ a.writer.fresh; offset = moved w new n.bytes.now a.writer.offset bytes node.bytes node.next };
+            writer = record { plan = plan; walk = walk; fresh = adds.before ∙ a.writer.fresh; offset = moved w new n.bytes.now a.writer.offset bytes node.bytes node.next };
             room = 128 - length v.around;
             mark = k2;
             marks = a.marks;
@@ -526,11 +527,11 @@ module _ (d : Definitions) (w new : Writing) (p : Place) (part : FoundPart) (es 
         )
 
     -- or is refused
-    pub entry_stops : (e : WriteError) (pe : PartError) → IsOfWrite e pe → RefusesLeaf (forms_of d) t.key n.bytes.now e → Stops (forms_of d) d.layout.now.root.now w.bytes.now (error_of pe)
+    pub entry_stops : (e : WriteError) (pe : PartError) → IsOfWrite e pe → RefusesLeaf (forms_of d) t.key n.bytes.now e → Stops (forms_of d) (root_of d.plan.now) w.bytes.now (error_of pe)
     entry_stops e pe i r =
         let F = forms_of d in
-        let root = d.layout.now.root.now in
-        let node = node_is d w new.walk es.key t.key a.writer.layout t.key_named found n is g in
+        let root = root_of d.plan.now in
+        let node = node_is d w new.walk es.key t.key a.writer.plan t.key_named found n is g in
         let deep : IsDeep F root w.bytes.now 0 a.state.done w.walk.left.now t.key = record { joined = entry_next.joined; depth = suc (length a.state.outer); deep = omega arith; inside = inside_of (shapes F) root entry_open } in
         stops_value F root w.bytes.now t.key n.bytes.now e pe i (no_json_part F root w.bytes.now 0 a.state.done n.bytes.now new.walk.left.now w.walk.left.now t.key node.bytes deep) (leaf_refused F t.key n.bytes.now e r)
 
@@ -540,7 +541,7 @@ pub place_ended : (d : Definitions) (w new : Writing) (p : Place) → IsWritingA
 place_ended d w new p a g t walk bytes true left all =
     let F = forms_of d in
     let ns = names_of d in
-    let root = d.layout.now.root.now in
+    let root = root_of d.plan.now in
     let s = a.state in
     let e = place_ends F ns p.parts p.begun (128 - length s.around) p.last s.inner s.here g in
     let f = each_popped (IsMarked d w.bytes.now) new.position.outer.items a.marks new.position.place (subst (λ (ps : List Place). AreEach (IsMarked d w.bytes.now) ps a.marks) (left refl) a.around) in
@@ -558,7 +559,7 @@ place_ended d w new p a g t walk bytes true left all =
 place_ended d w new p a g t walk bytes false left all =
     let F = forms_of d in
     let ns = names_of d in
-    let root = d.layout.now.root.now in
+    let root = root_of d.plan.now in
     let s = a.state in
     let e = place_ends F ns p.parts p.begun (128 - length s.around) p.last s.inner s.here g in
     let r = end_whole F ns root w.bytes.now p w.position.outer.items a.mark a.marks w.walk.left.now (output_tokens w.out) (output_tokens new.out) (ends_of p.parts) s e.0 e.1 t.tokens (all refl) in

@@ -3,7 +3,7 @@ use Rattle.std.proofs.Common.{◌≡◌, ℕ, suc, zero, ◌-◌, List, [], ◌�
 use Rattle.json.specs.Token.{Token}
 use Rattle.json.specs.Json.{no_items, no_members}
 use Rattle.borsh_walks.specs.Container.{product}
-use Rattle.borsh_values.specs.declared.layout.Named.{Named}
+use Rattle.borsh_plan.specs.declared.named.Named.{Named}
 use Rattle.borsh_json.specs.declared.kinds.Entries.{Entries as FoundEntries}
 use Rattle.borsh_json.specs.declared.position.Key.{Key}
 use Rattle.borsh_json.specs.declared.position.Key.TheVariants.{None as NoKey, Name, Entry as EntryOf}

@@ -5,7 +5,7 @@ use Rattle.json.specs.Tree.{json_tokens}
 use Rattle.borsh_walks.specs.Container.{Shape, product, IsIn, first, later, Member}
 use Rattle.borsh_values.specs.Nodes.{Opens}
 use Rattle.borsh_values.specs.Walks.{IsReadTo}
-use Rattle.borsh_values.specs.declared.layout.Named.{Named}
+use Rattle.borsh_plan.specs.declared.named.Named.{Named}
 use Rattle.borsh_values.proofs.WalkedLaws.{read_start, read_zero, read_product, read_end}
 use Rattle.borsh_json.specs.declared.kinds.Entries.{Entries as FoundEntries}
 use Rattle.borsh_json.specs.declared.output.Output.{Output}

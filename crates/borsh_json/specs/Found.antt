@@ -1,45 +1,50 @@
 -- What the code finds of the definition of a name, against the format's own types and the table.
 use Rattle.std.specs.Prelude.{◌≡◌, ◌⊎◌, ℕ, List, [], ◌∷◌, ◌++◌, codes, true, MatchOption, Option, None, Some}
 use Rattle.std.specs.Borrow.{Bor}
+use Rattle.std.specs.Float.{Format}
 use Rattle.std.specs.List.{IsDistinct}
 use Rattle.std.specs.Str.{bytes_eq}
-use Rattle.borsh_values.specs.declared.layout.Named.{Named}
+use Rattle.borsh_plan.specs.declared.named.Named.{Named}
+use Rattle.borsh_plan.specs.Plan.{map_of, names_of as plan_names, root_of}
 use Rattle.borsh_json.specs.declared.definitions.Definitions.{Definitions}
 use Rattle.borsh_json.specs.declared.formats.Collection.{Collection}
-use Rattle.borsh_json.specs.declared.definitions.Definitions.{Definitions}
 use Rattle.borsh_json.specs.declared.formats.Collection.TheVariants.{List as Elements, Set, Map}
 use Rattle.borsh_json.specs.declared.kinds.Kind.{Kind as Found}
 use Rattle.borsh_json.specs.declared.kinds.Kind.TheVariants.{Number, Bool as Truth, Text, Bytes, Float, ByteList, Numbers, List as ElementList, Map as Entries, Row, Newtype, Object, Optional, Choice, Repeated}
 use Rattle.borsh_json.specs.declared.kinds.Elements.{Elements as FoundElements}
 use Rattle.borsh_json.specs.declared.kinds.Entries.{Entries as FoundEntries}
 use Rattle.borsh_json.specs.Forms.{Form, form_of, forms_in, HasNoBytes, IsList, IsMap}
-use Rattle.borsh_json.specs.Table.{Kind, whole, truth, raw, float, Keys, AreKeys}
-use Rattle.borsh_json.specs.Known.{IsKnown}
-use Rattle.borsh_json.specs.Places.{IsAt, IsInfinity, IsKindOf, AreKeysOf}
+use Rattle.borsh_json.specs.Table.{Kind, whole, truth, raw, float, float_size, Keys, AreKeys}
+use Rattle.borsh_json.specs.Places.{IsAt, IsKindOf, AreKeysOf}
+use Rattle.borsh_json.specs.Represents.{TextSays}
 
 -- the definitions, with the names of fields and variants
 abbrev pub forms_of : Definitions → List ℕ → Option Form
-forms_of d = forms_in d.layout.now.map.now
+forms_of d = forms_in (map_of d.plan.now)
 
 -- and the names, by their places
 abbrev pub names_of : Definitions → List Named
-names_of d = d.layout.now.names.items
+names_of d = plan_names d.plan.now
 
 -- at most the orders that are known differ
 abbrev pub IsAlike : Definitions → Definitions → Type 0
-IsAlike d e = (e.layout ≡ d.layout) × (e.kinds ≡ d.kinds)
+IsAlike d e = e.plan ≡ d.plan
 
--- what is known is right, and the name at the place is x
+-- the name at the place is x
 abbrev pub IsNamed : Definitions → ℕ → List ℕ → Type 0
-IsNamed d at x = IsKnown d × IsAt d.layout.now.names.items at x
+IsNamed d at x = IsAt (names_of d) at x
 
 -- and has this definition
 abbrev pub HasForm : Definitions → ℕ → Form → List ℕ → Type 0
-HasForm d at f x = IsKnown d × IsAt d.layout.now.names.items at x × (forms_of d x ≡ Some f)
+HasForm d at f x = IsNamed d at x × (forms_of d x ≡ Some f)
+
+-- the text says the bytes, as a value of the plan's root
+abbrev pub SaysBy : Definitions → List ℕ → List ℕ → Type 0
+SaysBy d text bytes = TextSays (forms_of d) (root_of d.plan.now) text bytes
 
 -- the kind is that of the name at the place, if it has this definition, and its values have bytes
 abbrev pub TellsKind : Definitions → ℕ → Form → Found → Type 0
-TellsKind d at f kind = (x : List ℕ) → HasForm d at f x → (HasNoBytes (forms_of d) x → ⊥) → IsKindOf (forms_of d) d.layout.now.names.items x f kind
+TellsKind d at f kind = (x : List ℕ) → HasForm d at f x → (HasNoBytes (forms_of d) x → ⊥) → IsKindOf (forms_of d) (plan_names d.plan.now) x f kind
 
 -- a list that is refused, whatever its elements, and has no order
 abbrev pub IsRefusedList : Found → Type 0
@@ -56,7 +61,7 @@ IsPrimitiveKind (Number n) kind = kind ≡ whole n.size n.is_signed n.is_non_zer
 IsPrimitiveKind Truth kind = kind ≡ truth
 IsPrimitiveKind Text kind = ⊥
 IsPrimitiveKind (Bytes n) kind = kind ≡ raw n
-IsPrimitiveKind (Float n) kind = (bits : ℕ) × IsInfinity n bits × (kind ≡ float n bits)
+IsPrimitiveKind (Float n) kind = (g : Format) × (n ≡ float_size g) × (kind ≡ float g)
 IsPrimitiveKind (ByteList es) kind = ⊥
 IsPrimitiveKind (Numbers es) kind = ⊥
 IsPrimitiveKind (ElementList es) kind = ⊥

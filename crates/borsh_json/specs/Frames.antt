@@ -15,7 +15,7 @@ use Rattle.borsh_walks.specs.Container.{references}
 use Rattle.borsh_walks.specs.Tables.{mark_of}
 use Rattle.borsh_values.specs.declared.faults.Path.{Path}
 use Rattle.borsh_values.specs.declared.faults.PathStep.{PathStep}
-use Rattle.borsh_values.specs.declared.layout.Named.{Named}
+use Rattle.borsh_plan.specs.declared.named.Named.{Named}
 use Rattle.borsh_json.specs.declared.definitions.Definitions.{Definitions}
 use Rattle.borsh_json.specs.declared.definitions.Known.{Known}
 use Rattle.borsh_json.specs.declared.error.PartError.{PartError}

@@ -25,7 +25,7 @@ abbrev pub AreSteps : Kind → Json → ℕ → List Step → Type 0
 AreSteps no_bytes i n steps = ⊥
 AreSteps truth i n steps = ⊥
 AreSteps (whole m signed non_zero) i n steps = ⊥
-AreSteps (float m infinity) i n steps = ⊥
+AreSteps (float f) i n steps = ⊥
 AreSteps (raw m) i n steps = ⊥
 AreSteps (utf8 l) i n steps = ⊥
 AreSteps (byte_list l e) i n steps = steps ≡ element n ∷ []

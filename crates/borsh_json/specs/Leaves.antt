@@ -1,5 +1,6 @@
 -- What is written of a value without places of its own.
 use Rattle.std.specs.Prelude.{◌≡◌, ⊤, ℕ, ◌≤◌, List, [], ◌∷◌, ◌++◌, length, Bool, true, Decides, Option, Some, Result, MatchResult}
+use Rattle.std.specs.Float.{Format}
 use Rattle.std.specs.declared.cmp.Ordering.TheVariants.{Less}
 use Rattle.json.specs.Token.{Token}
 use Rattle.json.specs.Token as token
@@ -8,7 +9,7 @@ use Rattle.json.specs.Tree.{json_tokens, depth, HasNumbers}
 use Rattle.borsh_walks.specs.declared.definition.Definition.{Definition}
 use Rattle.borsh_values.specs.Nodes.{Opens}
 use Rattle.borsh_values.specs.Walks.{IsCounted}
-use Rattle.borsh_values.specs.declared.layout.Named.{Named}
+use Rattle.borsh_plan.specs.declared.named.Named.{Named}
 use Rattle.borsh_json.specs.declared.error.Refusal.{Refusal}
 use Rattle.borsh_json.specs.declared.error.Refusal.TheVariants.{TooDeep, RepeatedName, EmptyElements, NotBool, NotUtf8, Zero, NotNumber, Descends, OtherNodes, Expected, MissingField, UnknownName, RepeatedKey, Undefined}
 use Rattle.borsh_json.specs.declared.kinds.Kind.{Kind as Found}
@@ -24,7 +25,7 @@ use Rattle.borsh_json.specs.Frames.{IsEntryKey}
 use Rattle.borsh_json.specs.NoJson.{IsNoJson}
 use Rattle.borsh_json.specs.Places.{AreKeysOf, IsKindOf}
 use Rattle.borsh_json.specs.Represents.{SaysFirst, HaveBytes}
-use Rattle.borsh_json.specs.Table.{Keys, Kind, Lengths, Part, HasKind, IsHex, key_json, key_order, no_bytes, truth, whole, float, raw, utf8, byte_list, list, row, inner, fields, optional, variants, entries}
+use Rattle.borsh_json.specs.Table.{Keys, Kind, Lengths, Part, HasKind, IsHex, key_json, key_order, no_bytes, truth, whole, float, float_size, raw, utf8, byte_list, list, row, inner, fields, optional, variants, entries}
 
 -- ---- tokens
 
@@ -54,7 +55,7 @@ abbrev pub HasSize : Kind → ℕ → Type 0
 HasSize no_bytes n = ⊥
 HasSize truth n = n ≡ 1
 HasSize (whole m signed non_zero) n = (n ≡ m) × (1 ≤ m) × (m ≤ 16)
-HasSize (float m infinity) n = n ≡ m
+HasSize (float f) n = n ≡ float_size f
 HasSize (raw m) n = n ≡ m
 HasSize (utf8 l) n = ⊥
 HasSize (byte_list l e) n = ⊥
@@ -87,7 +88,7 @@ module _ (F : List ℕ → Option Form) where
   IsLeafRefusal NotBool x own = HasKind F x truth × IsNoJson F x own
   IsLeafRefusal NotUtf8 x own = (l : Lengths) × HasKind F x (utf8 l) × IsNoJson F x own
   IsLeafRefusal Zero x own = (n : ℕ) × (signed : Bool) × HasKind F x (whole n signed true) × IsNoJson F x own
-  IsLeafRefusal NotNumber x own = (n : ℕ) × (infinity : ℕ) × HasKind F x (float n infinity) × IsNoJson F x own
+  IsLeafRefusal NotNumber x own = (f : Format) × HasKind F x (float f) × IsNoJson F x own
   IsLeafRefusal Descends x own = ⊥
   IsLeafRefusal OtherNodes x own = ⊥
   IsLeafRefusal (Expected wanted) x own = ⊥

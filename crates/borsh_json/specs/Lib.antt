@@ -2,6 +2,7 @@ pub mod Ascii
 pub mod Errors
 pub mod Forms
 pub mod Table
+pub mod Floats
 pub mod Ranks
 pub mod Integers
 pub mod Places
@@ -11,7 +12,6 @@ pub mod Represents
 pub mod Inside
 pub mod NoJson
 pub mod NoValue
-pub mod Known
 pub mod Found
 pub mod Descents
 pub mod Orders

@@ -10,11 +10,11 @@ use Rattle.borsh_values.specs.declared.faults.PathStep.TheVariants.{Field, Place
 use Rattle.borsh_json.specs.declared.error.JsonError.{JsonError}
 use Rattle.borsh_json.specs.declared.error.JsonError.TheVariants.{OutOfMemory, NoMember, NoValue, Ambiguous, NotJson, Refused}
 use Rattle.borsh_json.specs.declared.error.Refusal.{Refusal}
-use Rattle.borsh_json.specs.declared.error.Refusal.TheVariants.{TooDeep, RepeatedName, EmptyElements, NotNumber, Descends, OtherNodes, Expected, MissingField, UnknownName, RepeatedKey, Undefined}
+use Rattle.borsh_json.specs.declared.error.Refusal.TheVariants.{TooDeep, RepeatedName, EmptyElements, Descends, OtherNodes, Expected, MissingField, UnknownName, RepeatedKey, Undefined}
 use Rattle.borsh_json.specs.Forms.{Form}
 use Rattle.borsh_json.specs.InOrder.{Step, field, place, element, variant, IsReached, Falls}
 use Rattle.borsh_json.specs.Represents.{SaysSome, TextSays}
-use Rattle.borsh_json.specs.Table.{float, fields, variants, HasKind, Part, Entry, entries_of, IsVariant, IsHex, IsNoNan}
+use Rattle.borsh_json.specs.Table.{fields, variants, HasKind, Part, Entry, entries_of, IsVariant}
 
 -- ---- the path of a refusal
 
@@ -45,10 +45,6 @@ module _ (F : List ℕ → Option Form) where
   abbrev pub NamesNoVariant : List ℕ → Json → List ℕ → Type 0
   NamesNoVariant x i name = (w : ℕ) × (vs : List (ℤ × List ℕ × List ℕ)) × HasKind F x (variants w vs) × ((i ≡ string name) ⊎ ((value : Json) × (i ≡ object (member name value no_members)))) × ((k : ℤ) (p : List ℕ) → IsVariant k name p vs → ⊥)
 
-  -- of a float, the digits of a NaN
-  abbrev pub IsNan : List ℕ → Json → Type 0
-  IsNan x i = (n : ℕ) × (infinity : ℕ) × (bytes : List ℕ) × HasKind F x (float n infinity) × IsHex i bytes × (length bytes ≡ n) × (IsNoNan n infinity bytes → ⊥)
-
   -- why JSON of the name says no bytes: of JSON that isn't what is expected no more than that
   abbrev pub Why : List ℕ → Json → Refusal → Type 0
   Why x i (Expected wanted) = ⊤
@@ -57,7 +53,6 @@ module _ (F : List ℕ → Option Form) where
   Why x i EmptyElements = (k : Json) → SaysSome F x k → ⊥
   Why x i (RepeatedName name) = (k : Json) → SaysSome F x k → ⊥
   Why x i (Undefined name) = (string_bytes name ≡ x) × (F x ≡ None)
-  Why x i NotNumber = IsNan x i
   Why x i (UnknownName name) = NamesNoVariant x i (string_bytes name) ⊎ HasOthers x i
   Why x i (RepeatedKey name) = RepeatsKey i (string_bytes name)
   Why x i refusal = ⊥

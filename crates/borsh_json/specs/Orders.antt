@@ -7,7 +7,7 @@ use Rattle.std.specs.declared.cmp.Ordering.{Ordering}
 use Rattle.std.specs.declared.cmp.Ordering.TheVariants.{Less, Greater}
 use Rattle.borsh_walks.specs.Container.{IsIn, tag}
 use Rattle.borsh_walks.specs.declared.definition.Definition.{Definition}
-use Rattle.borsh_values.specs.declared.layout.Named.{Named}
+use Rattle.borsh_plan.specs.declared.named.Named.{Named}
 use Rattle.borsh_json.specs.declared.definitions.Definitions.{Definitions}
 use Rattle.borsh_json.specs.declared.definitions.Known.{Known}
 use Rattle.borsh_json.specs.declared.definitions.Known.TheVariants.{Order as KnownOrder}
@@ -29,9 +29,8 @@ use Rattle.borsh_json.specs.declared.order.Pending.TheVariants.{Elements as TwoL
 use Rattle.borsh_json.specs.Forms.{Form, sequence, tuple}
 use Rattle.borsh_json.specs.Descents.{HasKeys, NumbersDescend}
 use Rattle.borsh_json.specs.Found.{HasForm, IsCollection, IsNamed, forms_of, names_of}
-use Rattle.borsh_json.specs.Known.{IsKnown}
 use Rattle.borsh_json.specs.Ordered.{Order, single, numbers, text, array, list, parts, needs, OrdersBytes, HasOrder, IsOrdered, Ranked, a_value, elements, Compare}
-use Rattle.borsh_json.specs.Places.{AreKeysOf, IsAt}
+use Rattle.borsh_json.specs.Places.{AreKeysOf, IsAt, IsKindAt}
 use Rattle.borsh_json.specs.Table.{AreKeys, InRange, Keys}
 
 module _ (F : List ℕ → Option Form) (ns : List Named) where
@@ -89,7 +88,7 @@ module _ (F : List ℕ → Option Form) (ns : List Named) where
 
 -- the orders of the definitions
 abbrev pub HasOrders : Definitions → Type 0
-HasOrders d = IsKnown d × AreOrders (forms_of d) (names_of d) d.orders.items
+HasOrders d = AreOrders (forms_of d) (names_of d) d.orders.items
 
 abbrev pub OrderedBy : Definitions → List ℕ → Ordered → Type 0
 OrderedBy d x found = IsOrderIn (forms_of d) (names_of d) d.orders.items x found
@@ -110,10 +109,6 @@ module _ (F : List ℕ → Option Form) (ns : List Named) (orders : List Known) 
   KindHasOrder x (Map es found) = (k : List ℕ) × IsAt ns es.key k × KeysAscend x k found
   KindHasOrder x kind = ⊤
 
-  -- and so are those of all kinds that were found
-  abbrev pub KindsHaveOrders : List (Option (Bor Definition × Kind)) → Type 0
-  KindsHaveOrders kinds = (i : ℕ) (x : List ℕ) (r : Bor Definition × Kind) → slice_get kinds i ≡ Some (Some r) → IsAt ns i x → KindHasOrder x r.1
-
 module _ (F : List ℕ → Option Form) where
   -- x is no set or map whose keys have a known order
   abbrev pub KnowsNoOrder : List ℕ → Type 0
@@ -130,17 +125,19 @@ module _ (F : List ℕ → Option Form) where
   KindTellsOrder x (ListKind es) = es.is_refused ≡ false → TellsNoOrder x es.order
   KindTellsOrder x kind = ⊤
 
-  -- and so do all kinds that were found
-  abbrev pub KindsTellOrders : List Named → List (Option (Bor Definition × Kind)) → Type 0
-  KindsTellOrders ns kinds = (i : ℕ) (x : List ℕ) (r : Bor Definition × Kind) → slice_get kinds i ≡ Some (Some r) → IsAt ns i x → KindTellsOrder x r.1
+-- what was found of the name at a place is its kind, which has the order of its keys, and tells where they have none
+abbrev pub IsFoundKind : (List ℕ → Option Form) → List Named → List Known → ℕ → Option (Bor Definition × Kind) → Type 0
+IsFoundKind F ns orders i found = IsKindAt F ns i found × ((x : List ℕ) → IsAt ns i x → IfSome found (λ r. KindHasOrder F ns orders x r.1 × KindTellsOrder F x r.1))
 
--- what is known is right, with the kinds of all names
-pub record HasKinds (d : Definitions) : Type 0 where
-  pub known : IsKnown d
-  pub whole : length d.kinds.items ≡ length d.layout.now.names.items
-  pub orders : AreOrders (forms_of d) (names_of d) d.orders.items
-  pub ascending : KindsHaveOrders (forms_of d) (names_of d) d.orders.items d.kinds.items
-  pub telling : KindsTellOrders (forms_of d) (names_of d) d.kinds.items
+-- and so is what was found of each of the first names
+abbrev pub AreFoundKinds : (List ℕ → Option Form) → List Named → List Known → List (Option (Bor Definition × Kind)) → Type 0
+AreFoundKinds F ns orders kinds = (i : ℕ) (found : Option (Bor Definition × Kind)) → slice_get kinds i ≡ Some found → IsFoundKind F ns orders i found
+
+-- the kinds are those of all names, and they and the orders are right
+pub record HasKinds (d : Definitions) (kinds : List (Option (Bor Definition × Kind))) : Type 0 where
+  pub whole : length kinds ≡ length (names_of d)
+  pub orders : HasOrders d
+  pub right : AreFoundKinds (forms_of d) (names_of d) d.orders.items kinds
 
 -- what is pending of these bytes compares so
 abbrev pub PendingCompares : Definitions → List Pending → List ℕ → List ℕ → Ordering → Type 0

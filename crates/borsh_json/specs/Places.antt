@@ -1,20 +1,21 @@
--- Names by their places in a layout, and the kinds that the code finds of them.
-use Rattle.std.specs.Prelude.{◌≡◌, ◌⊎◌, ℕ, ◌<◌, List, map, length, Bool, true, false, Option, Some, None, MatchOption, slice_get, string_bytes}
+-- Names by their places in a plan, and the kinds that the code finds of them.
+use Rattle.std.specs.Prelude.{◌≡◌, ℕ, ◌<◌, List, map, length, Bool, true, false, Option, Some, None, MatchOption, string_bytes}
 use Rattle.std.specs.Borrow.{Bor}
+use Rattle.std.specs.Float.{Format}
 use Rattle.std.specs.Str.{bytes_eq}
 use Rattle.std.specs.List.{IsDistinct}
 use Rattle.json.specs.Json.{Json}
 use Rattle.borsh_walks.specs.Container.{references}
 use Rattle.borsh_walks.specs.declared.definition.Definition.{Definition}
-use Rattle.borsh_values.specs.declared.layout.Named.{Named}
-use Rattle.borsh_values.specs.Layouts.{name_of}
+use Rattle.borsh_plan.specs.declared.named.Named.{Named}
+use Rattle.borsh_plan.specs.Names.{name_of}
 use Rattle.borsh_values.specs.Nodes.{packed_size}
 use Rattle.borsh_json.specs.declared.kinds.Kind.{Kind as Found}
 use Rattle.borsh_json.specs.declared.kinds.Kind.TheVariants.{Number, Bool as Truth, Text, Bytes, Float, ByteList, Numbers, List as Elements, Map, Row, Newtype, Object, Optional, Choice, Repeated}
 use Rattle.borsh_json.specs.declared.kinds.KeyKind.{KeyKind}
 use Rattle.borsh_json.specs.declared.kinds.KeyKind.TheVariants.{Text as TextKeys, Number as NumberKeys}
 use Rattle.borsh_json.specs.Forms.{Form, primitive, sequence, tuple, newtype, unnamed, named, choice, form_of, shape_of_form, shapes, HasNoBytes}
-use Rattle.borsh_json.specs.Table.{Lengths, Keys, texts, numbers, Kind, truth, whole, float, raw, utf8, byte_list, list, row, inner, fields, optional, variants, entries, HasKind, Part, Says}
+use Rattle.borsh_json.specs.Table.{Lengths, Keys, texts, numbers, Kind, truth, whole, float, float_size, raw, utf8, byte_list, list, row, inner, fields, optional, variants, entries, HasKind, Part, Says}
 
 -- the name at the place is x
 abbrev pub IsAt : List Named → ℕ → List ℕ → Type 0
@@ -29,10 +30,6 @@ lengths_of (newtype p) = record { width = 0; least = 1; greatest = 0 }
 lengths_of (unnamed ps) = record { width = 0; least = 1; greatest = 0 }
 lengths_of (named fs) = record { width = 0; least = 1; greatest = 0 }
 lengths_of (choice w vs) = record { width = 0; least = 1; greatest = 0 }
-
--- the infinity of a float of n bytes, by its bits
-abbrev pub IsInfinity : ℕ → ℕ → Type 0
-IsInfinity n bits = ((n ≡ 4) × (bits ≡ 0x7f800000)) ⊎ ((n ≡ 8) × (bits ≡ 0x7ff0000000000000))
 
 module _ (F : List ℕ → Option Form) (ns : List Named) where
   -- no JSON says a value of the name
@@ -55,7 +52,7 @@ module _ (F : List ℕ → Option Form) (ns : List Named) where
   IsKindOf x f Truth = HasKind F x truth
   IsKindOf x f Text = HasKind F x (utf8 (lengths_of f))
   IsKindOf x f (Bytes n) = HasKind F x (raw n)
-  IsKindOf x f (Float n) = (bits : ℕ) × IsInfinity n bits × HasKind F x (float n bits)
+  IsKindOf x f (Float n) = (g : Format) × (n ≡ float_size g) × HasKind F x (float g)
   IsKindOf x f (ByteList es) = (e : List ℕ) × IsAt ns es.at e × HasKind F x (byte_list (lengths_of f) e) × (es.is_refused ≡ false)
   IsKindOf x f (Numbers es) = IsListOf x f es.at es.is_refused × (es.is_refused ≡ false) × (0 < es.size) × ((e : List ℕ) → IsAt ns es.at e → F e ≡ Some (primitive es.size))
   IsKindOf x f (Elements es) = IsListOf x f es.at es.is_refused × (es.is_refused ≡ false → (e : List ℕ) → IsAt ns es.at e → packed_size (shapes F e) ≡ 0)
@@ -70,7 +67,3 @@ module _ (F : List ℕ → Option Form) (ns : List Named) where
   -- what was found of the name at a place: its definition and its kind, if it has bytes; and nothing only where it has no definition
   abbrev pub IsKindAt : ℕ → Option (Bor Definition × Found) → Type 0
   IsKindAt i found = (x : List ℕ) → IsAt ns i x → (HasNoBytes F x → ⊥) → MatchOption found (F x ≡ None) (λ r. (F x ≡ Some (form_of r.0.now)) × IsKindOf x (form_of r.0.now) r.1)
-
-  -- what was found of the first names is right
-  abbrev pub AreKinds : List (Option (Bor Definition × Found)) → Type 0
-  AreKinds known = (i : ℕ) (found : Option (Bor Definition × Found)) → slice_get known i ≡ Some found → IsKindAt i found

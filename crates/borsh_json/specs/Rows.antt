@@ -4,31 +4,33 @@ use Rattle.std.specs.Borrow.{Bor}
 use Rattle.std.specs.BTreeMap.{get_by_text}
 use Rattle.std.specs.Fmt.{decimal}
 use Rattle.borsh_walks.specs.Container.{Member, sequence as counted_sequence}
-use Rattle.borsh_walks.specs.Definitions.{definitions_in, shape_of}
+use Rattle.borsh_walks.specs.Definitions.{shape_of}
+use Rattle.borsh_plan.specs.Plan.{definitions_of, map_of, root_of}
 use Rattle.borsh_values.specs.Nodes.{IsCountOf, Opens}
-use Rattle.borsh_values.specs.Preorder.{IsInValue, bytes_left, layout_of, next_offset}
+use Rattle.borsh_values.specs.Preorder.{IsInValue, bytes_left, plan_of, next_offset}
 use Rattle.borsh_values.specs.Tags.{IsVariantIndex}
-use Rattle.borsh_values.specs.declared.layout.Layout.{Layout}
+use Rattle.borsh_plan.specs.declared.plan.Plan.{Plan}
 use Rattle.borsh_values.specs.declared.nodes.Node.{Node}
 use Rattle.borsh_json.specs.declared.error.JsonError.{JsonError}
 use Rattle.borsh_json.specs.declared.rows.Rows.{Rows}
 use Rattle.borsh_json.specs.Errors.{IsNoRowsReason}
+use Rattle.borsh_json.specs.Floats.{IsFloatText, IsNan}
 use Rattle.borsh_json.specs.Forms.{Form, primitive, sequence, tuple, newtype, unnamed, named, choice, IsByte}
 use Rattle.borsh_json.specs.Places.{lengths_of}
 use Rattle.borsh_json.specs.Table.{any_length, Kind, no_bytes, truth, whole, float, raw, utf8, byte_list, list, row, inner, fields, optional, variants, entries, primitive_kind, IsWhole}
 
--- the layout by which rows are given
-abbrev pub rows_layout : Rows → Bor Layout
-rows_layout r = layout_of r.nodes
+-- the plan by which rows are given
+abbrev pub rows_plan : Rows → Bor Plan
+rows_plan r = plan_of r.nodes
 
 -- the rows of a member, of which some are given
 abbrev pub AreRows : Rows → Type 0
 AreRows r = IsInValue r.nodes
 
 -- no row is given: all bytes are left
-pub record BeginsRows (l : Bor Layout) (all : List ℕ) (r : Rows) : Type 0 where
+pub record BeginsRows (l : Bor Plan) (all : List ℕ) (r : Rows) : Type 0 where
   pub rows : AreRows r
-  pub layout : rows_layout r ≡ l
+  pub plan : rows_plan r ≡ l
   pub bytes : bytes_left r.nodes ≡ all
   pub offset : next_offset r.nodes ≡ 0
 
@@ -38,17 +40,17 @@ pub record IsNextRow (old new : Rows) (n : Node) : Type 0 where
   pub bytes : bytes_left old.nodes ≡ n.bytes.now ++ bytes_left new.nodes
   pub offset : n.offset ≡ next_offset old.nodes
   pub next : next_offset new.nodes ≡ next_offset old.nodes + length n.bytes.now
-  pub defined : get_by_text (rows_layout old).now.map.now n.name.now ≡ Some n.definition.now
+  pub defined : get_by_text (map_of (rows_plan old).now) n.name.now ≡ Some n.definition.now
   pub parts : List (List ℕ)
-  pub opens : Opens (definitions_in (rows_layout old).now.map.now) (shape_of n.definition.now) n.bytes.now parts
+  pub opens : Opens (definitions_of (rows_plan old).now) (shape_of n.definition.now) n.bytes.now parts
 
 -- none is given only where no bytes are left
 abbrev pub GivesRow : Rows → Rows → Option Node → Type 0
 GivesRow old new found = MatchOption found (bytes_left old.nodes ≡ []) (λ n. IsNextRow old new n)
 
 -- why there is no next row of any member of the root
-abbrev pub IsNoRow : Layout → JsonError → Type 0
-IsNoRow l e = (bytes : List ℕ) → Member (definitions_in l.map.now) l.root.now bytes → IsNoRowsReason (definitions_in l.map.now) l.root.now bytes e
+abbrev pub IsNoRow : Plan → JsonError → Type 0
+IsNoRow l e = (bytes : List ℕ) → Member (definitions_of l) (root_of l) bytes → IsNoRowsReason (definitions_of l) (root_of l) bytes e
 
 -- `false` or `true`
 abbrev pub IsTruthText : List ℕ → List ℕ → Type 0
@@ -57,12 +59,12 @@ IsTruthText own v =
     ⊎ ((own ≡ 1 ∷ []) × (v ≡ codes "true"))
     ⊎ ((own ≡ 0 ∷ [] → ⊥) × (own ≡ 1 ∷ [] → ⊥) × (v ≡ codes "neither true nor false"))
 
--- what a primitive's bytes say: `bool`; a whole number in decimal, also 0 where the type has no 0; nothing of others. Of floats this tells nothing
+-- what a primitive's bytes say: `bool`; a whole number in decimal, also 0 where the type has no 0; a float, also a NaN; nothing of others
 abbrev pub IsPrimitiveText : Kind → List ℕ → List ℕ → Type 0
 IsPrimitiveText no_bytes own v = ⊤
 IsPrimitiveText truth own v = IsTruthText own v
 IsPrimitiveText (whole n signed non_zero) own v = IsWhole n signed false v own
-IsPrimitiveText (float n infinity) own v = ⊤
+IsPrimitiveText (float f) own v = IsFloatText f own v ⊎ (IsNan f own × (v ≡ codes "not a number"))
 IsPrimitiveText (raw n) own v = v ≡ []
 IsPrimitiveText (utf8 l) own v = ⊤
 IsPrimitiveText (byte_list l e) own v = ⊤

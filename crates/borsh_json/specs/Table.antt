@@ -1,5 +1,7 @@
 -- How the values of a name are written as JSON: the kinds of names, and what JSON of each kind says.
-use Rattle.std.specs.Prelude.{◌≡◌, ◌⊎◌, ℕ, suc, zero, ◌*◌, ◌/◌, ◌%◌, ◌<◌, ◌≤◌, ◌^◌, ℤ, pos, negsuc, List, [], ◌∷◌, ◌++◌, length, map, Bool, true, false, ◌&&◌, ◌==◌, if◌then◌else◌, nat_le, codes, Option, Some, None, option_map, option_and_then, Ok, IsUtf8}
+use Rattle.std.specs.Prelude.{◌≡◌, ◌⊎◌, ℕ, suc, zero, ◌*◌, ◌<◌, ◌≤◌, ◌^◌, ℤ, pos, negsuc, List, [], ◌∷◌, ◌++◌, length, map, Bool, true, false, ◌&&◌, ◌==◌, if◌then◌else◌, nat_le, codes, Option, Some, None, option_map, option_and_then, Ok, IsUtf8, is_nan, from_bits}
+use Rattle.std.specs.Float.{Float, Format, binary32, binary64, inf}
+use Rattle.std.specs.Float.Parse.{parse_float}
 use Rattle.std.specs.Str.{bytes_eq}
 use Rattle.std.specs.Str.Parse.{signed_digits_value}
 use Rattle.std.specs.Fmt.{signed_decimal}
@@ -40,7 +42,7 @@ pub data Kind : Type 0 where
   no_bytes : Kind
   truth : Kind
   whole : ℕ → Bool → Bool → Kind
-  float : ℕ → ℕ → Kind
+  float : Format → Kind
   raw : ℕ → Kind
   utf8 : Lengths → Kind
   byte_list : Lengths → List ℕ → Kind
@@ -65,12 +67,12 @@ abbrev pub number_kind : List (List ℕ × ℕ × Bool × Bool) → List ℕ →
 number_kind [] x n = raw n
 number_kind (t ∷ ts) x n = if bytes_eq x t.0 && (t.1 == n) then whole t.1 t.2 t.3 else number_kind ts x n
 
--- a primitive of n bytes: `bool`; `f32` or `f64`, with the bits of its infinity; a whole number; or none of these
+-- a primitive of n bytes: `bool`; `f32` or `f64`; a whole number; or none of these
 abbrev pub primitive_kind : List ℕ → ℕ → Kind
 primitive_kind x n =
     if bytes_eq x (codes "bool") && (n == 1) then truth
-    else if bytes_eq x (codes "f32") && (n == 4) then float 4 0x7f800000
-    else if bytes_eq x (codes "f64") && (n == 8) then float 8 0x7ff0000000000000
+    else if bytes_eq x (codes "f32") && (n == 4) then float binary32
+    else if bytes_eq x (codes "f64") && (n == 8) then float binary64
     else number_kind number_types x n
 
 module _ (F : List ℕ → Option Form) where
@@ -144,9 +146,27 @@ IsNumber n s j = ((n ≤ 8) × (j ≡ number s)) ⊎ ((8 ≤ n) × (j ≡ string
 abbrev pub IsHex : Json → List ℕ → Type 0
 IsHex j bytes = (digits : List ℕ) × (j ≡ string (codes "0x" ++ digits)) × (decode_of digits ≡ Ok bytes)
 
--- n bytes that are no NaN: without the sign, which is the highest bit, the bits are at most those of infinity
-abbrev pub IsNoNan : ℕ → ℕ → List ℕ → Type 0
-IsNoNan n infinity bytes = (bits : ℕ) × (bytes ≡ low_bytes n bits) × (bits % (256 ^ n / 2) ≤ infinity)
+-- how many bytes a float has
+abbrev pub float_size : Format → ℕ
+float_size binary32 = 4
+float_size binary64 = 8
+
+-- an infinity, by its word
+abbrev pub infinity_of : List ℕ → Option Float
+infinity_of s = if bytes_eq s (codes "inf") then Some (inf false) else if bytes_eq s (codes "-inf") then Some (inf true) else None
+
+-- the float that JSON is: the one nearest to a number, or an infinity
+abbrev pub float_of : Format → Json → Option Float
+float_of f null = None
+float_of f (boolean b) = None
+float_of f (number s) = parse_float f s
+float_of f (string s) = infinity_of s
+float_of f (array js) = None
+float_of f (object ms) = None
+
+-- the bytes are those of the bits of the float, which is no NaN
+abbrev pub IsFloat : Format → Float → List ℕ → Type 0
+IsFloat f v bytes = (bits : ℕ) × (bytes ≡ low_bytes (float_size f) bits) × (bits < 256 ^ float_size f) × (from_bits f bits ≡ v) × (is_nan v ≡ false)
 
 -- the prefix of a length k that is in range, and then these bytes
 abbrev pub IsPrefixed : Lengths → ℕ → List ℕ → List ℕ → Type 0
@@ -216,8 +236,8 @@ module _ (F : List ℕ → Option Form) where
   Says truth j own ps = (b : Bool) × (j ≡ boolean b) × (own ≡ (if b then 1 else 0) ∷ []) × (ps ≡ [])
   -- a whole number: `7` of less than 8 bytes, `"7"` of more, and either of 8
   Says (whole n signed non_zero) j own ps = (s : List ℕ) × IsNumber n s j × IsWhole n signed non_zero s own × (ps ≡ [])
-  -- a float that isn't a NaN: `"0x0000c03f"`, its bytes
-  Says (float n infinity) j own ps = IsHex j own × (length own ≡ n) × IsNoNan n infinity own × (ps ≡ [])
+  -- a float that isn't a NaN: `1.5`, any number, rounded once to the nearest float; or `"inf"` or `"-inf"`
+  Says (float f) j own ps = (v : Float) × (float_of f j ≡ Some v) × IsFloat f v own × (ps ≡ [])
   -- another primitive: `"0x0a1f"`, its bytes
   Says (raw n) j own ps = IsHex j own × (length own ≡ n) × (ps ≡ [])
   -- a `String`: `"text"`

@@ -7,10 +7,11 @@ use Rattle.json.specs.Token.{Token}
 use Rattle.json.specs.Json.{Json, null, Items, Members, no_members, member}
 use Rattle.json.specs.Tree.{json_tokens, items_tokens, members_tokens, depth, items_depth, members_depth, HasNumbers, ItemsHaveNumbers, MembersHaveNumbers}
 use Rattle.borsh_walks.specs.Container.{Shape, product, IsIn, Member}
+use Rattle.borsh_plan.specs.Plan.{root_of}
 use Rattle.borsh_values.specs.Nodes.{Opens}
 use Rattle.borsh_values.specs.Walks.{IsReadTo, IsWalker}
 use Rattle.borsh_values.specs.Membership.{IsUndecided}
-use Rattle.borsh_values.specs.declared.layout.Named.{Named}
+use Rattle.borsh_plan.specs.declared.named.Named.{Named}
 use Rattle.borsh_values.specs.declared.nodes.Node.{Node}
 use Rattle.borsh_json.specs.declared.definitions.Definitions.{Definitions}
 use Rattle.borsh_json.specs.declared.definitions.Known.{Known}
@@ -384,7 +385,7 @@ module _ (d : Definitions) (bytes : List ℕ) where
 module _ (d : Definitions) (w : Writing) where
   -- the writer walks by these definitions, and its text is all its own
   pub record IsWriterOf : Type 0 where
-    pub layout : w.walk.layout.now ≡ d.layout.now
+    pub plan : w.walk.plan.now ≡ d.plan.now
     pub walk : IsWalker w.walk
     pub fresh : output_before w.out ≡ []
     pub offset : w.walk.offset + length w.walk.left.now ≡ length w.bytes.now
@@ -394,7 +395,7 @@ module _ (d : Definitions) (w : Writing) where
     pub writer : IsWriterOf
     pub mark : Mark
     pub marks : List Mark
-    pub state : IsWriting (forms_of d) (names_of d) d.layout.now.root.now w.bytes.now p w.position.outer.items mark marks w.walk.left.now (output_tokens w.out)
+    pub state : IsWriting (forms_of d) (names_of d) (root_of d.plan.now) w.bytes.now p w.position.outer.items mark marks w.walk.left.now (output_tokens w.out)
     pub here : IsMarked d w.bytes.now p mark
     pub around : AreEach (IsMarked d w.bytes.now) w.position.outer.items marks
 
@@ -404,14 +405,14 @@ module _ (d : Definitions) (w : Writing) where
     pub room : ℕ
     pub mark : Mark
     pub marks : List Mark
-    pub state : IsAwaiting (forms_of d) (names_of d) d.layout.now.root.now w.bytes.now x room w.position.place w.position.outer.items mark marks w.walk.left.now (output_tokens w.out)
+    pub state : IsAwaiting (forms_of d) (names_of d) (root_of d.plan.now) w.bytes.now x room w.position.place w.position.outer.items mark marks w.walk.left.now (output_tokens w.out)
     pub here : IsMarked d w.bytes.now w.position.place mark
     pub around : AreEach (IsMarked d w.bytes.now) w.position.outer.items marks
 
   -- or at the end
   pub record HasWritten : Type 0 where
     pub fresh : output_before w.out ≡ []
-    pub whole : IsWhole (forms_of d) d.layout.now.root.now (output_tokens w.out) w.bytes.now
+    pub whole : IsWhole (forms_of d) (root_of d.plan.now) (output_tokens w.out) w.bytes.now
 
   abbrev pub IsWrittenOn : Bool → Type 0
   IsWrittenOn true = IsWritingAt w.position.place
@@ -419,7 +420,7 @@ module _ (d : Definitions) (w : Writing) where
 
 -- an error of the writer of these definitions
 abbrev pub StopsBy : Definitions → List ℕ → JsonError → Type 0
-StopsBy d bytes e = Stops (forms_of d) d.layout.now.root.now bytes e
+StopsBy d bytes e = Stops (forms_of d) (root_of d.plan.now) bytes e
 
 -- the brackets at the end of a place
 abbrev pub ends_of : Parts → List Token

@@ -1,10 +1,10 @@
-// A layout, and what was found out about its names. Names are known by their places.
-ghost use Rattle.borsh_json.specs.Words.{AreOpenIn, AwaitsOrder, BeginsNone, BeginsOrder, FindsKindAt, FindsNeeded, FindsNoOrderAt, FindsNone, FindsOrder, FindsOrderAt, Form, HasKinds, HasNoBytes, HasOrder, HasOrderAt, HasOrders, IsAlike, IsAt, IsFoundAt, IsKindAt, IsKnown, IsKnownAt, IsLaidOut, IsLookedAt, IsNamed, KindTellsOrder, KnownOrder, KnowsMore, KnowsNone, KnowsNoneOfAll, KnowsSizes, Order, SearchesAt, SearchesOn, TellsKindOrderAt, form_of, forms_in, forms_of, names_of, references, shape_of_form};
-ghost use Rattle.std.specs.Prelude.{◌≡◌, ℕ, List, Decides, IfOk, IfSome, None, OnOk, Some, length, option_map, slice_get, slice_set};
+// The definitions of a plan's names, and the orders of their values that were found. Names are known by their places.
+ghost use Rattle.borsh_json.specs.Words.{AreOpenIn, AwaitsOrder, BeginsNone, BeginsOrder, FindsKindAt, FindsNeeded, FindsNoOrderAt, FindsNone, FindsOrder, FindsOrderAt, Form, HasNoBytes, HasOrder, HasOrderAt, HasOrders, IsAlike, IsAt, IsFoundAt, IsKindAt, IsKnownAt, IsLookedAt, IsNamed, KindTellsOrder, KnownOrder, KnowsMore, KnowsNone, KnowsNoneOfAll, Order, SearchesAt, SearchesOn, TellsKindOrderAt, form_of, forms_in, forms_of, map_of, names_of, plan_names, references, shape_of_form};
+ghost use Rattle.std.specs.Prelude.{◌≡◌, [], ℕ, List, Decides, IfOk, IfSome, None, OnOk, Some, length, option_map, slice_get, slice_set};
 
 use crate::kinds::{Kind, kind_of};
 use crate::order::{Ordered, ordered_as};
-use borsh_values::{Layout, Node};
+use borsh_values::Plan;
 use borsh_walks::Definition;
 use std::alloc::{AllocError, Global};
 
@@ -16,52 +16,35 @@ enum Known {
     Order(Option<Ordered>),
 }
 
-/// A layout, and how the values of its names are written as JSON. [`to_json`](crate::to_json) and [`from_json`](crate::from_json)
-/// make one for each call; a caller with many values of one type makes it once.
+/// A plan, and the orders of the values of its names, as far as they were asked for.
 #[derive(Drop)]
 pub struct Definitions<'a, 'l> {
     pub alloc: Global,
-    pub layout: &'l Layout<'a>,
-    /// Of each name its definition, if it has one, and how its values are written.
-    kinds: Vec<Option<(&'a Definition, Kind<'a>)>>,
+    pub plan: &'l Plan<'a>,
     /// Empty until an order is asked for.
     orders: Vec<Known>,
 }
 
 impl<'a, 'l> Definitions<'a, 'l> {
-    /// The JSON of values of the layout's root. The only error is that an allocation failed. Left open: memory.
-    ///
-    /// ```
-    /// let layout = Layout::new(alloc, "(u8, bool)", &definitions)?;
-    /// let json = Json::new(alloc, &layout)?;
-    /// for record in records {
-    ///     let text = json.to_json(record, Style::COMPACT)?;
-    ///     assert_eq!(rt; json.from_json(text.as_str())?.as_slice(), record);
-    /// }
-    /// ```
-    pub fn new(alloc: Global, layout: &'l Layout<'a>) -> Result<Definitions<'a, 'l>, AllocError>
-        ensures known { IsLaidOut layout.now → KnowsSizes layout.now → IfOk result (λ d. HasKinds d) }
-        ensures layout { IfOk result (λ d. d.layout.now ≡ layout.now) }
+    /// With no orders yet.
+    pub(crate) fn new(alloc: Global, plan: &'l Plan<'a>) -> Definitions<'a, 'l>
+        ensures plan { result.plan.now ≡ plan.now }
+        ensures orders { result.orders.items ≡ [] }
     {
-        let count = layout.names.len();
-        let kinds = Vec::with_capacity(alloc, count)?;
-        let mut definitions = Definitions {
+        Definitions {
             alloc,
-            layout,
-            kinds,
+            plan,
             orders: Vec::new(alloc),
-        };
-        for at in 0..count {
-            let kind = definitions.find_kind(at)?;
-            definitions.kinds.push(kind)?;
         }
-        Ok(definitions)
     }
 
     /// Finds the definition of the name at a place, if it has one, and how its values are written.
-    fn find_kind(&mut self, at: usize) -> Result<Option<(&'a Definition, Kind<'a>)>, AllocError>
-        ensures kind { let ns = self.old.layout.now.names.items in let F = forms_in self.old.layout.now.map.now in
-            IsKnown self.old → IfOk result (λ kind. IsKindAt F ns at kind) }
+    pub(crate) fn find_kind(
+        &mut self,
+        at: usize,
+    ) -> Result<Option<(&'a Definition, Kind<'a>)>, AllocError>
+        ensures kind { let ns = plan_names self.old.plan.now in let F = forms_in (map_of self.old.plan.now) in
+            IfOk result (λ kind. IsKindAt F ns at kind) }
         ensures same { OnOk result (IsAlike self.old self.new) }
         ensures orders { FindsKindAt self.old self.new.orders.items at result }
         ensures tells { TellsKindOrderAt self.old self.new.orders.items at result }
@@ -77,70 +60,35 @@ impl<'a, 'l> Definitions<'a, 'l> {
 
     /// The definition of the name at a place, if it has one.
     pub(crate) fn get(&self, at: usize) -> Option<&'a Definition>
-        ensures { IsKnown self.now → (x : List ℕ) → IsAt self.now.layout.now.names.items at x →
-            option_map (λ d. form_of d.now) result ≡ forms_in self.now.layout.now.map.now x }
+        ensures { (x : List ℕ) → IsAt (plan_names self.now.plan.now) at x →
+            option_map (λ d. form_of d.now) result ≡ forms_in (map_of self.now.plan.now) x }
     {
-        match self.layout.names.as_slice().get(at).copied() {
-            Some(named) => named.definition,
-            None => None,
-        }
+        self.plan.definition(at)
     }
 
     /// The name at a place.
     pub(crate) fn name(&self, at: usize) -> &'a str
-        ensures { IsKnown self.now → (x : List ℕ) → IsAt self.now.layout.now.names.items at x →
+        ensures { (x : List ℕ) → IsAt (plan_names self.now.plan.now) at x →
             result.now ≡ x }
     {
-        match self.layout.names.as_slice().get(at).copied() {
-            Some(named) => named.name,
-            None => "",
-        }
+        self.plan.name(at)
     }
 
     /// The place of a part of the definition at a place; past its parts a place that no name has.
     pub(crate) fn part(&self, at: usize, index: usize) -> usize
-        ensures { let ns = self.now.layout.now.names.items in let F = forms_in self.now.layout.now.map.now in
-            IsKnown self.now → (x y : List ℕ) (f : Form) → IsAt ns at x → F x ≡ Some f →
+        ensures { let ns = plan_names self.now.plan.now in let F = forms_in (map_of self.now.plan.now) in
+            (x y : List ℕ) (f : Form) → IsAt ns at x → F x ≡ Some f →
             slice_get (references (shape_of_form f)) index ≡ Some y → IsAt ns result y }
     {
-        match self.layout.parts.as_slice().get(at) {
-            Some(parts) => parts.as_slice().get(index).copied().unwrap_or(usize::MAX),
-            None => usize::MAX,
-        }
+        self.plan.part(at, index).unwrap_or(usize::MAX)
     }
 
     /// Whether the values of the name at a place have no bytes.
     pub(crate) fn is_zero_size(&self, at: usize) -> bool
-        ensures { IsKnown self.now → (x : List ℕ) → IsAt self.now.layout.now.names.items at x →
-            Decides result (HasNoBytes (forms_in self.now.layout.now.map.now) x) }
+        ensures { (x : List ℕ) → IsAt (plan_names self.now.plan.now) at x →
+            Decides result (HasNoBytes (forms_in (map_of self.now.plan.now)) x) }
     {
-        self.layout
-            .zeros
-            .as_slice()
-            .get(at)
-            .copied()
-            .unwrap_or(false)
-    }
-
-    /// How the value of a node is written.
-    pub(crate) fn kind_of_node(&self, node: &Node<'a, '_>) -> Option<Kind<'a>> {
-        let at = self.layout.places.get(node.name).copied()?;
-        let (_, kind) = self.kind(at)?;
-        Some(kind)
-    }
-
-    /// The definition of the name at a place, if it has one, and how its values are written.
-    pub(crate) fn kind(&self, at: usize) -> Option<(&'a Definition, Kind<'a>)>
-        ensures kind { let ns = self.now.layout.now.names.items in let F = forms_in self.now.layout.now.map.now in
-            HasKinds self.now → IsKindAt F ns at result }
-        ensures order { HasKinds self.now → (x : List ℕ) → IsAt (names_of self.now) at x → HasOrderAt self.now x result }
-        ensures telling { HasKinds self.now → (x : List ℕ) → IsAt (names_of self.now) at x →
-            IfSome result (λ r. KindTellsOrder (forms_of self.now) x r.1) }
-    {
-        match self.kinds.as_slice().get(at).copied() {
-            Some(found) => found,
-            None => None,
-        }
+        self.plan.is_zero(at)
     }
 
     /// How the values of the name at a place are ordered; none where that isn't known.
@@ -161,7 +109,7 @@ impl<'a, 'l> Definitions<'a, 'l> {
             OnOk result (KnowsNoneOfAll self.old self.new.orders.items) }
     {
         if self.orders.is_empty() {
-            self.orders = vec![in self.alloc; Known::Nothing; self.layout.names.len()]?;
+            self.orders = vec![in self.alloc; Known::Nothing; self.plan.len()]?;
         }
         Ok(())
     }

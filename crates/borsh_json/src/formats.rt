@@ -1,6 +1,6 @@
 // The format's own types: a name is one of theirs if it is composed of the names of its parts, and has their definition. Names are
 // compared with the composed ones and never taken apart, since a container may give any definition to any name.
-ghost use Rattle.borsh_json.specs.Words.{HasForm, IsCollection, IsMapName, IsNamed, IsOption, IsSetName, IsUnit, choice, form_of, form_of_struct, forms_of, joined, newtype, sequence, tuple};
+ghost use Rattle.borsh_json.specs.Words.{HasForm, IsCollection, IsMapName, IsNamed, IsOption, IsSetName, IsUnit, choice, form_of, form_of_struct, forms_of, joined, newtype, plan_names, sequence, tuple};
 ghost use Rattle.std.specs.Prelude.{◌≡◌, ◌++◌, ◌∷◌, [], ℕ, List, Decides, MatchBool, MatchOption, Some, codes, map, option_map, slice_get, string_bytes};
 
 use crate::definitions::Definitions;
@@ -153,7 +153,7 @@ pub fn collection_of(
     definition: &Definition,
 ) -> Collection
     ensures { (x : List ℕ) → HasForm definitions.now at (form_of definition.now) x →
-        IsCollection (forms_of definitions.now) definitions.now.layout.now.names.items x result }
+        IsCollection (forms_of definitions.now) (plan_names definitions.now.plan.now) x result }
 {
     let Definition::Sequence { elements, .. } = definition else {
         return Collection::List;

@@ -1,5 +1,5 @@
 // How the values of a name are written in JSON.
-ghost use Rattle.borsh_json.specs.Words.{AreEntries, AreKeys, AreKeysOf, FindsKeysOf, FindsKind, FindsNoKeysOf, HasElements, HasForm, HasNoBytes, IsAlike, IsAt, IsByte, IsCollection, IsKindOf, IsKnown, IsMap, IsNamed, IsNullable, IsPrimitiveKind, IsRefusedList, IsRepeated, Keys, MayBeNull, OrdersKeys, TellsKind, TellsKindOrder, form_of, form_of_struct, forms_in, forms_of, packed_size, primitive_kind, sequence, shape_of_form, texts};
+ghost use Rattle.borsh_json.specs.Words.{AreEntries, AreKeys, AreKeysOf, FindsKeysOf, FindsKind, FindsNoKeysOf, HasElements, HasForm, HasNoBytes, IsAlike, IsAt, IsByte, IsCollection, IsKindOf, IsMap, IsNamed, IsNullable, IsPrimitiveKind, IsRefusedList, IsRepeated, Keys, MayBeNull, OrdersKeys, TellsKind, TellsKindOrder, form_of, form_of_struct, forms_in, forms_of, map_of, packed_size, plan_names, primitive_kind, sequence, shape_of_form, texts};
 ghost use Rattle.std.specs.Prelude.{◌≡◌, ℕ, List, Decides, IfOk, MatchBool, MatchOption, OnOk, Some, map, option_map, string_bytes};
 
 use crate::definitions::Definitions;
@@ -55,7 +55,7 @@ pub enum Kind<'a> {
     Text,
     /// `"0x0a1f"`, of so many bytes.
     Bytes(u8),
-    /// The bits of a float of so many bytes, as bytes; no NaN.
+    /// `1.5`, or `"inf"`; no NaN. A float has so many bytes.
     Float(u8),
     /// `"0x0a1f"`, of any number of bytes; also taken from `[10, 31]`.
     ByteList(Elements),
@@ -85,9 +85,9 @@ pub fn kind_of<'a>(
     at: usize,
     definition: &'a Definition,
 ) -> Result<Kind<'a>, AllocError>
-    ensures kind { let ns = definitions.old.layout.now.names.items in
-        let F = forms_in definitions.old.layout.now.map.now in
-        IsKnown definitions.old → IfOk result (λ kind. (x : List ℕ) → IsAt ns at x →
+    ensures kind { let ns = plan_names definitions.old.plan.now in
+        let F = forms_in (map_of definitions.old.plan.now) in
+        IfOk result (λ kind. (x : List ℕ) → IsAt ns at x →
         F x ≡ Some (form_of definition.now) → (HasNoBytes F x → ⊥) → IsKindOf F ns x (form_of definition.now) kind) }
     ensures same { OnOk result (IsAlike definitions.old definitions.new) }
     ensures orders { FindsKind definitions.old definitions.new.orders.items at (form_of definition.now) result }
@@ -321,7 +321,7 @@ fn size_of_primitive(definition: Option<&Definition>) -> u8
 
 /// Whether a map's keys have no bytes.
 fn has_empty_keys(definitions: &Definitions<'_, '_>, collection: Collection) -> bool
-    ensures { let ns = definitions.now.layout.now.names.items in IsKnown definitions.now → (x : List ℕ) →
+    ensures { let ns = plan_names definitions.now.plan.now in (x : List ℕ) →
         IsCollection (forms_of definitions.now) ns x collection → MatchBool result
         ((k v : List ℕ) × IsMap (forms_of definitions.now) x k v × HasNoBytes (forms_of definitions.now) k)
         ((k v : List ℕ) → IsMap (forms_of definitions.now) x k v → HasNoBytes (forms_of definitions.now) k → ⊥) }
@@ -359,7 +359,7 @@ pub fn is_byte(definitions: &Definitions<'_, '_>, at: usize) -> bool
 
 /// The entries of a map whose keys are texts or numbers.
 fn entries_of<'a>(definitions: &Definitions<'a, '_>, collection: Collection) -> Option<Entries<'a>>
-    ensures { let ns = definitions.now.layout.now.names.items in IsKnown definitions.now → (x : List ℕ) →
+    ensures { let ns = plan_names definitions.now.plan.now in (x : List ℕ) →
         IsCollection (forms_of definitions.now) ns x collection → MatchOption result
         ((k v : List ℕ) (keys : Keys) → IsMap (forms_of definitions.now) x k v → AreKeys (forms_of definitions.now) k keys → ⊥)
         (λ es. (k v : List ℕ) × IsAt ns es.key k × IsAt ns es.value v ×
@@ -384,7 +384,7 @@ fn kind_of_key(
     at: usize,
     definition: &Definition,
 ) -> Option<KeyKind>
-    ensures { let ns = definitions.now.layout.now.names.items in
+    ensures { let ns = plan_names definitions.now.plan.now in
         (k : List ℕ) → HasForm definitions.now at (form_of definition.now) k → MatchOption result
         ((keys : Keys) → AreKeys (forms_of definitions.now) k keys → ⊥)
         (λ kind. (keys : Keys) × AreKeys (forms_of definitions.now) k keys ×

@@ -1,20 +1,21 @@
 // What is written of a value without places of its own.
 ghost use Rattle.borsh_json.specs.Leaves.{ForPrimitives, HasSize, IsElementWritten, IsOpenedAs, IsWritten, RefusesElement, RefusesLeaf, TellsAbove, WritesHex, WritesKey, WritesNode};
-ghost use Rattle.borsh_json.specs.Words.{Form, FoundBytes, FoundNumbers, FoundText, HasKind, IsInfinity, IsKindOf, IsKnown, IsPrimitiveKind, SaysFirst, TableKind, float, form_of, forms_of, names_of, null, string, truth, whole};
+ghost use Rattle.borsh_json.specs.Words.{Form, FoundBytes, FoundNumbers, FoundText, HasKind, IsKindOf, IsPrimitiveKind, SaysFirst, TableKind, float, float_size, form_of, forms_of, names_of, null, string, truth, whole};
 ghost use Rattle.hex.specs.Hex.{encode_lower};
+ghost use Rattle.std.specs.Float.{Format};
 ghost use Rattle.std.specs.Prelude.{◌≡◌, ◌≤◌, ◌+◌, ◌*◌, ◌∷◌, ◌++◌, [], if◌then◌else◌, ℕ, List, MatchBool, MatchOption, Option, codes, length};
 
-use crate::definitions::Definitions;
 use crate::error::{Refusal, WriteError};
-use crate::floats::is_nan;
+use crate::floats::shortest;
 use crate::integers::Integer;
 use crate::kinds::{Elements, KeyKind, Kind, kind_of_primitive};
 use crate::numbers::Number;
 use crate::output::{LongNumbers, Output};
 use crate::sources::EntryKey;
+use crate::table::Table;
 use borsh_values::{Node, elements_of};
 use itoa::Buffer;
-use json::Token;
+use json::{Token, is_number};
 use std::alloc::Global;
 use std::str;
 
@@ -76,26 +77,26 @@ pub fn write_byte_list(
 
 /// Writes a list of primitives.
 pub fn write_numbers(
-    definitions: &Definitions<'_, '_>,
+    json: &Table<'_, '_>,
     node: &Node<'_, '_>,
     elements: Elements,
     long_numbers: LongNumbers,
     out: &mut Output,
 ) -> Written
-    ensures { let F = forms_of definitions.now in let f = form_of node.now.definition.now in
-        IsKnown definitions.now → (x : List ℕ) (parts : List (List ℕ)) →
+    ensures { let F = forms_of json.now in let f = form_of node.now.definition.now in
+        (x : List ℕ) (parts : List (List ℕ)) →
         IsOpenedAs F x f node.now.bytes.now parts →
-        IsKindOf F (names_of definitions.now) x f (FoundNumbers elements) →
+        IsKindOf F (names_of json.now) x f (FoundNumbers elements) →
         (parts ≡ []) × IsWritten F 1 x node.now.bytes.now out.old out.new result }
 {
-    let kind = kind_of_primitive(definitions.name(elements.at), elements.size);
+    let kind = kind_of_primitive(json.name(elements.at), elements.size);
     let size = usize::from(elements.size);
     let mut rest = elements_of(node);
     let mut index: usize = 0;
     out.put(Token::BeginArray)?;
     'elements: while !rest.is_empty() {
         let (element, after) = rest.split_at(size.clamp(1, rest.len()));
-        match put_element(definitions.alloc, kind, index, element, long_numbers, out) {
+        match put_element(json.alloc(), kind, index, element, long_numbers, out) {
             Ok(()) => rest = after,
             Err(error) => return Err(error),
         }
@@ -186,7 +187,7 @@ fn put_primitive(
     match kind {
         Kind::Number(number) => put_number(number, own, long_numbers, out),
         Kind::Bool => put_bool(own, out),
-        Kind::Float(_) => put_float(alloc, own, out),
+        Kind::Float(_) => put_float(own, out),
         _ => put_bytes(alloc, own, out),
     }
 }
@@ -238,16 +239,21 @@ fn bool_of(own: &[u8]) -> Option<bool>
     }
 }
 
-/// Writes a float, as its bytes.
-fn put_float(alloc: Global, own: &[u8], out: &mut Output) -> Written
-    ensures { (F : List ℕ → Option Form) (x : List ℕ) (n bits : ℕ) → IsInfinity n bits →
-        HasKind F x (float n bits) → length own.now ≡ n →
+/// Writes a float: the shortest number that reads back as it, or the word of an infinity.
+fn put_float(own: &[u8], out: &mut Output) -> Written
+    ensures { (F : List ℕ → Option Form) (x : List ℕ) (f : Format) →
+        HasKind F x (float f) → length own.now ≡ float_size f →
         IsWritten F 0 x own.now out.old out.new result }
 {
-    if is_nan(own) {
+    let mut buffer = ryu::Buffer::new();
+    let Some(text) = shortest(own, &mut buffer) else {
         return Err(WriteError::Refused(Refusal::NotNumber));
+    };
+    if is_number(text) {
+        Ok(out.put(Token::Number(text))?)
+    } else {
+        Ok(out.put(Token::String(text))?)
     }
-    put_bytes(alloc, own, out)
 }
 
 /// Writes `0x` and two hexadecimal digits for each byte.

@@ -27,15 +27,16 @@ mod reading;
 mod rows;
 mod sources;
 mod strict;
+mod table;
 mod values;
 mod writing;
 
 pub use ascii::in_ascii;
-pub use definitions::Definitions as Json;
 pub use error::{JsonError, Refusal};
 pub use laws::text_determines_bytes;
 pub use output::{Characters, Layout, LongNumbers, Style};
 pub use reading::from_json;
 pub use rows::{Rows, value_of};
 pub use strict::check_strict;
+pub use table::Table as Json;
 pub use writing::to_json;

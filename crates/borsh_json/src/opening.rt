@@ -1,11 +1,11 @@
 // What the JSON of a part says by its definition: its own bytes, and the parts that it has.
-ghost use Rattle.borsh_json.specs.Words.{AddsList, AddsOrFalls, BeginsWith, DeniesRead, ElementsFall, Form, FoundMap, FoundObject, FoundOrder, FoundRow, HasKeyOrder, HasKind, HasKinds, InItems, InMembers, IsArrayOf, IsAt, IsDistinct, IsExpected, IsHex, IsInfinity, IsKindOf, IsKnown, IsListOf, IsNumber, IsOpened, IsOpenedOrFalls, IsUnexpected, IsVariantAt, Json, JsonItems, JsonMembers, KindHasOrder, KindTellsOrder, KnownAt, KnowsNoOrder, NamedPlace, NamesVariant, NoneFalls, OneSource, Opens, OutOfMemory, SaysArray, TableKind, array, byte_list, bytes_eq, float, form_of, forms_in, lengths_of, list_parts, no_bytes, object, optional, raw, spec_variants, string, tag, truth, utf8, whole};
+ghost use Rattle.borsh_json.specs.Words.{AddsList, AddsOrFalls, BeginsWith, DeniesRead, ElementsFall, Form, FoundMap, FoundObject, FoundOrder, FoundRow, HasKeyOrder, HasKind, InItems, InMembers, IsArrayOf, IsAt, IsDistinct, IsExpected, IsHex, IsKindOf, IsListOf, IsNumber, IsOpened, IsOpenedOrFalls, IsUnexpected, IsVariantAt, Json, JsonItems, JsonMembers, KindHasOrder, KindTellsOrder, KnownAt, KnowsNoOrder, NamedPlace, NamesVariant, NoneFalls, OneSource, Opens, OutOfMemory, SaysArray, TableKind, array, byte_list, bytes_eq, float, float_size, form_of, forms_in, lengths_of, list_parts, map_of, no_bytes, object, optional, plan_names, raw, spec_variants, string, tag, truth, utf8, whole};
+ghost use Rattle.std.specs.Float.{Format};
 ghost use Rattle.std.specs.Prelude.{◌≡◌, ◌++◌, ◌≤◌, ⊤, [], ℕ, List, IfErr, IfOk, IfSome, Option, MatchOption, MatchResult, None, OnOk, Some, false, length, map, option_map, pos, string_bytes, take};
 
-use crate::definitions::Definitions;
 use crate::digits::hexadecimal;
 use crate::error::{ReadError, Refusal};
-use crate::floats::is_nan;
+use crate::floats::bits_of;
 use crate::kinds::{Elements, Entries, KeyKind, Kind, NamedFields, Variants};
 use crate::maps::{fields_of, sorted_entries};
 use crate::numbers::Number;
@@ -13,6 +13,7 @@ use crate::order::{Ordered, first_descent};
 use crate::position::{Parts, Place};
 use crate::prefixes::{put_count, put_tag};
 use crate::sources::Source;
+use crate::table::Table;
 use borsh_walks::Definition;
 use json::{Element, Items, Members};
 use std::alloc::{AllocError, Global};
@@ -29,43 +30,43 @@ pub type Opened<'a, 't, 's> = Result<Option<Frame<'a, 't, 's>>, ReadError>;
 
 /// Adds the own bytes of the value of the name at a place that the JSON says.
 pub fn open_part<'a, 't, 's>(
-    definitions: &Definitions<'a, '_>,
+    json: &Table<'a, '_>,
     at: usize,
     element: Element<'t, 's>,
     out: &mut Vec<u8>,
 ) -> Opened<'a, 't, 's>
-    ensures { let F = forms_in definitions.now.layout.now.map.now in
-        let ns = definitions.now.layout.now.names.items in
-        HasKinds definitions.now → (x : List ℕ) (j : Json) → IsAt ns at x →
+    ensures { let F = forms_in (map_of json.now.plan.now) in
+        let ns = plan_names json.now.plan.now in
+        (x : List ℕ) (j : Json) → IsAt ns at x →
         BeginsWith element.entry j →
-        IsOpenedOrFalls F ns definitions.now.orders.items x j out.old.items out.new.items result }
+        IsOpenedOrFalls F ns json.now.orders.items x j out.old.items out.new.items result }
 {
-    if definitions.is_zero_size(at) {
-        return open_null(definitions.alloc, &element);
+    if json.is_zero_size(at) {
+        return open_null(json.alloc(), &element);
     }
-    let Some((definition, kind)) = definitions.kind(at) else {
-        let name = String::from_str(definitions.alloc, definitions.name(at))?;
+    let Some((definition, kind)) = json.kind(at) else {
+        let name = String::from_str(json.alloc(), json.name(at))?;
         return Err(ReadError::Refused(Refusal::Undefined(name)));
     };
-    open_kind(definitions, at, definition, kind, element, out)
+    open_kind(json, at, definition, kind, element, out)
 }
 
 fn open_kind<'a, 't, 's>(
-    definitions: &Definitions<'a, '_>,
+    json: &Table<'a, '_>,
     at: usize,
     definition: &'a Definition,
     kind: Kind<'a>,
     element: Element<'t, 's>,
     out: &mut Vec<u8>,
 ) -> Opened<'a, 't, 's>
-    ensures { let F = forms_in definitions.now.layout.now.map.now in
-        let ns = definitions.now.layout.now.names.items in let f = form_of definition.now in
-        let orders = definitions.now.orders.items in
-        IsKnown definitions.now → (x : List ℕ) (j : Json) → IsAt ns at x → F x ≡ Some f →
+    ensures { let F = forms_in (map_of json.now.plan.now) in
+        let ns = plan_names json.now.plan.now in let f = form_of definition.now in
+        let orders = json.now.orders.items in
+        (x : List ℕ) (j : Json) → IsAt ns at x → F x ≡ Some f →
         IsKindOf F ns x f kind.entry → KindHasOrder F ns orders x kind.entry → KindTellsOrder F x kind.entry →
         BeginsWith element.entry j → IsOpenedOrFalls F ns orders x j out.old.items out.new.items result }
 {
-    let alloc = definitions.alloc;
+    let alloc = json.alloc();
     match kind {
         Kind::Number(number) => open_number(alloc, number, &element, out),
         Kind::Bool => open_bool(alloc, &element, out),
@@ -80,9 +81,7 @@ fn open_kind<'a, 't, 's>(
         Kind::Newtype(part) => Ok(only(Parts::Newtype(part), element)),
         Kind::Object(fields) => open_object(alloc, at, fields, &element),
         Kind::Optional(part) => open_option(part, element, out),
-        Kind::Choice(width, variants) => {
-            open_variant(definitions, at, width, variants, &element, out)
-        }
+        Kind::Choice(width, variants) => { open_variant(json, at, width, variants, &element, out) }
         Kind::Repeated(name) => {
             let name = String::from_str(alloc, name)?;
             Err(ReadError::Refused(Refusal::RepeatedName(name)))
@@ -204,18 +203,15 @@ fn open_float<'a, 't, 's>(
     element: &Element<'t, 's>,
     out: &mut Vec<u8>,
 ) -> Opened<'a, 't, 's>
-    ensures { Opens (λ F ns x. (bits : ℕ) × IsInfinity size bits × HasKind F x (float size bits))
+    ensures { Opens (λ F ns x. (f : Format) × (size ≡ float_size f) × HasKind F x (float f))
         element.now out.old.items out.new.items result }
 {
-    match fixed_bytes(alloc, size, element) {
-        Ok(bytes) => {
-            if is_nan(bytes.as_slice()) {
-                return Err(ReadError::Refused(Refusal::NotNumber));
-            }
-            out.extend_from_slice(bytes.as_slice())?;
+    match bits_of(size, element) {
+        Some(bits) => {
+            put_count(out, size, bits)?;
             Ok(None)
         }
-        Err(error) => Err(error),
+        None => Err(expected(alloc, "a number, \"inf\" or \"-inf\"")),
     }
 }
 
@@ -562,21 +558,21 @@ fn open_option<'a, 't, 's>(
 }
 
 fn open_variant<'a, 't, 's>(
-    definitions: &Definitions<'a, '_>,
+    json: &Table<'a, '_>,
     at: usize,
     width: u8,
     variants: &'a Variants,
     element: &Element<'t, 's>,
     out: &mut Vec<u8>,
 ) -> Opened<'a, 't, 's>
-    ensures { let F = forms_in definitions.now.layout.now.map.now in let ns = definitions.now.layout.now.names.items in
-        IsKnown definitions.now → (x : List ℕ) (j : Json) → IsAt ns at x →
+    ensures { let F = forms_in (map_of json.now.plan.now) in let ns = plan_names json.now.plan.now in
+        (x : List ℕ) (j : Json) → IsAt ns at x →
         IsDistinct bytes_eq (map (λ v. string_bytes v.1) variants.now.items) →
         HasKind F x (spec_variants width (map (λ v. (v.0, string_bytes v.1, string_bytes v.2)) variants.now.items)) →
         BeginsWith element.now j →
-        IsOpened F ns definitions.now.orders.items x j out.old.items out.new.items result }
+        IsOpened F ns json.now.orders.items x j out.old.items out.new.items result }
 {
-    let alloc = definitions.alloc;
+    let alloc = json.alloc();
     let Some((name, value)) = variant_in(element) else {
         return Err(expected(alloc, "a variant: \"Name\" or {\"Name\": value}"));
     };
@@ -584,8 +580,8 @@ fn open_variant<'a, 't, 's>(
         let name = String::from_str(alloc, name)?;
         return Err(ReadError::Refused(Refusal::UnknownName(name)));
     };
-    let part = definitions.part(at, index);
-    let is_empty = definitions.is_zero_size(part);
+    let part = json.part(at, index);
+    let is_empty = json.is_zero_size(part);
     put_variant(out, width, discriminant)?;
     match value {
         None => {

@@ -1,10 +1,11 @@
 // The order of the keys of maps and sets, where names and definitions tell it.
-ghost use Rattle.borsh_json.specs.Words.{AreNumbers, AreOrderedNumbers, Comparison, ComparesFronts, ComparesNumbers, ComparesTexts, DecidesAscent, FindsBytesAt, FindsNext, FindsNoBytesAt, HasForm, HasFound, HasOrders, InRange, IsAt, IsCut, IsKnown, IsNeeded, IsOrderOf, IsSequenceName, IsTreeMapName, NumberOrder, NumbersDescend, Order, OrderedBy, OrdersBytes, TakesCount, ValuesCompare, array_order, decimal, form_of, forms_of, int_cmp, is_below_zero, listed, low_bytes, names_of, nat_cmp, needs, primitive_kind, sequence, tag, tuple, tuple_name};
+ghost use Rattle.borsh_json.specs.Words.{AreNumbers, AreOrderedNumbers, ComparesFronts, ComparesNumbers, ComparesTexts, Comparison, DecidesAscent, FindsBytesAt, FindsNext, FindsNoBytesAt, HasForm, InRange, IsAt, IsCut, IsNeeded, IsOrderOf, IsSequenceName, IsTreeMapName, NumberOrder, NumbersDescend, Order, OrderedBy, OrdersBytes, TakesCount, ValuesCompare, array_order, decimal, form_of, forms_of, int_cmp, is_below_zero, listed, low_bytes, names_of, nat_cmp, needs, plan_names, primitive_kind, sequence, tag, tuple, tuple_name};
 ghost use Rattle.std.specs.Prelude.{◌≡◌, ◌⊎◌, ◌+◌, ◌++◌, ◌∷◌, [], ◌<◌, ◌^◌, ℕ, ℤ, Bool, List, Decides, IfOk, IfSome, MatchBool, MatchOption, None, Some, codes, drop, length, map, option_map, pos, string_bytes, true};
 
 use crate::definitions::Definitions;
 use crate::formats::{behind, is_composed, is_list, option_part};
 use crate::kinds::{Kind, is_text, kind_of_primitive};
+use crate::table::Table;
 use borsh_walks::{Declaration, Definition};
 use itoa::Buffer;
 use std::alloc::AllocError;
@@ -32,7 +33,7 @@ pub enum Ordered {
 impl Ordered {
     /// The place of a name whose order has to be known too; none if there is no such index.
     pub fn part(&self, definitions: &Definitions<'_, '_>, index: usize) -> Option<usize>
-        ensures part { IsKnown definitions.now → (x : List ℕ) (o : Order) →
+        ensures part { (x : List ℕ) (o : Order) →
             IsOrderOf (forms_of definitions.now) (names_of definitions.now) x self.now o →
             IsNeeded (names_of definitions.now) (needs o) index result }
         ensures more { IfSome result (λ _. index + 1 < 2 ^ 64) }
@@ -299,21 +300,21 @@ fn count_in(bytes: &[u8]) -> u64
 
 /// How two encodings compare, as the values of a name with this order, which begin the bytes.
 pub fn compare(
-    definitions: &Definitions<'_, '_>,
+    json: &Table<'_, '_>,
     order: Ordered,
     left: &[u8],
     right: &[u8],
 ) -> Result<Ordering, AllocError>
-    ensures { HasOrders definitions.now → (x : List ℕ) → OrderedBy definitions.now x order → (r : Comparison) →
-        ValuesCompare definitions.now x left.now right.now r → IfOk result (λ o. o ≡ r) }
+    ensures { (x : List ℕ) → OrderedBy json.now x order → (r : Comparison) →
+        ValuesCompare json.now x left.now right.now r → IfOk result (λ o. o ≡ r) }
 {
     let mut pair = Pair { left, right };
-    let mut pending: Vec<Pending> = Vec::new(definitions.alloc);
+    let mut pending: Vec<Pending> = Vec::new(json.alloc());
     let mut order = order;
     for _ in 0..u64::MAX {
-        let front = compare_front(definitions, order, &mut pair, &mut pending)?;
+        let front = compare_front(json, order, &mut pair, &mut pending)?;
         match front {
-            Ordering::Equal => match next_value(definitions, &mut pending)? {
+            Ordering::Equal => match next_value(json, &mut pending)? {
                 Next::Value(next) => order = next,
                 Next::Decided(ordering) => return Ok(ordering),
             },
@@ -332,18 +333,15 @@ enum Next {
     Decided(Ordering),
 }
 
-fn next_value(
-    definitions: &Definitions<'_, '_>,
-    pending: &mut Vec<Pending>,
-) -> Result<Next, AllocError>
-    ensures { HasOrders definitions.now → FindsNext definitions.now pending.old.items pending.new.items result }
+fn next_value(json: &Table<'_, '_>, pending: &mut Vec<Pending>) -> Result<Next, AllocError>
+    ensures { FindsNext json.now pending.old.items pending.new.items result }
 {
     while let Some(next) = pending.pop() {
         match next {
             Pending::Elements(at, left, right) => {
                 if left > 0 && right > 0 {
                     pending.push(Pending::Elements(at, left - 1, right - 1))?;
-                    return Ok(Next::Value(known_order(definitions, at)));
+                    return Ok(Next::Value(json.known_order(at)));
                 }
                 if left != right {
                     return Ok(Next::Decided(left.cmp(&right)));
@@ -352,8 +350,8 @@ fn next_value(
             Pending::Parts(at, count, index) => {
                 if index < count {
                     pending.push(Pending::Parts(at, count, index + 1))?;
-                    let part = definitions.part(at, index);
-                    return Ok(Next::Value(known_order(definitions, part)));
+                    let part = json.part(at, index);
+                    return Ok(Next::Value(json.known_order(part)));
                 }
             }
         }
@@ -361,22 +359,14 @@ fn next_value(
     Ok(Next::Decided(Ordering::Equal))
 }
 
-fn known_order(definitions: &Definitions<'_, '_>, at: usize) -> Ordered
-    ensures { HasOrders definitions.now → HasFound definitions.now.orders.items at → (x : List ℕ) →
-        IsAt definitions.now.layout.now.names.items at x → OrderedBy definitions.now x result }
-{
-    definitions.known_order(at).unwrap_or(Ordered::Single)
-}
-
 /// How two values compare by the bytes that come before their parts; the parts become pending.
 fn compare_front(
-    definitions: &Definitions<'_, '_>,
+    json: &Table<'_, '_>,
     order: Ordered,
     pair: &mut Pair<'_>,
     pending: &mut Vec<Pending>,
 ) -> Result<Ordering, AllocError>
-    ensures { HasOrders definitions.now →
-        ComparesFronts definitions.now order pending.old.items pair.old pending.new.items pair.new result }
+    ensures { ComparesFronts json.now order pending.old.items pair.old pending.new.items pair.new result }
 {
     match order {
         Ordered::Single => Ok(Ordering::Equal),
@@ -388,7 +378,7 @@ fn compare_front(
         }
         Ordered::List(width, element) => {
             let (left, right) = pair.take_counts(width);
-            if definitions.is_zero_size(element) {
+            if json.is_zero_size(element) {
                 return Ok(left.cmp(&right));
             }
             pending.push(Pending::Elements(element, left, right))?;
@@ -469,13 +459,9 @@ impl Ascent {
     }
 
     /// Whether the element that was begun last is above the one before it. All of its bytes are there.
-    pub fn ascends(
-        &self,
-        definitions: &Definitions<'_, '_>,
-        bytes: &[u8],
-    ) -> Result<bool, AllocError>
+    pub fn ascends(&self, json: &Table<'_, '_>, bytes: &[u8]) -> Result<bool, AllocError>
         ensures first { self.now.earlier ≡ None → IfOk result (λ ascends. ascends ≡ true) }
-        ensures order { HasOrders definitions.now → DecidesAscent definitions.now self.now bytes.now result }
+        ensures order { DecidesAscent json.now self.now bytes.now result }
     {
         let Some(earlier) = self.earlier else {
             return Ok(true);
@@ -485,7 +471,7 @@ impl Ascent {
         };
         let left = from(bytes, earlier);
         let right = from(bytes, last);
-        let ordering = compare(definitions, self.order, left, right)?;
+        let ordering = compare(json, self.order, left, right)?;
         Ok(ordering.is_lt())
     }
 }

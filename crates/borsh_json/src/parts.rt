@@ -1,13 +1,13 @@
 // The reader's loop over the parts of a value.
-ghost use Rattle.borsh_json.specs.Words.{AreKeysOf, AscentFalls, AscentRises, BeginsAscending, BeginsWith, DeniesKey, DeniesRead, Entry, Form, HasBegun, HasEnded, HasEntries, HasKinds, HasOrders, HasPath, HasRead, HaveBytes, InOrder, IsAt, IsDoing, IsEntryKey, IsFull, IsKnown, IsNext, IsNextEntry, IsUnread, Json, JsonPart, Keys, NamedPlace, NextMissing, NextPart, ReadsOn, SaysFirst, SaysSome, Why, form_of, forms_in, forms_of, key_json, names_of, steps_at, steps_through};
+ghost use Rattle.borsh_json.specs.Words.{AreKeysOf, AscentFalls, AscentRises, BeginsAscending, BeginsWith, DeniesKey, DeniesRead, Entry, Form, HasBegun, HasEnded, HasEntries, HasPath, HasRead, HaveBytes, InOrder, IsAt, IsDoing, IsEntryKey, IsFull, IsNext, IsNextEntry, IsUnread, Json, JsonPart, Keys, NamedPlace, NextMissing, NextPart, ReadsOn, SaysFirst, SaysSome, Why, form_of, forms_in, forms_of, key_json, map_of, names_of, root_of, steps_at, steps_through};
 ghost use Rattle.std.specs.Prelude.{◌≡◌, ◌∷◌, ◌++◌, [], true, IfErr, IfOk, ℕ, List, MatchBool, MatchOption, MatchResult, OnOk, Option, length};
 
-use crate::definitions::Definitions;
 use crate::error::{PartError, PartResult, ReadError, Refusal};
 use crate::kinds::{Entries, KeyKind};
 use crate::opening::{Frame, open_part, put_list, put_number};
 use crate::position::{Key, Place, Position};
 use crate::sources::{EntryKey, Source};
+use crate::table::Table;
 use json::Element;
 use std::alloc::{AllocError, Global};
 use std::mem;
@@ -23,19 +23,16 @@ enum Next<'t, 's> {
     End,
 }
 
-/// The bytes that JSON says as a value of the layout's root, which needn't be a member.
-pub fn read_value<'a>(
-    definitions: &Definitions<'a, '_>,
-    element: Element<'_, '_>,
-) -> PartResult<'a, Vec<u8>>
-    ensures { let F = forms_in definitions.now.layout.now.map.now in
-        let root = definitions.now.layout.now.root.now in
-        HasKinds definitions.now → (j : Json) → BeginsWith element.entry j →
+/// The bytes that JSON says as a value of the plan's root, which needn't be a member.
+pub fn read_value<'a>(json: &Table<'a, '_>, element: Element<'_, '_>) -> PartResult<'a, Vec<u8>>
+    ensures { let F = forms_in (map_of json.now.plan.now) in
+        let root = root_of json.now.plan.now in
+        (j : Json) → BeginsWith element.entry j →
         MatchResult result (λ v. HaveBytes F ((root, j) ∷ []) v.items × InOrder F root j)
         (λ e. IsUnread F root j e) }
 {
-    let alloc = definitions.alloc;
-    let position = Position::new(alloc, definitions.layout.root);
+    let alloc = json.alloc();
+    let position = Position::new(alloc, json.plan().root());
     let out = Vec::new(alloc);
     let outer = Vec::new(alloc);
     let mut reading = Reading {
@@ -45,7 +42,7 @@ pub fn read_value<'a>(
         outer,
     };
     for _ in 0..u64::MAX {
-        match reading.read_next(definitions) {
+        match reading.read_next(json) {
             Ok(more) => {
                 if !more {
                     return Ok(reading.out);
@@ -69,23 +66,23 @@ struct Reading<'a, 't, 's> {
 
 impl<'a, 't, 's> Reading<'a, 't, 's> {
     /// Reads the next part, or goes back to the parts around; says no at the end of the value.
-    fn read_next(&mut self, definitions: &Definitions<'a, '_>) -> PartResult<'a, bool>
-        ensures { HasKinds definitions.now → (root : List ℕ) (j : Json) → HasRead definitions.now root j self.old →
-            ReadsOn definitions.now root j self.new result }
+    fn read_next(&mut self, json: &Table<'a, '_>) -> PartResult<'a, bool>
+        ensures { (root : List ℕ) (j : Json) → HasRead json.now root j self.old →
+            ReadsOn json.now root j self.new result }
     {
-        if !ascends(definitions, &mut self.position.place, self.out.as_slice())? {
+        if !ascends(json, &mut self.position.place, self.out.as_slice())? {
             return Err(self.position.refused_element(Refusal::Descends));
         }
         match take_next(
-            definitions,
+            json,
             &mut self.position.place,
             &mut self.source,
             &mut self.out,
         ) {
             Ok(next) => match next {
-                Next::Part(at, part) => self.open(definitions, at, part),
+                Next::Part(at, part) => self.open(json, at, part),
                 Next::Missing => Err(self.position.refused(Refusal::MissingField)),
-                Next::End => self.leave(definitions),
+                Next::End => self.leave(json),
             },
             Err(error) => Err(self.position.unread_key(error)),
         }
@@ -94,14 +91,14 @@ impl<'a, 't, 's> Reading<'a, 't, 's> {
     /// Reads a part, and goes into its parts if it has some.
     fn open(
         &mut self,
-        definitions: &Definitions<'a, '_>,
+        json: &Table<'a, '_>,
         at: usize,
         part: Element<'t, 's>,
     ) -> PartResult<'a, bool>
-        ensures { HasKinds definitions.now → (root : List ℕ) (j : Json) →
-            HasBegun definitions.now root j self.old at part.entry → ReadsOn definitions.now root j self.new result }
+        ensures { (root : List ℕ) (j : Json) →
+            HasBegun json.now root j self.old at part.entry → ReadsOn json.now root j self.new result }
     {
-        match open_part(definitions, at, part, &mut self.out) {
+        match open_part(json, at, part, &mut self.out) {
             Ok(opened) => match opened {
                 Some(frame) => self.enter(frame),
                 None => Ok(true),
@@ -129,14 +126,14 @@ impl<'a, 't, 's> Reading<'a, 't, 's> {
     }
 
     /// Goes back to the parts around, unless a key of an object is left that is no field.
-    fn leave(&mut self, definitions: &Definitions<'a, '_>) -> PartResult<'a, bool>
-        ensures { (root : List ℕ) (j : Json) → HasEnded definitions.now root j self.old →
-            ReadsOn definitions.now root j self.new result }
+    fn leave(&mut self, json: &Table<'a, '_>) -> PartResult<'a, bool>
+        ensures { (root : List ℕ) (j : Json) → HasEnded json.now root j self.old →
+            ReadsOn json.now root j self.new result }
     {
         let unknown = self.source.unknown_key();
         let is_part = self.position.leave();
         if let Some(key) = unknown {
-            let name = String::from_str(definitions.alloc, key)?;
+            let name = String::from_str(json.alloc(), key)?;
             return Err(self.position.refused(Refusal::UnknownName(name)));
         }
         if !is_part {
@@ -154,43 +151,43 @@ impl<'a, 't, 's> Reading<'a, 't, 's> {
 
 /// Whether the element that was read last is above the one before it, where elements have to ascend.
 fn ascends(
-    definitions: &Definitions<'_, '_>,
+    json: &Table<'_, '_>,
     place: &mut Place<'_, '_>,
     bytes: &[u8],
 ) -> Result<bool, AllocError>
     ensures same { (place.new.parts ≡ place.old.parts) × (place.new.begun ≡ place.old.begun) }
     ensures begins { IfOk result (λ ascends. BeginsAscending place.old.ascent (length bytes.now) place.new.ascent) }
-    ensures tells { HasOrders definitions.now → IfOk result (λ ascends. MatchBool ascends
-        (AscentRises definitions.now place.old.ascent bytes.now) (AscentFalls definitions.now place.old.ascent bytes.now)) }
+    ensures tells { IfOk result (λ ascends. MatchBool ascends
+        (AscentRises json.now place.old.ascent bytes.now) (AscentFalls json.now place.old.ascent bytes.now)) }
 {
     let Some(ascent) = &mut place.ascent else {
         return Ok(true);
     };
-    let ascends = ascent.ascends(definitions, bytes)?;
+    let ascends = ascent.ascends(json, bytes)?;
     ascent.begin(bytes.len());
     Ok(ascends)
 }
 
 /// What comes next. The key of an entry is added.
 fn take_next<'a, 't, 's>(
-    definitions: &Definitions<'a, '_>,
+    json: &Table<'a, '_>,
     place: &mut Place<'a, '_>,
     source: &mut Source<'t, 's>,
     out: &mut Vec<u8>,
 ) -> Result<Next<'t, 's>, ReadError>
     ensures parts { (place.new.parts ≡ place.old.parts) × (place.new.ascent ≡ place.old.ascent) }
-    ensures next { let F = forms_of definitions.now in let ns = names_of definitions.now in
-        let orders = definitions.now.orders.items in
-        IsKnown definitions.now → (d : ℕ) (x : List ℕ) (i : Json) (own : List ℕ) (ds : List JsonPart) →
+    ensures next { let F = forms_of json.now in let ns = names_of json.now in
+        let orders = json.now.orders.items in
+        (d : ℕ) (x : List ℕ) (i : Json) (own : List ℕ) (ds : List JsonPart) →
         IsDoing F ns orders place.old source.old d x i own ds → MatchResult result
         (IsNext F ns orders d x i own ds place.new source.new out.old.items out.new.items)
         (DeniesKey F ns d x i own ds place.new) }
 {
-    let Some(part) = place.next_part(definitions) else {
+    let Some(part) = place.next_part(json) else {
         return Ok(Next::End);
     };
     match part.key {
-        Key::Entry(entries) => next_entry(definitions.alloc, entries, source, out),
+        Key::Entry(entries) => next_entry(json.alloc(), entries, source, out),
         Key::Name(name) => Ok(found(part.at, source.take(name))),
         Key::None => Ok(found(part.at, source.take(""))),
     }

@@ -1,13 +1,13 @@
 // Where in a value the reader or writer is.
-ghost use Rattle.borsh_json.specs.Words.{AscendsFrom, GivesPart, HasPath, IsElementFall, IsFull, IsKnown, IsOf, IsOfRead, IsOfWrite, IsPartError, IsPath, IsReadRefusal, IsUnreadable, IsUnwritable, Root, Step, TooDeep, element_step, error_steps, first_steps, found_step, place_step, step_of, steps_at, steps_through};
+ghost use Rattle.borsh_json.specs.Words.{AscendsFrom, GivesPart, HasPath, IsElementFall, IsFull, IsOf, IsOfRead, IsOfWrite, IsPartError, IsPath, IsReadRefusal, IsUnreadable, IsUnwritable, Root, Step, TooDeep, element_step, error_steps, first_steps, found_step, place_step, step_of, steps_at, steps_through};
 ghost use Rattle.borsh_json.specs.declared.error.Refusal.TheVariants.{Descends};
 ghost use Rattle.std.specs.Prelude.{◌≡◌, ◌+◌, ◌^◌, ◌<◌, ◌≤◌, ◌∷◌, ◌++◌, [], true, false, ℕ, List, None, length, map, IfErr, IfOk, IfSome, MatchOption, OnOk};
 
-use crate::definitions::Definitions;
 use crate::error::{PartError, PartResult, ReadError, Refusal, WriteError};
 use crate::kinds::{Elements, Entries, NamedFields};
 use crate::order::{Ascent, Ordered, first_descent};
 use crate::sources::EntryKey;
+use crate::table::Table;
 use borsh_values::{Path, PathStep};
 use json::MAX_DEPTH;
 use std::alloc::{AllocError, Global};
@@ -89,20 +89,18 @@ impl<'a, 'k> Place<'a, 'k> {
     }
 
     /// The next part, which is begun; none if there are no more.
-    pub fn next_part(&mut self, definitions: &Definitions<'a, '_>) -> Option<Part<'a>>
-        ensures part { IsKnown definitions.now →
-            GivesPart definitions.now self.old.parts self.old.begun self.new.parts self.new.begun result }
+    pub fn next_part(&mut self, json: &Table<'a, '_>) -> Option<Part<'a>>
+        ensures part { GivesPart json.now self.old.parts self.old.begun self.new.parts self.new.begun result }
         ensures begun { IfSome result (λ part. self.new.begun ≡ self.old.begun + 1) }
         ensures same { (self.new.parts ≡ self.old.parts) × (self.new.last ≡ self.old.last) × (self.new.ascent ≡ self.old.ascent) }
     {
-        let part = self.part_at(definitions, self.begun)?;
+        let part = self.part_at(json, self.begun)?;
         self.begun = self.begun.saturating_add(1);
         Some(part)
     }
 
-    fn part_at(&self, definitions: &Definitions<'a, '_>, index: usize) -> Option<Part<'a>>
-        ensures part { IsKnown definitions.now →
-            GivesPart definitions.now self.now.parts index self.now.parts (index + 1) result }
+    fn part_at(&self, json: &Table<'a, '_>, index: usize) -> Option<Part<'a>>
+        ensures part { GivesPart json.now self.now.parts index self.now.parts (index + 1) result }
         ensures more { IfSome result (λ p. index + 1 < 2 ^ 64) }
     {
         match self.parts {
@@ -114,11 +112,11 @@ impl<'a, 'k> Place<'a, 'k> {
                 copy_at(entries.value, count, Key::Entry(entries), index)
             }
             Parts::Row(at, count) => {
-                copy_at(definitions.part(at, index), count as u64, Key::None, index)
+                copy_at(json.part(at, index), count as u64, Key::None, index)
             }
             Parts::Object(at, fields) => match fields.get(index) {
                 Some((field, _)) => Some(Part {
-                    at: definitions.part(at, index),
+                    at: json.part(at, index),
                     key: Key::Name(field.as_str()),
                 }),
                 None => None,

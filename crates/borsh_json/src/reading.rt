@@ -1,12 +1,12 @@
 // The bytes of a value that JSON says.
-ghost use Rattle.borsh_json.specs.Words.{HasKinds, HaveBytes, InOrder, IsGivenUp, IsTextReason, Json, SaysBy, ShowsNoValue, TextRepresents, TextSays, definitions_in, document, forms_in};
+ghost use Rattle.borsh_json.specs.Words.{HaveBytes, InOrder, IsGivenUp, IsTextReason, Json, SaysBy, ShowsNoValue, TextRepresents, TextSays, definitions_in, definitions_of, document, forms_in, map_of, root_of};
 ghost use Rattle.std.specs.Prelude.{◌≡◌, ◌∷◌, [], ℕ, IfErr, IfOk, List, MatchResult, OnOk, Some};
 
-use crate::definitions::Definitions;
 use crate::error::JsonError;
 use crate::not_json::why_not_json;
 use crate::parts::read_value;
-use borsh_values::{Layout, Membership};
+use crate::table::Table;
+use borsh_values::{Membership, Plan};
 use borsh_walks::Definition;
 use json::{Scratch, Tape};
 use std::alloc::Global;
@@ -47,30 +47,29 @@ pub fn from_json<'a>(
     ensures denies { IfErr result (ShowsNoValue (forms_in map.now) root.now text.now) }
     ensures reason { IfErr result (λ e. IsTextReason (definitions_in map.now) root.now text.now e) }
 {
-    let layout = Layout::new(alloc, root, map)?;
-    let json = Definitions::new(alloc, &layout)?;
+    let plan = Plan::new(alloc, root, map)?;
+    let json = Table::new(alloc, &plan)?;
     json.from_json(text)
 }
 
-impl<'a, 'l> Definitions<'a, 'l> {
+impl<'a, 'l> Table<'a, 'l> {
     /// As the function [`from_json`]. Left open: as there.
     pub fn from_json(&self, text: &str) -> Result<Vec<u8>, JsonError<'a>>
-        requires { HasKinds self.now }
         ensures says { IfOk result (λ bytes. SaysBy self.now text.now bytes.items) }
         ensures determined { (bytes : List ℕ) → SaysBy self.now text.now bytes →
             IfOk result (λ found. found.items ≡ bytes) }
-        ensures in_order { let layout = self.now.layout.now in (j : Json) → document text.now ≡ Some j →
-            OnOk result (InOrder (forms_in layout.map.now) layout.root.now j) }
-        ensures answers { let layout = self.now.layout.now in (bytes : List ℕ) →
-            TextRepresents (forms_in layout.map.now) layout.root.now text.now bytes →
+        ensures in_order { let plan = self.now.plan.now in (j : Json) → document text.now ≡ Some j →
+            OnOk result (InOrder (forms_in (map_of plan)) (root_of plan) j) }
+        ensures answers { let plan = self.now.plan.now in (bytes : List ℕ) →
+            TextRepresents (forms_in (map_of plan)) (root_of plan) text.now bytes →
             MatchResult result (λ found. found.items ≡ bytes) IsGivenUp }
-        ensures denies { let layout = self.now.layout.now in
-            IfErr result (ShowsNoValue (forms_in layout.map.now) layout.root.now text.now) }
-        ensures reason { let layout = self.now.layout.now in
-            IfErr result (λ e. IsTextReason (definitions_in layout.map.now) layout.root.now text.now e) }
+        ensures denies { let plan = self.now.plan.now in
+            IfErr result (ShowsNoValue (forms_in (map_of plan)) (root_of plan) text.now) }
+        ensures reason { let plan = self.now.plan.now in
+            IfErr result (λ e. IsTextReason (definitions_of plan) (root_of plan) text.now e) }
     {
         let bytes = self.read_text(text)?;
-        match self.layout.is_member(self.alloc, bytes.as_slice())? {
+        match self.membership(bytes.as_slice())? {
             Membership::Member => Ok(bytes),
             Membership::NoMember(_) => Err(JsonError::NoValue),
             Membership::Ambiguous(name) => Err(JsonError::Ambiguous(name)),
@@ -79,19 +78,18 @@ impl<'a, 'l> Definitions<'a, 'l> {
 
     /// The bytes that a text says, which needn't be a member of the root.
     pub(crate) fn read_text(&self, text: &str) -> Result<Vec<u8>, JsonError<'a>>
-        requires { HasKinds self.now }
-        ensures says { let layout = self.now.layout.now in let F = forms_in layout.map.now in
+        ensures says { let plan = self.now.plan.now in let F = forms_in (map_of plan) in
             IfOk result (λ bytes. (j : Json) × (document text.now ≡ Some j) ×
-            HaveBytes F ((layout.root.now, j) ∷ []) bytes.items × InOrder F layout.root.now j) }
-        ensures denies { let layout = self.now.layout.now in
-            IfErr result (ShowsNoValue (forms_in layout.map.now) layout.root.now text.now) }
-        ensures reason { let layout = self.now.layout.now in
-            IfErr result (λ e. IsTextReason (definitions_in layout.map.now) layout.root.now text.now e) }
+            HaveBytes F ((root_of plan, j) ∷ []) bytes.items × InOrder F (root_of plan) j) }
+        ensures denies { let plan = self.now.plan.now in
+            IfErr result (ShowsNoValue (forms_in (map_of plan)) (root_of plan) text.now) }
+        ensures reason { let plan = self.now.plan.now in
+            IfErr result (λ e. IsTextReason (definitions_of plan) (root_of plan) text.now e) }
     {
-        let mut scratch = Scratch::new(self.alloc);
-        match Tape::parse(text, &mut scratch, Vec::new(self.alloc)) {
+        let mut scratch = Scratch::new(self.alloc());
+        match Tape::parse(text, &mut scratch, Vec::new(self.alloc())) {
             Ok(tape) => Ok(read_value(self, tape.root())?),
-            Err(json::Error::Invalid) => Err(why_not_json(self.alloc, self.layout.root, text)),
+            Err(json::Error::Invalid) => Err(why_not_json(self.alloc(), self.plan().root(), text)),
             // A text of 4 GiB has more places than a tape can number.
             Err(_) => Err(JsonError::OutOfMemory),
         }

@@ -1,7 +1,8 @@
 // What each of the bytes of a value is.
-ghost use Rattle.borsh_json.specs.Words.{IsLaidOut, IsNoMemberReason, IsNoRowsReason, IsWhole, KnowsSizes, Member, definitions_in, form_of, forms_in, IsPrimitiveKind, primitive_kind};
-ghost use Rattle.borsh_json.specs.Rows.{AreRows, BeginsRows, GivesRow, IsNoRow, IsPrimitiveText, IsQuoted, IsTextOf, IsValueText, counted, rows_layout};
-ghost use Rattle.borsh_values.specs.Preorder.{GivesNext, IsInValue, layout_of};
+ghost use Rattle.borsh_json.specs.Words.{IsNoMemberReason, IsNoRowsReason, IsPrimitiveKind, IsWhole, Member, definitions_of, float, float_size, form_of, forms_in, primitive_kind, root_of};
+ghost use Rattle.borsh_json.specs.Rows.{AreRows, BeginsRows, GivesRow, IsNoRow, IsPrimitiveText, IsQuoted, IsTextOf, IsValueText, counted, rows_plan};
+ghost use Rattle.borsh_values.specs.Preorder.{GivesNext, IsInValue, plan_of};
+ghost use Rattle.std.specs.Float.{Format};
 ghost use Rattle.std.specs.Prelude.{◌≡◌, ◌≤◌, [], false, ℕ, Decides, IfErr, IfOk, List, MatchOption, OnOk, string_bytes};
 
 use crate::error::{JsonError, Refusal};
@@ -11,7 +12,8 @@ use crate::kinds::{Kind, kind_of_primitive};
 use crate::numbers::Number;
 use crate::strict::path_to;
 use borsh_values::{
-    Layout, Membership, Node, Path, Preorder, PreorderError, count_of, elements_of, variant_of,
+    Membership, Node, Path, Plan, Preorder, PreorderError, count_of, elements_of, is_member_of,
+    variant_of,
 };
 use borsh_walks::Definition;
 use itoa::Buffer;
@@ -25,8 +27,8 @@ use std::str;
 /// as values are in one another, at most 128.
 ///
 /// ```
-/// let layout = Layout::new(alloc, "(u8, bool)", &definitions)?;
-/// let mut rows = Rows::new(alloc, &layout, &[7, 1])?;
+/// let plan = Plan::new(alloc, "(u8, bool)", &definitions)?;
+/// let mut rows = Rows::new(alloc, &plan, &[7, 1])?;
 /// while let Some(row) = rows.next()? {
 ///     let value = value_of(alloc, &definitions, &row)?;
 ///     println!(rt; "{}: {} {value}", row.offset, rows.path())?;
@@ -39,25 +41,23 @@ pub struct Rows<'a, 'l, 'b> {
 }
 
 impl<'a, 'l, 'b> Rows<'a, 'l, 'b> {
-    /// In front of the first row of the value of the layout's root that `bytes` are.
+    /// In front of the first row of the value of the plan's root that `bytes` are.
     ///
     /// The errors are as of [`to_json`](crate::to_json), without refusals. Left open: memory.
     pub fn new(
         alloc: Global,
-        layout: &'l Layout<'a>,
+        plan: &'l Plan<'a>,
         bytes: &'b [u8],
     ) -> Result<Rows<'a, 'l, 'b>, JsonError<'a>>
-        requires laid_out { IsLaidOut layout.now }
-        requires sizes { KnowsSizes layout.now }
-        ensures member { OnOk result (Member (definitions_in layout.now.map.now) layout.now.root.now bytes.now) }
-        ensures rows { IfOk result (BeginsRows layout.entry bytes.now) }
-        ensures reason { IfErr result (IsNoRowsReason (definitions_in layout.now.map.now) layout.now.root.now bytes.now) }
-        ensures unrefused { IfErr result (IsNoMemberReason (definitions_in layout.now.map.now) layout.now.root.now bytes.now) }
+        ensures member { OnOk result (Member (definitions_of plan.now) (root_of plan.now) bytes.now) }
+        ensures rows { IfOk result (BeginsRows plan.entry bytes.now) }
+        ensures reason { IfErr result (IsNoRowsReason (definitions_of plan.now) (root_of plan.now) bytes.now) }
+        ensures unrefused { IfErr result (IsNoMemberReason (definitions_of plan.now) (root_of plan.now) bytes.now) }
     {
-        match layout.is_member(alloc, bytes)? {
+        match is_member_of(alloc, plan, bytes)? {
             Membership::Member => Ok(Rows {
                 alloc,
-                nodes: Preorder::new(alloc, layout, bytes),
+                nodes: Preorder::new(alloc, plan, bytes)?,
             }),
             Membership::NoMember(fault) => Err(JsonError::NoMember(fault)),
             Membership::Ambiguous(name) => Err(JsonError::Ambiguous(name)),
@@ -73,8 +73,8 @@ impl<'a, 'l, 'b> Rows<'a, 'l, 'b> {
         requires { AreRows self.old }
         ensures row { IfOk result (λ found. GivesRow self.old self.new found) }
         ensures rows { OnOk result (AreRows self.new) }
-        ensures layout { rows_layout self.new ≡ rows_layout self.old }
-        ensures reason { IfErr result (IsNoRow (rows_layout self.old).now) }
+        ensures plan { rows_plan self.new ≡ rows_plan self.old }
+        ensures reason { IfErr result (IsNoRow (rows_plan self.old).now) }
     {
         for _ in 0..u64::MAX {
             let Some(node) = next_node(&mut self.nodes)? else {
@@ -96,7 +96,7 @@ impl<'a, 'l, 'b> Rows<'a, 'l, 'b> {
     }
 
     fn too_deep(&self) -> JsonError<'a>
-        ensures { IsNoRow (rows_layout self.now).now result }
+        ensures { IsNoRow (rows_plan self.now).now result }
     {
         match path_to(self.alloc, self.nodes.path(), None) {
             Ok(path) => JsonError::Refused(path, Refusal::TooDeep),
@@ -112,8 +112,8 @@ pub(crate) fn next_node<'a, 'b>(
     requires { IsInValue nodes.old }
     ensures gives { IfOk result (λ found. GivesNext nodes.old nodes.new found) }
     ensures inside { OnOk result (IsInValue nodes.new) }
-    ensures layout { layout_of nodes.new ≡ layout_of nodes.old }
-    ensures reason { IfErr result (IsNoRow (layout_of nodes.old).now) }
+    ensures plan { plan_of nodes.new ≡ plan_of nodes.old }
+    ensures reason { IfErr result (IsNoRow (plan_of nodes.old).now) }
 {
     match nodes.next() {
         Ok(found) => Ok(found),
@@ -125,7 +125,7 @@ pub(crate) fn next_node<'a, 'b>(
 /// What the own bytes of a node say, by its name and definition, where these are of the map: a whole number in decimal, a float, a
 /// `bool`, a text in quotation marks, the number of elements of a list, the name of a variant; nothing of other nodes.
 ///
-/// The only error is that an allocation failed. Left open: memory; the text of a float: tested.
+/// The only error is that an allocation failed. Left open: memory; of the numbers that read back as a float, which: tested.
 ///
 /// ```
 /// // the node of `bool`
@@ -178,7 +178,7 @@ fn primitive_text(alloc: Global, kind: Kind<'_>, bytes: &[u8]) -> Result<String,
 {
     match kind {
         Kind::Number(number) => number_text(alloc, number, bytes),
-        Kind::Float(_) => shortest(alloc, bytes),
+        Kind::Float(size) => float_text(alloc, size, bytes),
         Kind::Bool => match bytes {
             [0] => String::from_str(alloc, "false"),
             [1] => String::from_str(alloc, "true"),
@@ -198,6 +198,21 @@ fn number_text(alloc: Global, number: Number, bytes: &[u8]) -> Result<String, Al
     }
     let mut buffer = Buffer::new();
     String::from_str(alloc, number.decimal(&mut buffer, bytes))
+}
+
+/// The float that the bytes encode, as JSON has it without quotation marks.
+fn float_text(alloc: Global, size: u8, bytes: &[u8]) -> Result<String, AllocError>
+    ensures { (f : Format) → size ≡ float_size f →
+        IfOk result (λ v. IsPrimitiveText (float f) bytes.now (string_bytes v)) }
+{
+    if bytes.len() != usize::from(size) {
+        return Err(AllocError);
+    }
+    let mut buffer = ryu::Buffer::new();
+    match shortest(bytes, &mut buffer) {
+        Some(text) => String::from_str(alloc, text),
+        None => String::from_str(alloc, "not a number"),
+    }
 }
 
 fn quoted(alloc: Global, bytes: &[u8]) -> Result<String, AllocError>

@@ -1,15 +1,15 @@
 // Whether a type takes a member, as far as names tell.
-ghost use Rattle.borsh_json.specs.Words.{IsLaidOut, IsNoJsonReason, IsPartError, IsUnwritable, KnowsSizes, Member, definitions_in};
+ghost use Rattle.borsh_json.specs.Words.{IsNoJsonReason, IsPartError, IsUnwritable, Member, definitions_in, definitions_of, root_of};
 ghost use Rattle.std.specs.Prelude.{IfErr, IfSome, OnOk};
 
-use crate::definitions::Definitions;
 use crate::error::{JsonError, PartResult, Refusal};
 use crate::floats::is_nan;
 use crate::kinds::{Elements, Kind, kind_of_primitive};
 use crate::order::{Ascent, first_descent};
 use crate::position::refused_at;
 use crate::rows::next_node;
-use borsh_values::{Layout, Membership, Node, Path, PathStep, Preorder, elements_of};
+use crate::table::Table;
+use borsh_values::{Membership, Node, Path, PathStep, Plan, Preorder, elements_of, is_member_of};
 use borsh_walks::Definition;
 use std::alloc::{AllocError, Global};
 use std::collections::BTreeMap;
@@ -37,36 +37,34 @@ pub fn check_strict<'a>(
     ensures member { OnOk result (Member (definitions_in map.now) root.now bytes.now) }
     ensures reason { IfErr result (λ e. IsNoJsonReason (definitions_in map.now) root.now bytes.now e) }
 {
-    let layout = Layout::new(alloc, root, map)?;
-    match layout.is_member(alloc, bytes)? {
-        Membership::Member => check_member(alloc, &layout, bytes),
+    let plan = Plan::new(alloc, root, map)?;
+    match is_member_of(alloc, &plan, bytes)? {
+        Membership::Member => check_member(alloc, &plan, bytes),
         Membership::NoMember(fault) => Err(JsonError::NoMember(fault)),
         Membership::Ambiguous(name) => Err(JsonError::Ambiguous(name)),
     }
 }
 
-fn check_member<'a>(alloc: Global, layout: &Layout<'a>, bytes: &[u8]) -> Result<(), JsonError<'a>>
-    requires laid_out { IsLaidOut layout.now }
-    requires sizes { KnowsSizes layout.now }
-    requires member { Member (definitions_in layout.now.map.now) layout.now.root.now bytes.now }
-    ensures { let l = layout.now in
-        IfErr result (IsNoJsonReason (definitions_in l.map.now) l.root.now bytes.now) }
+fn check_member<'a>(alloc: Global, plan: &Plan<'a>, bytes: &[u8]) -> Result<(), JsonError<'a>>
+    requires member { Member (definitions_of plan.now) (root_of plan.now) bytes.now }
+    ensures { let l = plan.now in
+        IfErr result (IsNoJsonReason (definitions_of l) (root_of l) bytes.now) }
 {
-    let definitions = Definitions::new(alloc, layout)?;
-    let mut nodes = Preorder::new(alloc, layout, bytes);
+    let json = Table::new(alloc, plan)?;
+    let mut nodes = Preorder::new(alloc, plan, bytes)?;
     // Of each node that the next one is in, where its elements have to ascend.
     let mut open: Vec<Option<Ascent>> = Vec::new(alloc);
     for _ in 0..u64::MAX {
         let Some(node) = next_node(&mut nodes)? else {
             return Ok(());
         };
-        check_node(&definitions, &mut open, bytes, &node, nodes.path())?;
+        check_node(&json, &mut open, bytes, &node, nodes.path())?;
     }
     Err(JsonError::OutOfMemory)
 }
 
 fn check_node<'a>(
-    definitions: &Definitions<'a, '_>,
+    json: &Table<'a, '_>,
     open: &mut Vec<Option<Ascent>>,
     bytes: &[u8],
     node: &Node<'a, '_>,
@@ -77,15 +75,15 @@ fn check_node<'a>(
     open.truncate(node.depth);
     if let Some(Some(ascent)) = open.last_mut() {
         ascent.begin(node.offset);
-        if !ascent.ascends(definitions, bytes)? {
-            return Err(refused_at(path_to(definitions.alloc, path, None), Refusal::Descends));
+        if !ascent.ascends(json, bytes)? {
+            return Err(refused_at(path_to(json.alloc(), path, None), Refusal::Descends));
         }
     }
-    let Some(kind) = definitions.kind_of_node(node) else {
-        return Err(refused_at(path_to(definitions.alloc, path, None), Refusal::OtherNodes));
+    let Some((_, kind)) = json.kind(node.at) else {
+        return Err(refused_at(path_to(json.alloc(), path, None), Refusal::OtherNodes));
     };
-    if let Some((index, refusal)) = wrong_in(definitions, node, kind) {
-        return Err(refused_at(path_to(definitions.alloc, path, index), refusal));
+    if let Some((index, refusal)) = wrong_in(json, node, kind) {
+        return Err(refused_at(path_to(json.alloc(), path, index), refusal));
     }
     open.push(ascent_of(kind))?;
     Ok(())
@@ -118,7 +116,7 @@ fn ascent_of(kind: Kind<'_>) -> Option<Ascent> {
 type Wrong = (Option<usize>, Refusal);
 
 /// What a type refuses of the own bytes of a node.
-fn wrong_in(definitions: &Definitions<'_, '_>, node: &Node<'_, '_>, kind: Kind<'_>) -> Option<Wrong>
+fn wrong_in(json: &Table<'_, '_>, node: &Node<'_, '_>, kind: Kind<'_>) -> Option<Wrong>
     ensures { IfSome result (λ w. IsUnwritable w.1) }
 {
     match kind {
@@ -128,7 +126,7 @@ fn wrong_in(definitions: &Definitions<'_, '_>, node: &Node<'_, '_>, kind: Kind<'
             Err(_) => Some((None, Refusal::NotUtf8)),
         },
         Kind::ByteList(elements) | Kind::Numbers(elements) => {
-            let kind = kind_of_primitive(definitions.name(elements.at), elements.size);
+            let kind = kind_of_primitive(json.name(elements.at), elements.size);
             wrong_element(elements, kind, elements_of(node))
         }
         Kind::List(elements) if elements.is_refused => Some((None, Refusal::EmptyElements)),

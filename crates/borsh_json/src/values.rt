@@ -1,8 +1,7 @@
 // How a value of each kind is written: whole, or its beginning, behind which its parts follow.
-ghost use Rattle.borsh_json.specs.Words.{ArePartsOf, BeginsAt, BeginsStruct, Form, FoundChoice, FoundList, FoundMap, FoundOption, FoundOrder, HasNode, IsKnown, NamedPlace, WritesValueOf, forms_of, names_of};
+ghost use Rattle.borsh_json.specs.Words.{ArePartsOf, BeginsAt, BeginsStruct, Form, FoundChoice, FoundList, FoundMap, FoundOption, FoundOrder, HasNode, NamedPlace, WritesValueOf, forms_of, names_of};
 ghost use Rattle.std.specs.Prelude.{ℕ, List, Option};
 
-use crate::definitions::Definitions;
 use crate::error::{Refusal, WriteError};
 use crate::kinds::{Elements, Entries, Kind, Variants};
 use crate::leaves::{
@@ -10,6 +9,7 @@ use crate::leaves::{
 };
 use crate::output::{LongNumbers, Output};
 use crate::position::{Parts, Place};
+use crate::table::Table;
 use borsh_values::{Node, count_of, variant_of};
 use json::Token;
 use std::alloc::Global;
@@ -65,19 +65,19 @@ fn begin<'a, 'b>(parts: Parts<'a>, out: &mut Output) -> Begun<'a, 'b>
 
 /// Writes a value of another kind, whose node this is, or begins it.
 pub fn begin_value<'a, 'b>(
-    definitions: &Definitions<'a, '_>,
+    json: &Table<'a, '_>,
     at: usize,
     kind: Kind<'a>,
     node: &Node<'a, 'b>,
     long_numbers: LongNumbers,
     out: &mut Output,
 ) -> Begun<'a, 'b>
-    ensures { IsKnown definitions.now → HasNode kind.entry →
-        WritesValueOf (forms_of definitions.now) (names_of definitions.now) at kind.entry node.now out.old out.new result }
+    ensures { HasNode kind.entry →
+        WritesValueOf (forms_of json.now) (names_of json.now) at kind.entry node.now out.old out.new result }
 {
     match kind {
         Kind::Number(_) | Kind::Bool | Kind::Bytes(_) | Kind::Float(_) => {
-            write_primitive(definitions.alloc, kind, node, long_numbers, out)?;
+            write_primitive(json.alloc(), kind, node, long_numbers, out)?;
             Ok(None)
         }
         Kind::Text => {
@@ -85,17 +85,17 @@ pub fn begin_value<'a, 'b>(
             Ok(None)
         }
         Kind::ByteList(elements) => {
-            write_byte_list(definitions.alloc, node, elements, out)?;
+            write_byte_list(json.alloc(), node, elements, out)?;
             Ok(None)
         }
         Kind::Numbers(elements) => {
-            write_numbers(definitions, node, elements, long_numbers, out)?;
+            write_numbers(json, node, elements, long_numbers, out)?;
             Ok(None)
         }
         Kind::List(elements) => begin_list(elements, node, out),
         Kind::Map(entries, _) => begin_map(entries, node, out),
         Kind::Optional(part) => begin_option(part, node, out),
-        Kind::Choice(_, variants) => begin_variant(definitions, at, variants, node, out),
+        Kind::Choice(_, variants) => begin_variant(json, at, variants, node, out),
         _ => Ok(None),
     }
 }
@@ -134,21 +134,21 @@ fn begin_option<'a, 'b>(part: usize, node: &Node<'a, 'b>, out: &mut Output) -> B
 }
 
 fn begin_variant<'a, 'b>(
-    definitions: &Definitions<'a, '_>,
+    json: &Table<'a, '_>,
     at: usize,
     variants: &'a Variants,
     node: &Node<'a, 'b>,
     out: &mut Output,
 ) -> Begun<'a, 'b>
-    ensures { IsKnown definitions.now → (w : ℕ) →
-        WritesValueOf (forms_of definitions.now) (names_of definitions.now) at (FoundChoice w variants.entry) node.now out.old out.new result }
+    ensures { (w : ℕ) →
+        WritesValueOf (forms_of json.now) (names_of json.now) at (FoundChoice w variants.entry) node.now out.old out.new result }
 {
     let index = variant_of(node).unwrap_or(usize::MAX);
     let Some((_, variant, _)) = variants.get(index) else {
         return Ok(None);
     };
-    let part = definitions.part(at, index);
-    if definitions.is_zero_size(part) {
+    let part = json.part(at, index);
+    if json.is_zero_size(part) {
         write_name(variant.as_str(), out)?;
         return Ok(None);
     }

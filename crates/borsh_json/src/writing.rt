@@ -1,5 +1,5 @@
 // A value as JSON.
-ghost use Rattle.borsh_json.specs.Words.{Adds, AreKeysOf, BeginsNext, EntryOf, Form, FoundElements, FoundKeyKind, FoundList, FoundNumbers, FoundPart, HasKinds, HasNode, IsAbove, IsAt, IsAwaitingAt, IsBegunOf, IsEntryKey, IsKeyPut, IsKindOf, IsLast, IsNoJsonReason, IsPartWritten, IsWalker, IsWritingAt, IsWrittenNext, Keys, KindHasOrder, Member, NamedPlace, Place, RefusesElements, SaysBy, ShowsNoJson, StopsBy, TellsAscent, TextSays, definitions_in, ends_of, forms_in, forms_of, names_of, shapes};
+ghost use Rattle.borsh_json.specs.Words.{Adds, AreKeysOf, BeginsNext, EntryOf, Form, FoundElements, FoundKeyKind, FoundList, FoundNumbers, FoundPart, HasNode, IsAbove, IsAt, IsAwaitingAt, IsBegunOf, IsEntryKey, IsKeyPut, IsKindOf, IsLast, IsNoJsonReason, IsPartWritten, IsWalker, IsWritingAt, IsWrittenNext, Keys, KindHasOrder, Member, NamedPlace, Place, RefusesElements, SaysBy, ShowsNoJson, StopsBy, TellsAscent, TextSays, definitions_in, definitions_of, ends_of, forms_in, forms_of, map_of, names_of, root_of, shapes};
 ghost use Rattle.borsh_json.specs.Ascii.{IsInLine, IsPlain, IsSameJson};
 ghost use Rattle.borsh_json.specs.Printed.{IsPrinted};
 ghost use Rattle.borsh_json.specs.declared.output.Layout.TheVariants.{Compact};
@@ -7,7 +7,6 @@ ghost use Rattle.borsh_json.specs.declared.output.Characters.TheVariants.{Any, A
 ghost use Rattle.std.specs.Prelude.{◌≡◌, ◌<◌, ℕ, All, Decides, IfErr, IfOk, IfSome, IsUtf8, List, MatchResult, OnOk, Option, Some, length, string_bytes, true};
 
 use crate::ascii::{in_ascii, is_ascii};
-use crate::definitions::Definitions;
 use crate::error::{JsonError, PartResult, Refusal};
 use crate::kinds::{Entries, Kind};
 use crate::leaves::{is_above, write_key};
@@ -15,8 +14,9 @@ use crate::order::Ordered;
 use crate::output::{Characters, LongNumbers, Output, Style};
 use crate::position::{Key, Part, Parts, Place, Position};
 use crate::sources::EntryKey;
+use crate::table::Table;
 use crate::values::{begin_struct, begin_value};
-use borsh_values::{Layout, Membership, Node, Walker, elements_of};
+use borsh_values::{Membership, Node, Plan, Walker, elements_of};
 use borsh_walks::Definition;
 use json::Token;
 use std::alloc::{AllocError, Global};
@@ -66,29 +66,28 @@ pub fn to_json<'a>(
     ensures reason { IfErr result (λ e. IsNoJsonReason (definitions_in map.now) root.now bytes.now e) }
     ensures refused { IfErr result (λ e. ShowsNoJson (forms_in map.now) root.now bytes.now e) }
 {
-    let layout = Layout::new(alloc, root, map)?;
-    let json = Definitions::new(alloc, &layout)?;
+    let plan = Plan::new(alloc, root, map)?;
+    let json = Table::new(alloc, &plan)?;
     json.to_json(bytes, style)
 }
 
-impl<'a, 'l> Definitions<'a, 'l> {
+impl<'a, 'l> Table<'a, 'l> {
     /// As the function [`to_json`]. Left open: as there.
     pub fn to_json(&self, bytes: &[u8], style: Style) -> Result<String, JsonError<'a>>
-        requires { HasKinds self.now }
         ensures says { IfOk result (λ text. SaysBy self.now (string_bytes text) bytes.now) }
         ensures ascii { style.characters ≡ Ascii → IfOk result (λ text. All IsPlain (string_bytes text)) }
         ensures line { style.layout ≡ Compact → IfOk result (λ text. All IsInLine (string_bytes text)) }
         ensures printed { style.characters ≡ Any →
             IfOk result (λ text. IsPrinted style.layout (string_bytes text)) }
-        ensures reason { let l = self.now.layout.now in
-            IfErr result (λ e. IsNoJsonReason (definitions_in l.map.now) l.root.now bytes.now e) }
-        ensures refused { let l = self.now.layout.now in
-            IfErr result (λ e. ShowsNoJson (forms_in l.map.now) l.root.now bytes.now e) }
+        ensures reason { let l = self.now.plan.now in
+            IfErr result (λ e. IsNoJsonReason (definitions_of l) (root_of l) bytes.now e) }
+        ensures refused { let l = self.now.plan.now in
+            IfErr result (λ e. ShowsNoJson (forms_in (map_of l)) (root_of l) bytes.now e) }
     {
-        match self.layout.is_member(self.alloc, bytes)? {
+        match self.membership(bytes)? {
             Membership::Member => {
                 let text = text_of(write_value(self, bytes, style)?);
-                Ok(in_characters(self.alloc, text, style.characters)?)
+                Ok(in_characters(self.alloc(), text, style.characters)?)
             }
             Membership::NoMember(fault) => Err(JsonError::NoMember(fault)),
             Membership::Ambiguous(name) => Err(JsonError::Ambiguous(name)),
@@ -122,22 +121,21 @@ fn text_of(bytes: Vec<u8>) -> String
 
 /// The JSON text of a member.
 fn write_value<'a>(
-    definitions: &Definitions<'a, '_>,
+    json: &Table<'a, '_>,
     bytes: &[u8],
     style: Style,
 ) -> Result<Vec<u8>, JsonError<'a>>
-    requires known { HasKinds definitions.now }
-    requires member { Member (shapes (forms_of definitions.now)) definitions.now.layout.now.root.now bytes.now }
-    ensures says { IfOk result (λ text. SaysBy definitions.now text.items bytes.now) }
+    requires { Member (shapes (forms_of json.now)) (root_of json.now.plan.now) bytes.now }
+    ensures says { IfOk result (λ text. SaysBy json.now text.items bytes.now) }
     ensures utf8 { IfOk result (λ text. IsUtf8 text.items) }
     ensures line { style.layout ≡ Compact → IfOk result (λ text. All IsInLine text.items) }
     ensures printed { IfOk result (λ text. IsPrinted style.layout text.items) }
-    ensures stops { IfErr result (StopsBy definitions.now bytes.now) }
+    ensures stops { IfErr result (StopsBy json.now bytes.now) }
 {
-    let alloc = definitions.alloc;
-    let layout = definitions.layout;
-    let walk = Walker::new(alloc, layout, bytes);
-    let position = Position::new(alloc, layout.root);
+    let alloc = json.alloc();
+    let plan = json.plan();
+    let walk = Walker::new(alloc, plan, bytes);
+    let position = Position::new(alloc, plan.root());
     let out = Output::new(alloc, style.layout);
     let mut writing = Writing {
         walk,
@@ -147,7 +145,7 @@ fn write_value<'a>(
         long_numbers: style.long_numbers,
     };
     for _ in 0..u64::MAX {
-        let more = writing.write_next(definitions)?;
+        let more = writing.write_next(json)?;
         if !more {
             if writing.out.is_in(style.layout) {
                 return Ok(writing.out.into_bytes());
@@ -170,60 +168,55 @@ struct Writing<'a, 'l, 'b> {
 
 impl<'a, 'l, 'b> Writing<'a, 'l, 'b> {
     /// Writes the next part, or goes back to the parts around; says no at the end of the value.
-    fn write_next(&mut self, definitions: &Definitions<'a, '_>) -> Result<bool, JsonError<'a>>
-        requires known { HasKinds definitions.now }
-        requires state { IsWritingAt definitions.now self.old self.old.position.place }
-        ensures state { IsWrittenNext definitions.now self.old self.new result }
+    fn write_next(&mut self, json: &Table<'a, '_>) -> Result<bool, JsonError<'a>>
+        requires { IsWritingAt json.now self.old self.old.position.place }
+        ensures state { IsWrittenNext json.now self.old self.new result }
         ensures bytes { self.new.bytes ≡ self.old.bytes }
     {
-        let Some(part) = self.position.place.next_part(definitions) else {
+        let Some(part) = self.position.place.next_part(json) else {
             write_end(self.position.place.parts, &mut self.out)?;
             return Ok(self.position.leave());
         };
         let place = &mut self.position.place;
-        let is_above = ascends(definitions, place, self.walk.offset, self.bytes)?;
+        let is_above = ascends(json, place, self.walk.offset, self.bytes)?;
         if !is_above {
             return Err(self.position.refused_element(Refusal::Descends).into());
         }
-        self.write_key(definitions, part)?;
-        self.write_part(definitions, part.at)?;
+        self.write_key(json, part)?;
+        self.write_part(json, part.at)?;
         Ok(true)
     }
 
     /// Writes the key of a part that was begun, where it has one.
-    fn write_key(
-        &mut self,
-        definitions: &Definitions<'a, '_>,
-        part: Part<'a>,
-    ) -> Result<(), JsonError<'a>>
+    fn write_key(&mut self, json: &Table<'a, '_>, part: Part<'a>) -> Result<(), JsonError<'a>>
         requires walk { IsWalker self.old.walk }
-        ensures key { HasKinds definitions.now → (p : Place) → IsWritingAt definitions.now self.old p →
-            IsBegunOf definitions.now self.old.walk.offset p self.old.position.place part.entry →
-            IsKeyPut definitions.now part.entry.at self.old self.new result }
+        ensures key { (p : Place) → IsWritingAt json.now self.old p →
+            IsBegunOf json.now self.old.walk.offset p self.old.position.place part.entry →
+            IsKeyPut json.now part.entry.at self.old self.new result }
         ensures bytes { self.new.bytes ≡ self.old.bytes }
     {
         match part.key {
             Key::None => Ok(()),
             Key::Name(name) => Ok(self.out.put(Token::Key(name))?),
-            Key::Entry(entries) => self.write_entry_key(definitions, entries),
+            Key::Entry(entries) => self.write_entry_key(json, entries),
         }
     }
 
     /// Writes the key of an entry of a map, which has to be above the one before it.
     fn write_entry_key(
         &mut self,
-        definitions: &Definitions<'a, '_>,
+        json: &Table<'a, '_>,
         entries: Entries<'a>,
     ) -> Result<(), JsonError<'a>>
         requires walk { IsWalker self.old.walk }
-        ensures key { HasKinds definitions.now → (p : Place) (part : FoundPart) →
-            IsWritingAt definitions.now self.old p → part.key ≡ EntryOf entries.entry →
-            IsBegunOf definitions.now self.old.walk.offset p self.old.position.place part →
-            IsKeyPut definitions.now part.at self.old self.new result }
+        ensures key { (p : Place) (part : FoundPart) →
+            IsWritingAt json.now self.old p → part.key ≡ EntryOf entries.entry →
+            IsBegunOf json.now self.old.walk.offset p self.old.position.place part →
+            IsKeyPut json.now part.at self.old self.new result }
         ensures bytes { self.new.bytes ≡ self.old.bytes }
     {
         let Some(node) = self.walk.open(entries.key, 0)? else {
-            return Err(JsonError::Ambiguous(definitions.name(entries.key)));
+            return Err(JsonError::Ambiguous(json.name(entries.key)));
         };
         match write_key(entries.key_kind, &node, &mut self.out) {
             Ok(key) => {
@@ -238,25 +231,21 @@ impl<'a, 'l, 'b> Writing<'a, 'l, 'b> {
     }
 
     /// Writes a part, or its beginning, and goes into its parts.
-    fn write_part(
-        &mut self,
-        definitions: &Definitions<'a, '_>,
-        at: usize,
-    ) -> Result<(), JsonError<'a>>
+    fn write_part(&mut self, json: &Table<'a, '_>, at: usize) -> Result<(), JsonError<'a>>
         requires walk { IsWalker self.old.walk }
-        ensures part { HasKinds definitions.now → (x : List ℕ) → IsAt (names_of definitions.now) at x →
-            IsAwaitingAt definitions.now self.old x → IsPartWritten definitions.now self.old self.new result }
+        ensures part { (x : List ℕ) → IsAt (names_of json.now) at x →
+            IsAwaitingAt json.now self.old x → IsPartWritten json.now self.old self.new result }
         ensures bytes { self.new.bytes ≡ self.old.bytes }
     {
-        if definitions.is_zero_size(at) {
+        if json.is_zero_size(at) {
             return Ok(self.out.put(Token::Null)?);
         }
-        let Some((_, kind)) = definitions.kind(at) else {
+        let Some((_, kind)) = json.kind(at) else {
             return Err(JsonError::NoValue);
         };
-        match begin_struct(definitions.alloc, at, kind, &mut self.out) {
+        match begin_struct(json.alloc(), at, kind, &mut self.out) {
             Ok(Some(place)) => Ok(self.position.enter(place)?),
-            Ok(None) => self.write_node(definitions, at, kind),
+            Ok(None) => self.write_node(json, at, kind),
             Err(error) => Err(self.position.refused_value(error).into()),
         }
     }
@@ -264,29 +253,22 @@ impl<'a, 'l, 'b> Writing<'a, 'l, 'b> {
     /// Writes a part of a kind that has own bytes, or its beginning.
     fn write_node(
         &mut self,
-        definitions: &Definitions<'a, '_>,
+        json: &Table<'a, '_>,
         at: usize,
         kind: Kind<'a>,
     ) -> Result<(), JsonError<'a>>
         requires walk { IsWalker self.old.walk }
-        ensures part { let F = forms_of definitions.now in let ns = names_of definitions.now in
-            HasKinds definitions.now → (x : List ℕ) (f : Form) → IsAt ns at x → F x ≡ Some f →
-            IsKindOf F ns x f kind.entry → KindHasOrder F ns definitions.now.orders.items x kind.entry → HasNode kind.entry →
-            IsAwaitingAt definitions.now self.old x → IsPartWritten definitions.now self.old self.new result }
+        ensures part { let F = forms_of json.now in let ns = names_of json.now in
+            (x : List ℕ) (f : Form) → IsAt ns at x → F x ≡ Some f →
+            IsKindOf F ns x f kind.entry → KindHasOrder F ns json.now.orders.items x kind.entry → HasNode kind.entry →
+            IsAwaitingAt json.now self.old x → IsPartWritten json.now self.old self.new result }
         ensures bytes { self.new.bytes ≡ self.old.bytes }
     {
         let Some(node) = self.walk.open(at, 0)? else {
-            return Err(JsonError::Ambiguous(definitions.name(at)));
+            return Err(JsonError::Ambiguous(json.name(at)));
         };
         check_elements(&self.position, kind, &node)?;
-        match begin_value(
-            definitions,
-            at,
-            kind,
-            &node,
-            self.long_numbers,
-            &mut self.out,
-        ) {
+        match begin_value(json, at, kind, &node, self.long_numbers, &mut self.out) {
             Ok(Some(place)) => Ok(self.position.enter(place.in_order(order_of(kind)))?),
             Ok(None) => Ok(()),
             Err(error) => Err(self.position.refused_value(error).into()),
@@ -350,18 +332,18 @@ fn write_end(parts: Parts<'_>, out: &mut Output) -> Result<(), AllocError>
 
 /// Whether the next element is above the one before it, where elements have to ascend; it begins at an offset.
 fn ascends(
-    definitions: &Definitions<'_, '_>,
+    json: &Table<'_, '_>,
     place: &mut Place<'_, '_>,
     offset: usize,
     bytes: &[u8],
 ) -> Result<bool, AllocError>
     ensures same { (place.new.parts ≡ place.old.parts) × (place.new.begun ≡ place.old.begun) × (place.new.last ≡ place.old.last) }
     ensures begins { BeginsNext place.old.ascent offset place.new.ascent }
-    ensures tells { HasKinds definitions.now → IfOk result (TellsAscent definitions.now bytes.now place.old.ascent offset) }
+    ensures tells { IfOk result (TellsAscent json.now bytes.now place.old.ascent offset) }
 {
     let Some(ascent) = &mut place.ascent else {
         return Ok(true);
     };
     ascent.begin(offset);
-    ascent.ascends(definitions, bytes)
+    ascent.ascends(json, bytes)
 }

@@ -18,7 +18,9 @@ impl<A: BorshSchema> BorshSchema for (A,) {
 
     ghost parts = { tuple_of ⟦<(A, ()) as FieldTypes>⟧.described };
 
-    ghost described = { struct_described (λ t. (t.0, tt)) ⟦<(A, ()) as FieldTypes>⟧.described refl };
+    ghost described = { struct_described
+        (λ t. (t.0, tt))
+        ⟦<(A, ()) as FieldTypes>⟧.described refl };
 
     fn declaration(alloc: Global) -> SchemaResult<Declaration> {
         let a = A::declaration(alloc)?;
@@ -29,8 +31,8 @@ impl<A: BorshSchema> BorshSchema for (A,) {
         add_tuple::<(A, ())>(alloc, Self::declaration(alloc)?, map)
     }
 
-    ghost describes = { λ defs h. describes_contramap (λ t. t.0)
-        (describes_parts h.0 (all_one (A.describes defs h.1.0))) };
+    ghost describes = { λ defs h. describes_contramap (λ t. t.0) (describes_parts h.0
+        (all_one (A.describes defs h.1.0))) };
 }
 
 impl<A: BorshSchema, B: BorshSchema> BorshSchema for (A, B) {
@@ -50,8 +52,8 @@ impl<A: BorshSchema, B: BorshSchema> BorshSchema for (A, B) {
         add_tuple::<(A, (B, ()))>(alloc, Self::declaration(alloc)?, map)
     }
 
-    ghost describes = { λ defs h. describes_parts h.0
-        (all_more (A.describes defs h.1.0) (all_one (B.describes defs h.1.1.0))) };
+    ghost describes = { λ defs h. describes_parts h.0 (all_more (A.describes defs h.1.0)
+        (all_one (B.describes defs h.1.1.0))) };
 }
 
 impl<A: BorshSchema, B: BorshSchema, C: BorshSchema> BorshSchema for (A, B, C) {
@@ -162,7 +164,8 @@ impl<
     F: BorshSchema,
     G: BorshSchema,
 > BorshSchema for (A, B, C, D, E, F, G) {
-    ghost name = { tuple_name ⟦<(A, (B, (C, (D, (E, (F, (G, ()))))))) as FieldTypes>⟧.described.names };
+    ghost name = { tuple_name
+        ⟦<(A, (B, (C, (D, (E, (F, (G, ()))))))) as FieldTypes>⟧.described.names };
 
     ghost parts = { tuple_of ⟦<(A, (B, (C, (D, (E, (F, (G, ()))))))) as FieldTypes>⟧.described };
 
@@ -196,7 +199,8 @@ impl<
     G: BorshSchema,
     H: BorshSchema,
 > BorshSchema for (A, B, C, D, E, F, G, H) {
-    ghost name = { tuple_name ⟦<(A, (B, (C, (D, (E, (F, (G, (H, ())))))))) as FieldTypes>⟧.described.names };
+    ghost name = { tuple_name
+        ⟦<(A, (B, (C, (D, (E, (F, (G, (H, ())))))))) as FieldTypes>⟧.described.names };
 
     ghost parts = { tuple_of ⟦<(A, (B, (C, (D, (E, (F, (G, (H, ())))))))) as FieldTypes>⟧.described };
 
@@ -209,8 +213,11 @@ impl<
     }
 
     fn add_definitions_recursively(alloc: Global, map: &mut DefinitionMap) -> SchemaResult<()> {
-        let name = Self::declaration(alloc)?;
-        add_tuple::<(A, (B, (C, (D, (E, (F, (G, (H, ()))))))))>(alloc, name, map)
+        add_tuple::<(A, (B, (C, (D, (E, (F, (G, (H, ()))))))))>(
+            alloc,
+            Self::declaration(alloc)?,
+            map,
+        )
     }
 
     ghost describes = { λ defs h.
@@ -236,7 +243,8 @@ impl<
     ghost name = { tuple_name
         ⟦<(A, (B, (C, (D, (E, (F, (G, (H, (I, ()))))))))) as FieldTypes>⟧.described.names };
 
-    ghost parts = { tuple_of ⟦<(A, (B, (C, (D, (E, (F, (G, (H, (I, ()))))))))) as FieldTypes>⟧.described };
+    ghost parts = { tuple_of
+        ⟦<(A, (B, (C, (D, (E, (F, (G, (H, (I, ()))))))))) as FieldTypes>⟧.described };
 
     ghost described = { struct_described
         (λ t. (t.0, (t.1, (t.2, (t.3, (t.4, (t.5, (t.6, (t.7, (t.8, tt))))))))))
@@ -247,8 +255,11 @@ impl<
     }
 
     fn add_definitions_recursively(alloc: Global, map: &mut DefinitionMap) -> SchemaResult<()> {
-        let name = Self::declaration(alloc)?;
-        add_tuple::<(A, (B, (C, (D, (E, (F, (G, (H, (I, ())))))))))>(alloc, name, map)
+        add_tuple::<(A, (B, (C, (D, (E, (F, (G, (H, (I, ())))))))))>(
+            alloc,
+            Self::declaration(alloc)?,
+            map,
+        )
     }
 
     ghost describes = { λ defs h.
@@ -288,8 +299,11 @@ impl<
     }
 
     fn add_definitions_recursively(alloc: Global, map: &mut DefinitionMap) -> SchemaResult<()> {
-        let name = Self::declaration(alloc)?;
-        add_tuple::<(A, (B, (C, (D, (E, (F, (G, (H, (I, (J, ()))))))))))>(alloc, name, map)
+        add_tuple::<(A, (B, (C, (D, (E, (F, (G, (H, (I, (J, ()))))))))))>(
+            alloc,
+            Self::declaration(alloc)?,
+            map,
+        )
     }
 
     ghost describes = { λ defs h.
@@ -331,8 +345,11 @@ impl<
     }
 
     fn add_definitions_recursively(alloc: Global, map: &mut DefinitionMap) -> SchemaResult<()> {
-        let name = Self::declaration(alloc)?;
-        add_tuple::<(A, (B, (C, (D, (E, (F, (G, (H, (I, (J, (K, ())))))))))))>(alloc, name, map)
+        add_tuple::<(A, (B, (C, (D, (E, (F, (G, (H, (I, (J, (K, ())))))))))))>(
+            alloc,
+            Self::declaration(alloc)?,
+            map,
+        )
     }
 
     ghost describes = { λ defs h.

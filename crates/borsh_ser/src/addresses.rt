@@ -1,4 +1,5 @@
 // Addresses: their octets, and a tag where there are two kinds.
+use super::lengths::{joined_length, tagged_length};
 use super::parts::{write_tagged, write_two};
 use super::puts::{put_tagged, put_two};
 use super::serialize::BorshSerialize;
@@ -16,6 +17,11 @@ impl BorshSerialize for Ipv4Addr {
     fn put(&self, room: &mut [u8]) -> Option<usize> {
         self.octets().put(room)
     }
+
+    #[inline]
+    fn encoded_length(&self) -> Option<u32> {
+        self.octets().encoded_length()
+    }
 }
 
 impl BorshSerialize for Ipv6Addr {
@@ -27,6 +33,11 @@ impl BorshSerialize for Ipv6Addr {
     #[inline]
     fn put(&self, room: &mut [u8]) -> Option<usize> {
         self.octets().put(room)
+    }
+
+    #[inline]
+    fn encoded_length(&self) -> Option<u32> {
+        self.octets().encoded_length()
     }
 }
 
@@ -46,6 +57,14 @@ impl BorshSerialize for IpAddr {
             IpAddr::V6(address) => put_tagged(1, address, room),
         }
     }
+
+    #[inline]
+    fn encoded_length(&self) -> Option<u32> {
+        match self {
+            IpAddr::V4(address) => tagged_length(0, address),
+            IpAddr::V6(address) => tagged_length(1, address),
+        }
+    }
 }
 
 impl BorshSerialize for SocketAddrV4 {
@@ -57,6 +76,11 @@ impl BorshSerialize for SocketAddrV4 {
     #[inline]
     fn put(&self, room: &mut [u8]) -> Option<usize> {
         put_two(self.ip(), &self.port(), room)
+    }
+
+    #[inline]
+    fn encoded_length(&self) -> Option<u32> {
+        joined_length(self.ip().encoded_length(), self.port().encoded_length())
     }
 }
 
@@ -70,6 +94,11 @@ impl BorshSerialize for SocketAddrV6 {
     #[inline]
     fn put(&self, room: &mut [u8]) -> Option<usize> {
         put_two(self.ip(), &self.port(), room)
+    }
+
+    #[inline]
+    fn encoded_length(&self) -> Option<u32> {
+        joined_length(self.ip().encoded_length(), self.port().encoded_length())
     }
 }
 
@@ -87,6 +116,14 @@ impl BorshSerialize for SocketAddr {
         match self {
             SocketAddr::V4(address) => put_tagged(0, address, room),
             SocketAddr::V6(address) => put_tagged(1, address, room),
+        }
+    }
+
+    #[inline]
+    fn encoded_length(&self) -> Option<u32> {
+        match self {
+            SocketAddr::V4(address) => tagged_length(0, address),
+            SocketAddr::V6(address) => tagged_length(1, address),
         }
     }
 }

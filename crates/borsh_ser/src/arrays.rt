@@ -1,4 +1,5 @@
 // Arrays: their elements in order, with no count.
+use super::lengths::elements_length;
 use super::lists::write_elements;
 use super::puts::put_elements;
 use super::serialize::BorshSerialize;
@@ -14,5 +15,10 @@ impl<T: BorshSerialize, const N: usize> BorshSerialize for [T; N] {
     #[inline]
     fn put(&self, room: &mut [u8]) -> Option<usize> {
         put_elements(self, room)
+    }
+
+    #[inline]
+    fn encoded_length(&self) -> Option<u32> {
+        elements_length(self)
     }
 }

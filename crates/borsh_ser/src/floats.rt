@@ -3,6 +3,7 @@ ghost use Rattle.std.specs.Prelude.{◌≡◌, Some};
 ghost use Rattle.std.specs.Float.{NotNan};
 ghost use Rattle.borsh_codec.specs.Types.Floats.{float32, float64};
 
+use super::lengths::bytes_length;
 use super::puts::put_bytes;
 use super::raw_bytes::write_bytes;
 use super::serialize::BorshSerialize;
@@ -47,6 +48,15 @@ impl BorshSerialize for f32 {
         }
         put_bytes(&bytes_of_f32(value), room)
     }
+
+    #[inline]
+    fn encoded_length(&self) -> Option<u32> {
+        let value = *self;
+        if value.is_nan() {
+            return None;
+        }
+        bytes_length(&bytes_of_f32(value))
+    }
 }
 
 impl BorshSerialize for f64 {
@@ -66,5 +76,14 @@ impl BorshSerialize for f64 {
             return None;
         }
         put_bytes(&bytes_of_f64(value), room)
+    }
+
+    #[inline]
+    fn encoded_length(&self) -> Option<u32> {
+        let value = *self;
+        if value.is_nan() {
+            return None;
+        }
+        bytes_length(&bytes_of_f64(value))
     }
 }

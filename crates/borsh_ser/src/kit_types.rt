@@ -30,4 +30,9 @@ impl BorshSerialize for Uuid {
     fn put(&self, room: &mut [u8]) -> Option<usize> {
         self.as_bytes().put(room)
     }
+
+    #[inline]
+    fn encoded_length(&self) -> Option<u32> {
+        self.as_bytes().encoded_length()
+    }
 }

@@ -7,6 +7,7 @@ pub mod each;
 pub mod floats;
 pub mod hashed;
 pub mod kit_types;
+pub mod lengths;
 pub mod linked;
 pub mod lists;
 pub mod maps;
@@ -17,12 +18,14 @@ pub mod pointers;
 pub mod puts;
 pub mod ranges;
 pub mod raw_bytes;
+pub mod rooms;
 pub mod serialize;
 pub mod sums;
 pub mod texts;
 pub mod tuples;
 pub mod units;
 
+pub use lengths::{bytes_length, joined_length, tagged_length};
 pub use parts::{
     write_eight, write_eleven, write_five, write_four, write_nine, write_seven, write_six,
     write_tagged, write_ten, write_three, write_twelve, write_two,

@@ -1,8 +1,9 @@
 // Lists whose elements don't lie in one place: a count of four bytes and the elements in order.
 ghost use Rattle.borsh_codec.specs.Shapes.{length_prefixed};
-ghost use Rattle.borsh_codec.specs.Writing.{Writes};
+ghost use Rattle.borsh_codec.specs.Writing.{TellsLength, Writes};
 
 use super::each::write_items;
+use super::lengths::{count_length, elements_length, joined_length};
 use super::lists::{write_count, write_elements};
 use super::serialize::BorshSerialize;
 use borsh_io::{Result, Write};
@@ -27,11 +28,29 @@ fn write_queue<T: BorshSerialize, W: Write>(
     write_elements(back, alloc, writer)
 }
 
+/// The length of the count and the elements of both parts of the queue.
+#[inline]
+fn queue_length<T: BorshSerialize>(queue: &VecDeque<T>) -> Option<u32>
+    ensures { TellsLength ((length_prefixed T.codec).encoding queue.now.items) result }
+{
+    let (front, back) = queue.as_slices();
+    let elements = joined_length(elements_length(front), elements_length(back));
+    joined_length(count_length(queue.len()), elements)
+}
+
 impl<T: BorshSerialize> BorshSerialize for VecDeque<T> {
     #[inline]
     fn serialize<W: Write>(&self, alloc: Global, writer: &mut W) -> Result<()> {
         refuse_empty::<T>()?;
         write_queue(self, alloc, writer)
+    }
+
+    #[inline]
+    fn encoded_length(&self) -> Option<u32> {
+        if T::encodes_empty() {
+            return None;
+        }
+        queue_length(self)
     }
 }
 

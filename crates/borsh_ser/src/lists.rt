@@ -8,9 +8,11 @@ ghost use Rattle.borsh_codec.specs.Shapes.{
 };
 ghost use Rattle.borsh_codec.specs.Writing.{Puts, Writes, WritesEncoding};
 
+use super::lengths::{counted_length, list_length};
 use super::numbers::bytes_of_u32;
-use super::puts::{put_counted, put_front};
+use super::puts::put_counted;
 use super::raw_bytes::write_bytes;
+use super::rooms::{SHARED, write_by_room};
 use super::serialize::BorshSerialize;
 use borsh_io::{Error, ErrorKind, Result, Write};
 use borsh_types::refuse_empty;
@@ -21,7 +23,7 @@ use std::rc::RcSlice;
 use std::sync::ArcSlice;
 
 /// Writes the elements one after another: at once if that is how their encodings lie in memory, and
-/// otherwise through a buffer, the room, if there are so many that clearing it pays.
+/// otherwise through a room, if there are so many that clearing it pays.
 ///
 /// Returns the error of the element that could not be written. Then a beginning of the encoding was
 /// written.
@@ -37,7 +39,7 @@ pub(crate) fn write_elements<T: BorshSerialize, W: Write>(
     if let Some(bytes) = T::u8_slice(items) {
         return write_bytes(bytes, writer);
     }
-    if items.len() < 32 {
+    if items.len() < SHARED {
         return write_one_by_one(items, alloc, writer);
     }
     write_by_room(items, alloc, writer)
@@ -47,7 +49,7 @@ pub(crate) fn write_elements<T: BorshSerialize, W: Write>(
 ///
 /// As a function of its own it would take three times as long: each element's `Result` would be copied.
 #[inline(always)]
-fn write_one_by_one<T: BorshSerialize, W: Write>(
+pub(crate) fn write_one_by_one<T: BorshSerialize, W: Write>(
     items: &[T],
     alloc: Global,
     writer: &mut W,
@@ -57,34 +59,6 @@ fn write_one_by_one<T: BorshSerialize, W: Write>(
 {
     for item in items {
         item.serialize(alloc, writer)?;
-    }
-    Ok(())
-}
-
-/// Writes the elements one after another: through the room as long as `put` returns `Some`, and from
-/// the first `None` on with `serialize`. The errors are those of `write_elements`.
-///
-/// At most 32 elements share the room, so that LLVM knows that elements of up to 32 bytes fit, and
-/// tests no room for them.
-#[inline(always)]
-fn write_by_room<T: BorshSerialize, W: Write>(
-    items: &[T],
-    alloc: Global,
-    writer: &mut W,
-) -> Result<()>
-    ensures { WritesEncoding W.writing writer.old writer.new T.codec.encoding_allocates false
-        (concat_encodings T.codec.encoding items.now) result }
-{
-    let mut room = [0u8; 1024];
-    let mut next = 0;
-    while next < items.len() {
-        let end = next + (items.len() - next).min(32);
-        let (count, filled) = put_front(&items[next..end], &mut room);
-        if count == 0 {
-            return write_one_by_one(&items[next..], alloc, writer);
-        }
-        write_bytes(&room[..filled], writer)?;
-        next += count;
     }
     Ok(())
 }
@@ -156,6 +130,11 @@ impl<T: BorshSerialize> BorshSerialize for Vec<T> {
     fn put(&self, room: &mut [u8]) -> Option<usize> {
         put_list(self.as_slice(), room)
     }
+
+    #[inline]
+    fn encoded_length(&self) -> Option<u32> {
+        list_length(self.as_slice())
+    }
 }
 
 impl<T: BorshSerialize> BorshSerialize for BoxedSlice<T> {
@@ -167,6 +146,11 @@ impl<T: BorshSerialize> BorshSerialize for BoxedSlice<T> {
     #[inline]
     fn put(&self, room: &mut [u8]) -> Option<usize> {
         put_list(self.as_slice(), room)
+    }
+
+    #[inline]
+    fn encoded_length(&self) -> Option<u32> {
+        list_length(self.as_slice())
     }
 }
 
@@ -180,6 +164,11 @@ impl<T: BorshSerialize> BorshSerialize for RcSlice<T> {
     fn put(&self, room: &mut [u8]) -> Option<usize> {
         put_list(self.as_slice(), room)
     }
+
+    #[inline]
+    fn encoded_length(&self) -> Option<u32> {
+        list_length(self.as_slice())
+    }
 }
 
 impl<T: BorshSerialize> BorshSerialize for ArcSlice<T> {
@@ -191,6 +180,11 @@ impl<T: BorshSerialize> BorshSerialize for ArcSlice<T> {
     #[inline]
     fn put(&self, room: &mut [u8]) -> Option<usize> {
         put_list(self.as_slice(), room)
+    }
+
+    #[inline]
+    fn encoded_length(&self) -> Option<u32> {
+        list_length(self.as_slice())
     }
 }
 
@@ -204,6 +198,11 @@ impl<T: BorshSerialize> BorshSerialize for CowSlice<'_, T> {
     fn put(&self, room: &mut [u8]) -> Option<usize> {
         put_list(self.as_slice(), room)
     }
+
+    #[inline]
+    fn encoded_length(&self) -> Option<u32> {
+        list_length(self.as_slice())
+    }
 }
 
 // A plain slice isn't asked whether its elements are empty.
@@ -216,5 +215,10 @@ impl<T: BorshSerialize> BorshSerialize for &[T] {
     #[inline]
     fn put(&self, room: &mut [u8]) -> Option<usize> {
         put_counted(*self, room)
+    }
+
+    #[inline]
+    fn encoded_length(&self) -> Option<u32> {
+        counted_length(*self)
     }
 }

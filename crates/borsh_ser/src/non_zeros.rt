@@ -1,4 +1,5 @@
 // Whole numbers that are not zero: their number.
+use super::lengths::bytes_length;
 use super::numbers::{
     bytes_of_i8, bytes_of_i16, bytes_of_i32, bytes_of_i64, bytes_of_i128, bytes_of_u8,
     bytes_of_u16, bytes_of_u32, bytes_of_u64, bytes_of_u128, put_i128, put_u128,
@@ -23,6 +24,11 @@ impl BorshSerialize for NonZeroU8 {
     fn put(&self, room: &mut [u8]) -> Option<usize> {
         put_bytes(&bytes_of_u8(self.get()), room)
     }
+
+    #[inline]
+    fn encoded_length(&self) -> Option<u32> {
+        bytes_length(&bytes_of_u8(self.get()))
+    }
 }
 
 impl BorshSerialize for NonZeroU16 {
@@ -34,6 +40,11 @@ impl BorshSerialize for NonZeroU16 {
     #[inline]
     fn put(&self, room: &mut [u8]) -> Option<usize> {
         put_bytes(&bytes_of_u16(self.get()), room)
+    }
+
+    #[inline]
+    fn encoded_length(&self) -> Option<u32> {
+        bytes_length(&bytes_of_u16(self.get()))
     }
 }
 
@@ -47,6 +58,11 @@ impl BorshSerialize for NonZeroU32 {
     fn put(&self, room: &mut [u8]) -> Option<usize> {
         put_bytes(&bytes_of_u32(self.get()), room)
     }
+
+    #[inline]
+    fn encoded_length(&self) -> Option<u32> {
+        bytes_length(&bytes_of_u32(self.get()))
+    }
 }
 
 impl BorshSerialize for NonZeroU64 {
@@ -58,6 +74,11 @@ impl BorshSerialize for NonZeroU64 {
     #[inline]
     fn put(&self, room: &mut [u8]) -> Option<usize> {
         put_bytes(&bytes_of_u64(self.get()), room)
+    }
+
+    #[inline]
+    fn encoded_length(&self) -> Option<u32> {
+        bytes_length(&bytes_of_u64(self.get()))
     }
 }
 
@@ -71,6 +92,11 @@ impl BorshSerialize for NonZeroU128 {
     fn put(&self, room: &mut [u8]) -> Option<usize> {
         put_u128(self.get(), room)
     }
+
+    #[inline]
+    fn encoded_length(&self) -> Option<u32> {
+        bytes_length(&bytes_of_u128(self.get()))
+    }
 }
 
 impl BorshSerialize for NonZeroUsize {
@@ -82,6 +108,11 @@ impl BorshSerialize for NonZeroUsize {
     #[inline]
     fn put(&self, room: &mut [u8]) -> Option<usize> {
         put_bytes(&bytes_of_u64(self.get() as u64), room)
+    }
+
+    #[inline]
+    fn encoded_length(&self) -> Option<u32> {
+        bytes_length(&bytes_of_u64(self.get() as u64))
     }
 }
 
@@ -95,6 +126,11 @@ impl BorshSerialize for NonZeroI8 {
     fn put(&self, room: &mut [u8]) -> Option<usize> {
         put_bytes(&bytes_of_i8(self.get()), room)
     }
+
+    #[inline]
+    fn encoded_length(&self) -> Option<u32> {
+        bytes_length(&bytes_of_i8(self.get()))
+    }
 }
 
 impl BorshSerialize for NonZeroI16 {
@@ -106,6 +142,11 @@ impl BorshSerialize for NonZeroI16 {
     #[inline]
     fn put(&self, room: &mut [u8]) -> Option<usize> {
         put_bytes(&bytes_of_i16(self.get()), room)
+    }
+
+    #[inline]
+    fn encoded_length(&self) -> Option<u32> {
+        bytes_length(&bytes_of_i16(self.get()))
     }
 }
 
@@ -119,6 +160,11 @@ impl BorshSerialize for NonZeroI32 {
     fn put(&self, room: &mut [u8]) -> Option<usize> {
         put_bytes(&bytes_of_i32(self.get()), room)
     }
+
+    #[inline]
+    fn encoded_length(&self) -> Option<u32> {
+        bytes_length(&bytes_of_i32(self.get()))
+    }
 }
 
 impl BorshSerialize for NonZeroI64 {
@@ -131,6 +177,11 @@ impl BorshSerialize for NonZeroI64 {
     fn put(&self, room: &mut [u8]) -> Option<usize> {
         put_bytes(&bytes_of_i64(self.get()), room)
     }
+
+    #[inline]
+    fn encoded_length(&self) -> Option<u32> {
+        bytes_length(&bytes_of_i64(self.get()))
+    }
 }
 
 impl BorshSerialize for NonZeroI128 {
@@ -142,5 +193,10 @@ impl BorshSerialize for NonZeroI128 {
     #[inline]
     fn put(&self, room: &mut [u8]) -> Option<usize> {
         put_i128(self.get(), room)
+    }
+
+    #[inline]
+    fn encoded_length(&self) -> Option<u32> {
+        bytes_length(&bytes_of_i128(self.get()))
     }
 }

@@ -9,6 +9,7 @@ ghost use Rattle.borsh_codec.specs.Shapes.{
 };
 ghost use Rattle.borsh_codec.specs.Writing.{Puts};
 
+use super::lengths::bytes_length;
 use super::puts::{put_bytes, put_two};
 use super::raw_bytes::write_bytes;
 use super::serialize::BorshSerialize;
@@ -129,6 +130,11 @@ impl BorshSerialize for u8 {
         put_bytes(&bytes_of_u8(*self), room)
     }
 
+    #[inline]
+    fn encoded_length(&self) -> Option<u32> {
+        bytes_length(&bytes_of_u8(*self))
+    }
+
     /// The bytes themselves, always.
     #[inline]
     fn u8_slice(slice: &[u8]) -> Option<&[u8]>
@@ -149,6 +155,11 @@ impl BorshSerialize for u16 {
     fn put(&self, room: &mut [u8]) -> Option<usize> {
         put_bytes(&bytes_of_u16(*self), room)
     }
+
+    #[inline]
+    fn encoded_length(&self) -> Option<u32> {
+        bytes_length(&bytes_of_u16(*self))
+    }
 }
 
 impl BorshSerialize for u32 {
@@ -160,6 +171,11 @@ impl BorshSerialize for u32 {
     #[inline]
     fn put(&self, room: &mut [u8]) -> Option<usize> {
         put_bytes(&bytes_of_u32(*self), room)
+    }
+
+    #[inline]
+    fn encoded_length(&self) -> Option<u32> {
+        bytes_length(&bytes_of_u32(*self))
     }
 }
 
@@ -173,6 +189,11 @@ impl BorshSerialize for u64 {
     fn put(&self, room: &mut [u8]) -> Option<usize> {
         put_bytes(&bytes_of_u64(*self), room)
     }
+
+    #[inline]
+    fn encoded_length(&self) -> Option<u32> {
+        bytes_length(&bytes_of_u64(*self))
+    }
 }
 
 impl BorshSerialize for u128 {
@@ -184,6 +205,11 @@ impl BorshSerialize for u128 {
     #[inline]
     fn put(&self, room: &mut [u8]) -> Option<usize> {
         put_u128(*self, room)
+    }
+
+    #[inline]
+    fn encoded_length(&self) -> Option<u32> {
+        bytes_length(&bytes_of_u128(*self))
     }
 }
 
@@ -197,6 +223,11 @@ impl BorshSerialize for usize {
     fn put(&self, room: &mut [u8]) -> Option<usize> {
         put_bytes(&bytes_of_u64(*self as u64), room)
     }
+
+    #[inline]
+    fn encoded_length(&self) -> Option<u32> {
+        bytes_length(&bytes_of_u64(*self as u64))
+    }
 }
 
 impl BorshSerialize for i8 {
@@ -208,6 +239,11 @@ impl BorshSerialize for i8 {
     #[inline]
     fn put(&self, room: &mut [u8]) -> Option<usize> {
         put_bytes(&bytes_of_i8(*self), room)
+    }
+
+    #[inline]
+    fn encoded_length(&self) -> Option<u32> {
+        bytes_length(&bytes_of_i8(*self))
     }
 }
 
@@ -221,6 +257,11 @@ impl BorshSerialize for i16 {
     fn put(&self, room: &mut [u8]) -> Option<usize> {
         put_bytes(&bytes_of_i16(*self), room)
     }
+
+    #[inline]
+    fn encoded_length(&self) -> Option<u32> {
+        bytes_length(&bytes_of_i16(*self))
+    }
 }
 
 impl BorshSerialize for i32 {
@@ -232,6 +273,11 @@ impl BorshSerialize for i32 {
     #[inline]
     fn put(&self, room: &mut [u8]) -> Option<usize> {
         put_bytes(&bytes_of_i32(*self), room)
+    }
+
+    #[inline]
+    fn encoded_length(&self) -> Option<u32> {
+        bytes_length(&bytes_of_i32(*self))
     }
 }
 
@@ -245,6 +291,11 @@ impl BorshSerialize for i64 {
     fn put(&self, room: &mut [u8]) -> Option<usize> {
         put_bytes(&bytes_of_i64(*self), room)
     }
+
+    #[inline]
+    fn encoded_length(&self) -> Option<u32> {
+        bytes_length(&bytes_of_i64(*self))
+    }
 }
 
 impl BorshSerialize for i128 {
@@ -257,6 +308,11 @@ impl BorshSerialize for i128 {
     fn put(&self, room: &mut [u8]) -> Option<usize> {
         put_i128(*self, room)
     }
+
+    #[inline]
+    fn encoded_length(&self) -> Option<u32> {
+        bytes_length(&bytes_of_i128(*self))
+    }
 }
 
 impl BorshSerialize for isize {
@@ -268,5 +324,10 @@ impl BorshSerialize for isize {
     #[inline]
     fn put(&self, room: &mut [u8]) -> Option<usize> {
         put_bytes(&bytes_of_i64(*self as i64), room)
+    }
+
+    #[inline]
+    fn encoded_length(&self) -> Option<u32> {
+        bytes_length(&bytes_of_i64(*self as i64))
     }
 }

@@ -16,6 +16,11 @@ impl<T: BorshSerialize> BorshSerialize for &T {
     fn put(&self, room: &mut [u8]) -> Option<usize> {
         T::put(*self, room)
     }
+
+    #[inline]
+    fn encoded_length(&self) -> Option<u32> {
+        T::encoded_length(*self)
+    }
 }
 
 impl<T: BorshSerialize> BorshSerialize for Box<T> {
@@ -27,6 +32,11 @@ impl<T: BorshSerialize> BorshSerialize for Box<T> {
     #[inline]
     fn put(&self, room: &mut [u8]) -> Option<usize> {
         self.as_ref().put(room)
+    }
+
+    #[inline]
+    fn encoded_length(&self) -> Option<u32> {
+        self.as_ref().encoded_length()
     }
 }
 
@@ -40,6 +50,11 @@ impl<T: BorshSerialize> BorshSerialize for Rc<T> {
     fn put(&self, room: &mut [u8]) -> Option<usize> {
         self.as_ref().put(room)
     }
+
+    #[inline]
+    fn encoded_length(&self) -> Option<u32> {
+        self.as_ref().encoded_length()
+    }
 }
 
 impl<T: BorshSerialize> BorshSerialize for Arc<T> {
@@ -52,6 +67,11 @@ impl<T: BorshSerialize> BorshSerialize for Arc<T> {
     fn put(&self, room: &mut [u8]) -> Option<usize> {
         self.as_ref().put(room)
     }
+
+    #[inline]
+    fn encoded_length(&self) -> Option<u32> {
+        self.as_ref().encoded_length()
+    }
 }
 
 impl<T: BorshSerialize> BorshSerialize for Cow<'_, T> {
@@ -63,5 +83,10 @@ impl<T: BorshSerialize> BorshSerialize for Cow<'_, T> {
     #[inline]
     fn put(&self, room: &mut [u8]) -> Option<usize> {
         self.as_ref().put(room)
+    }
+
+    #[inline]
+    fn encoded_length(&self) -> Option<u32> {
+        self.as_ref().encoded_length()
     }
 }

@@ -1,4 +1,5 @@
 // Ranges: their start, where they have one, and then their end, where they have one.
+use super::lengths::joined_length;
 use super::parts::write_two;
 use super::puts::put_two;
 use super::serialize::BorshSerialize;
@@ -16,6 +17,11 @@ impl<T: BorshSerialize> BorshSerialize for Range<T> {
     fn put(&self, room: &mut [u8]) -> Option<usize> {
         put_two(&self.start, &self.end, room)
     }
+
+    #[inline]
+    fn encoded_length(&self) -> Option<u32> {
+        joined_length(self.start.encoded_length(), self.end.encoded_length())
+    }
 }
 
 impl<T: BorshSerialize> BorshSerialize for RangeInclusive<T> {
@@ -27,6 +33,11 @@ impl<T: BorshSerialize> BorshSerialize for RangeInclusive<T> {
     #[inline]
     fn put(&self, room: &mut [u8]) -> Option<usize> {
         put_two(self.start(), self.end(), room)
+    }
+
+    #[inline]
+    fn encoded_length(&self) -> Option<u32> {
+        joined_length(self.start().encoded_length(), self.end().encoded_length())
     }
 }
 
@@ -40,6 +51,11 @@ impl<T: BorshSerialize> BorshSerialize for RangeFrom<T> {
     fn put(&self, room: &mut [u8]) -> Option<usize> {
         self.start.put(room)
     }
+
+    #[inline]
+    fn encoded_length(&self) -> Option<u32> {
+        self.start.encoded_length()
+    }
 }
 
 impl<T: BorshSerialize> BorshSerialize for RangeTo<T> {
@@ -52,6 +68,11 @@ impl<T: BorshSerialize> BorshSerialize for RangeTo<T> {
     fn put(&self, room: &mut [u8]) -> Option<usize> {
         self.end.put(room)
     }
+
+    #[inline]
+    fn encoded_length(&self) -> Option<u32> {
+        self.end.encoded_length()
+    }
 }
 
 impl<T: BorshSerialize> BorshSerialize for RangeToInclusive<T> {
@@ -63,5 +84,10 @@ impl<T: BorshSerialize> BorshSerialize for RangeToInclusive<T> {
     #[inline]
     fn put(&self, room: &mut [u8]) -> Option<usize> {
         self.end.put(room)
+    }
+
+    #[inline]
+    fn encoded_length(&self) -> Option<u32> {
+        self.end.encoded_length()
     }
 }

@@ -1,7 +1,7 @@
 // What is written.
 ghost use Rattle.std.specs.Prelude.{◌≡◌, Bool, true, false, Some, IfSome, IsNone};
 ghost use Rattle.borsh_codec.specs.Shapes.{concat_encodings};
-ghost use Rattle.borsh_codec.specs.Writing.{Puts, Writes};
+ghost use Rattle.borsh_codec.specs.Writing.{Puts, TellsLength, Writes};
 
 use borsh_io::{Result, Write};
 use borsh_types::BorshType;
@@ -53,6 +53,19 @@ pub trait BorshSerialize: BorshType + Sized {
     /// ```
     fn put(&self, _room: &mut [u8]) -> Option<usize>
         ensures { Puts (Self.codec.encoding self.now) _room.old _room.new result }
+    {
+        None
+    }
+
+    /// How many bytes the encoding has, without writing it. `None`: the value has no encoding, it has more than
+    /// 4294967295 bytes, or the type doesn't support this. `object_length` asks this first. Left open: `None`,
+    /// always.
+    ///
+    /// ```
+    /// assert_eq!(7u16.encoded_length(), Some(2));
+    /// ```
+    fn encoded_length(&self) -> Option<u32>
+        ensures { TellsLength (Self.codec.encoding self.now) result }
     {
         None
     }

@@ -1,4 +1,5 @@
 // Values that are one of several kinds: a tag, one byte, and a part.
+use super::lengths::{bytes_length, tagged_length};
 use super::parts::write_tagged;
 use super::puts::{put_bytes, put_tagged};
 use super::raw_bytes::write_bytes;
@@ -15,6 +16,11 @@ impl BorshSerialize for bool {
     #[inline]
     fn put(&self, room: &mut [u8]) -> Option<usize> {
         put_bytes(&[u8::from(*self)], room)
+    }
+
+    #[inline]
+    fn encoded_length(&self) -> Option<u32> {
+        bytes_length(&[u8::from(*self)])
     }
 }
 
@@ -37,6 +43,14 @@ impl<T: BorshSerialize> BorshSerialize for Option<T> {
             Some(value) => put_tagged(1, value, room),
         }
     }
+
+    #[inline]
+    fn encoded_length(&self) -> Option<u32> {
+        match self {
+            None => bytes_length(&[0]),
+            Some(value) => tagged_length(1, value),
+        }
+    }
 }
 
 impl<T: BorshSerialize, E: BorshSerialize> BorshSerialize for std::result::Result<T, E> {
@@ -53,6 +67,14 @@ impl<T: BorshSerialize, E: BorshSerialize> BorshSerialize for std::result::Resul
         match self {
             Err(error) => put_tagged(0, error, room),
             Ok(value) => put_tagged(1, value, room),
+        }
+    }
+
+    #[inline]
+    fn encoded_length(&self) -> Option<u32> {
+        match self {
+            Err(error) => tagged_length(0, error),
+            Ok(value) => tagged_length(1, value),
         }
     }
 }

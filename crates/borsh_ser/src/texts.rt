@@ -1,7 +1,8 @@
 // Texts: a count of four bytes and the bytes of the characters, in UTF-8.
 ghost use Rattle.borsh_codec.specs.Types.Texts.{text};
-ghost use Rattle.borsh_codec.specs.Writing.{Puts, Writes};
+ghost use Rattle.borsh_codec.specs.Writing.{Puts, TellsLength, Writes};
 
+use super::lengths::counted_length;
 use super::lists::write_counted;
 use super::puts::put_counted;
 use super::serialize::BorshSerialize;
@@ -30,6 +31,15 @@ pub(crate) fn put_text(string: &str, room: &mut [u8]) -> Option<usize>
     put_counted(string.as_bytes(), room)
 }
 
+/// The length of the count of bytes and the bytes.
+#[inline]
+#[tactic(auto, using(borsh_codec::proofs::LengthSteps::tells_is, borsh_codec::proofs::TextBytes::text_encoding))]
+pub(crate) fn text_length(string: &str) -> Option<u32>
+    ensures { TellsLength (text.encoding string.now) result }
+{
+    counted_length(string.as_bytes())
+}
+
 impl BorshSerialize for String {
     #[inline]
     fn serialize<W: Write>(&self, alloc: Global, writer: &mut W) -> Result<()> {
@@ -39,6 +49,11 @@ impl BorshSerialize for String {
     #[inline]
     fn put(&self, room: &mut [u8]) -> Option<usize> {
         put_text(self.as_str(), room)
+    }
+
+    #[inline]
+    fn encoded_length(&self) -> Option<u32> {
+        text_length(self.as_str())
     }
 }
 
@@ -52,6 +67,11 @@ impl BorshSerialize for &str {
     fn put(&self, room: &mut [u8]) -> Option<usize> {
         put_text(*self, room)
     }
+
+    #[inline]
+    fn encoded_length(&self) -> Option<u32> {
+        text_length(*self)
+    }
 }
 
 impl BorshSerialize for BoxedStr {
@@ -63,6 +83,11 @@ impl BorshSerialize for BoxedStr {
     #[inline]
     fn put(&self, room: &mut [u8]) -> Option<usize> {
         put_text(self.as_str(), room)
+    }
+
+    #[inline]
+    fn encoded_length(&self) -> Option<u32> {
+        text_length(self.as_str())
     }
 }
 
@@ -76,6 +101,11 @@ impl BorshSerialize for RcStr {
     fn put(&self, room: &mut [u8]) -> Option<usize> {
         put_text(self.as_str(), room)
     }
+
+    #[inline]
+    fn encoded_length(&self) -> Option<u32> {
+        text_length(self.as_str())
+    }
 }
 
 impl BorshSerialize for ArcStr {
@@ -88,6 +118,11 @@ impl BorshSerialize for ArcStr {
     fn put(&self, room: &mut [u8]) -> Option<usize> {
         put_text(self.as_str(), room)
     }
+
+    #[inline]
+    fn encoded_length(&self) -> Option<u32> {
+        text_length(self.as_str())
+    }
 }
 
 impl BorshSerialize for CowStr<'_> {
@@ -99,5 +134,10 @@ impl BorshSerialize for CowStr<'_> {
     #[inline]
     fn put(&self, room: &mut [u8]) -> Option<usize> {
         put_text(self.as_str(), room)
+    }
+
+    #[inline]
+    fn encoded_length(&self) -> Option<u32> {
+        text_length(self.as_str())
     }
 }

@@ -1,4 +1,5 @@
 // Tuples of one to twelve places: their parts in order.
+use super::lengths::joined_length;
 use super::parts::{
     write_eight, write_eleven, write_five, write_four, write_nine, write_seven, write_six,
     write_ten, write_three, write_twelve, write_two,
@@ -21,6 +22,11 @@ impl<A: BorshSerialize> BorshSerialize for (A,) {
     fn put(&self, room: &mut [u8]) -> Option<usize> {
         self.0.put(room)
     }
+
+    #[inline]
+    fn encoded_length(&self) -> Option<u32> {
+        self.0.encoded_length()
+    }
 }
 
 impl<A: BorshSerialize, B: BorshSerialize> BorshSerialize for (A, B) {
@@ -32,6 +38,11 @@ impl<A: BorshSerialize, B: BorshSerialize> BorshSerialize for (A, B) {
     #[inline]
     fn put(&self, room: &mut [u8]) -> Option<usize> {
         put_two(&self.0, &self.1, room)
+    }
+
+    #[inline]
+    fn encoded_length(&self) -> Option<u32> {
+        joined_length(self.0.encoded_length(), self.1.encoded_length())
     }
 }
 
@@ -45,6 +56,12 @@ impl<A: BorshSerialize, B: BorshSerialize, C: BorshSerialize> BorshSerialize for
     fn put(&self, room: &mut [u8]) -> Option<usize> {
         put_three(&self.0, &self.1, &self.2, room)
     }
+
+    #[inline]
+    fn encoded_length(&self) -> Option<u32> {
+        let rest = joined_length(self.1.encoded_length(), self.2.encoded_length());
+        joined_length(self.0.encoded_length(), rest)
+    }
 }
 
 impl<A: BorshSerialize, B: BorshSerialize, C: BorshSerialize, D: BorshSerialize> BorshSerialize
@@ -57,6 +74,13 @@ impl<A: BorshSerialize, B: BorshSerialize, C: BorshSerialize, D: BorshSerialize>
     #[inline]
     fn put(&self, room: &mut [u8]) -> Option<usize> {
         put_four(&self.0, &self.1, &self.2, &self.3, room)
+    }
+
+    #[inline]
+    fn encoded_length(&self) -> Option<u32> {
+        let rest = joined_length(self.2.encoded_length(), self.3.encoded_length());
+        let rest = joined_length(self.1.encoded_length(), rest);
+        joined_length(self.0.encoded_length(), rest)
     }
 }
 
@@ -75,6 +99,14 @@ impl<
     #[inline]
     fn put(&self, room: &mut [u8]) -> Option<usize> {
         put_five(&self.0, &self.1, &self.2, &self.3, &self.4, room)
+    }
+
+    #[inline]
+    fn encoded_length(&self) -> Option<u32> {
+        let rest = joined_length(self.3.encoded_length(), self.4.encoded_length());
+        let rest = joined_length(self.2.encoded_length(), rest);
+        let rest = joined_length(self.1.encoded_length(), rest);
+        joined_length(self.0.encoded_length(), rest)
     }
 }
 
@@ -96,6 +128,15 @@ impl<
     #[inline]
     fn put(&self, room: &mut [u8]) -> Option<usize> {
         put_six(&self.0, &self.1, &self.2, &self.3, &self.4, &self.5, room)
+    }
+
+    #[inline]
+    fn encoded_length(&self) -> Option<u32> {
+        let rest = joined_length(self.4.encoded_length(), self.5.encoded_length());
+        let rest = joined_length(self.3.encoded_length(), rest);
+        let rest = joined_length(self.2.encoded_length(), rest);
+        let rest = joined_length(self.1.encoded_length(), rest);
+        joined_length(self.0.encoded_length(), rest)
     }
 }
 
@@ -121,6 +162,16 @@ impl<
             &self.0, &self.1, &self.2, &self.3, &self.4, &self.5, &self.6, room,
         )
     }
+
+    #[inline]
+    fn encoded_length(&self) -> Option<u32> {
+        let rest = joined_length(self.5.encoded_length(), self.6.encoded_length());
+        let rest = joined_length(self.4.encoded_length(), rest);
+        let rest = joined_length(self.3.encoded_length(), rest);
+        let rest = joined_length(self.2.encoded_length(), rest);
+        let rest = joined_length(self.1.encoded_length(), rest);
+        joined_length(self.0.encoded_length(), rest)
+    }
 }
 
 impl<
@@ -145,6 +196,17 @@ impl<
         put_eight(
             &self.0, &self.1, &self.2, &self.3, &self.4, &self.5, &self.6, &self.7, room,
         )
+    }
+
+    #[inline]
+    fn encoded_length(&self) -> Option<u32> {
+        let rest = joined_length(self.6.encoded_length(), self.7.encoded_length());
+        let rest = joined_length(self.5.encoded_length(), rest);
+        let rest = joined_length(self.4.encoded_length(), rest);
+        let rest = joined_length(self.3.encoded_length(), rest);
+        let rest = joined_length(self.2.encoded_length(), rest);
+        let rest = joined_length(self.1.encoded_length(), rest);
+        joined_length(self.0.encoded_length(), rest)
     }
 }
 
@@ -172,6 +234,18 @@ impl<
         put_nine(
             &self.0, &self.1, &self.2, &self.3, &self.4, &self.5, &self.6, &self.7, &self.8, room,
         )
+    }
+
+    #[inline]
+    fn encoded_length(&self) -> Option<u32> {
+        let rest = joined_length(self.7.encoded_length(), self.8.encoded_length());
+        let rest = joined_length(self.6.encoded_length(), rest);
+        let rest = joined_length(self.5.encoded_length(), rest);
+        let rest = joined_length(self.4.encoded_length(), rest);
+        let rest = joined_length(self.3.encoded_length(), rest);
+        let rest = joined_length(self.2.encoded_length(), rest);
+        let rest = joined_length(self.1.encoded_length(), rest);
+        joined_length(self.0.encoded_length(), rest)
     }
 }
 
@@ -201,6 +275,19 @@ impl<
             &self.0, &self.1, &self.2, &self.3, &self.4, &self.5, &self.6, &self.7, &self.8,
             &self.9, room,
         )
+    }
+
+    #[inline]
+    fn encoded_length(&self) -> Option<u32> {
+        let rest = joined_length(self.8.encoded_length(), self.9.encoded_length());
+        let rest = joined_length(self.7.encoded_length(), rest);
+        let rest = joined_length(self.6.encoded_length(), rest);
+        let rest = joined_length(self.5.encoded_length(), rest);
+        let rest = joined_length(self.4.encoded_length(), rest);
+        let rest = joined_length(self.3.encoded_length(), rest);
+        let rest = joined_length(self.2.encoded_length(), rest);
+        let rest = joined_length(self.1.encoded_length(), rest);
+        joined_length(self.0.encoded_length(), rest)
     }
 }
 
@@ -232,6 +319,20 @@ impl<
             &self.9, &self.10, room,
         )
     }
+
+    #[inline]
+    fn encoded_length(&self) -> Option<u32> {
+        let rest = joined_length(self.9.encoded_length(), self.10.encoded_length());
+        let rest = joined_length(self.8.encoded_length(), rest);
+        let rest = joined_length(self.7.encoded_length(), rest);
+        let rest = joined_length(self.6.encoded_length(), rest);
+        let rest = joined_length(self.5.encoded_length(), rest);
+        let rest = joined_length(self.4.encoded_length(), rest);
+        let rest = joined_length(self.3.encoded_length(), rest);
+        let rest = joined_length(self.2.encoded_length(), rest);
+        let rest = joined_length(self.1.encoded_length(), rest);
+        joined_length(self.0.encoded_length(), rest)
+    }
 }
 
 impl<
@@ -262,5 +363,20 @@ impl<
             &self.0, &self.1, &self.2, &self.3, &self.4, &self.5, &self.6, &self.7, &self.8,
             &self.9, &self.10, &self.11, room,
         )
+    }
+
+    #[inline]
+    fn encoded_length(&self) -> Option<u32> {
+        let rest = joined_length(self.10.encoded_length(), self.11.encoded_length());
+        let rest = joined_length(self.9.encoded_length(), rest);
+        let rest = joined_length(self.8.encoded_length(), rest);
+        let rest = joined_length(self.7.encoded_length(), rest);
+        let rest = joined_length(self.6.encoded_length(), rest);
+        let rest = joined_length(self.5.encoded_length(), rest);
+        let rest = joined_length(self.4.encoded_length(), rest);
+        let rest = joined_length(self.3.encoded_length(), rest);
+        let rest = joined_length(self.2.encoded_length(), rest);
+        let rest = joined_length(self.1.encoded_length(), rest);
+        joined_length(self.0.encoded_length(), rest)
     }
 }

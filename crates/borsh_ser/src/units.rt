@@ -15,6 +15,11 @@ impl BorshSerialize for () {
     fn put(&self, _room: &mut [u8]) -> Option<usize> {
         Some(0)
     }
+
+    #[inline]
+    fn encoded_length(&self) -> Option<u32> {
+        Some(0)
+    }
 }
 
 impl BorshSerialize for RangeFull {
@@ -27,6 +32,11 @@ impl BorshSerialize for RangeFull {
     fn put(&self, _room: &mut [u8]) -> Option<usize> {
         Some(0)
     }
+
+    #[inline]
+    fn encoded_length(&self) -> Option<u32> {
+        Some(0)
+    }
 }
 
 impl<T> BorshSerialize for PhantomData<T> {
@@ -37,6 +47,11 @@ impl<T> BorshSerialize for PhantomData<T> {
 
     #[inline]
     fn put(&self, _room: &mut [u8]) -> Option<usize> {
+        Some(0)
+    }
+
+    #[inline]
+    fn encoded_length(&self) -> Option<u32> {
         Some(0)
     }
 }

@@ -14,16 +14,16 @@ use Rattle.borsh_definitions.specs.Codecs.{root_and_map}
 use Rattle.borsh_definitions.proofs.Laws.Own.{root_and_map-lawful}
 use Rattle.borsh_schema.specs.Codecs.{container}
 use Rattle.borsh_schema.specs.declared.container.BorshSchemaContainer.{BorshSchemaContainer}
+use Rattle.borsh_plan.specs.Plan.{IsPlanOf, definitions_of, map_of, root_of}
 use Rattle.borsh_json.specs.declared.error.JsonError.{JsonError}
 use Rattle.borsh_json.specs.Errors.{IsNoRowsReason}
 use Rattle.borsh_json.specs.Rows.{IsNoRow}
-use Rattle.borsh_values.specs.declared.layout.Layout.{Layout}
+use Rattle.borsh_plan.specs.declared.plan.Plan.{Plan}
 use Rattle.borsh_walks.specs.Container.{Member}
-use Rattle.borsh_walks.specs.Definitions.{definitions_in}
 use Rattle.borsh_json.specs.declared.error.JsonError.TheVariants.{OutOfMemory as NoMemory}
 use Rattle.borsh_walks.specs.declared.definition.Definition.{Definition}
 use Rattle.borsh_tool_commands.specs.declared.failure.Failure.{Failure}
-use Rattle.borsh_tool_commands.specs.declared.failure.Failure.TheVariants.{NoCommand, Unreadable, NotHexadecimal, NotContainer, NotValue, NotText, TwoInputs, RawOnTerminal, Unwritable, Unread, Unwritten, LongLine, OutOfMemory}
+use Rattle.borsh_tool_commands.specs.declared.failure.Failure.TheVariants.{NoCommand, Unreadable, NotHexadecimal, NotContainer, NotValue, NotText, TwoInputs, RawOnTerminal, WrongUse, Unread, Unwritten, LongLine, NotType, OutOfMemory}
 use Rattle.borsh_tool_commands.specs.Failures.{BeginsWithContainer, IsFailure, IsNoMemory}
 use Rattle.borsh_tool_commands.specs.Json.{HasReason}
 use Rattle.borsh_tool_commands.specs.declared.values.Schema.{Schema}
@@ -39,39 +39,17 @@ led path f g h (NotValue p t) k = (k.0, g k.1)
 led path f g h (NotText p) k = (k.0, h k.1)
 led path f g h TwoInputs k = absurd k
 led path f g h RawOnTerminal k = absurd k
-led path f g h (Unwritable e) k = absurd k
+led path f g h (WrongUse e) k = absurd k
 led path f g h (Unread p e) k = absurd k
 led path f g h (Unwritten e) k = absurd k
 led path f g h (LongLine p) k = absurd k
+led path f g h (NotType p text) k = absurd k
 led path f g h OutOfMemory k = tt
 
 -- the same of what a call returns
 pub led_result : {A : Type 0} (path : List ℕ) {a b c x y z : Type 0} → (a → x) → (b → y) → (c → z) → (r : Result A Failure) → IfErr r (IsFailure path a b c) → IfErr r (IsFailure path x y z)
 led_result path f g h (Ok v) k = tt
 led_result path f g h (Err e) k = led path f g h e k
-
--- a failure none of whose facts holds is a failed allocation
-pub only_memory : (path : List ℕ) {a b c : Type 0} → (a → ⊥) → (b → ⊥) → (c → ⊥) → (f : Failure) → IsFailure path a b c f → IsNoMemory f
-only_memory path f g h NoCommand k = absurd k
-only_memory path f g h (Unreadable p e) k = absurd k
-only_memory path f g h (NotHexadecimal p e) k = absurd k
-only_memory path f g h (NotContainer p e) k = absurd (f k.1)
-only_memory path f g h (NotValue p t) k = absurd (g k.1)
-only_memory path f g h (NotText p) k = absurd (h k.1)
-only_memory path f g h TwoInputs k = absurd k
-only_memory path f g h RawOnTerminal k = absurd k
-only_memory path f g h (Unwritable e) k = absurd k
-only_memory path f g h (Unread p e) k = absurd k
-only_memory path f g h (Unwritten e) k = absurd k
-only_memory path f g h (LongLine p) k = absurd k
-only_memory path f g h OutOfMemory k = tt
-
--- the bytes are those of a container, so a call that reads one from them fails only by an allocation
-pub own_read : {A : Type 0} (path : List ℕ) (c : BorshSchemaContainer) (bytes given : List ℕ) → container.encoding c ≡ Some bytes → given ≡ bytes → (r : Result A Failure) → IfErr r (IsFailure path (IsContainer given → ⊥) ⊥ ⊥) → IfErr r IsNoMemory
-own_read path c bytes given is same (Ok v) k = tt
-own_read path c bytes given is same (Err e) k =
-    let s : Schema = record { root = c.declaration; definitions = c.definitions } in
-    only_memory path (λ none. none (s, subst (λ (x : List ℕ). container.encoding c ≡ Some x) (sym same) is)) (λ h. h) (λ h. h) e k
 
 -- an error of `borsh_json`, of the name of the root
 pub reasoned : (Reason : List ℕ → JsonError → Type 0) {root name : List ℕ} (e : JsonError) → root ≡ name → Reason root e → (e ≡ NoMemory → ⊥) → HasReason (Reason name)
@@ -103,10 +81,10 @@ not_in_front bytes left kind (reader_failed r n) other is = absurd (no_fault r)
 pub none_in_front : (bytes left : List ℕ) (kind : ErrorKind) → NotDecoded (String Global × BTreeMap (String Global) Definition) root_and_map (slice_state bytes) (slice_state left) kind → (kind ≡ NoRoom → ⊥) → BeginsWithContainer bytes → ⊥
 none_in_front bytes left kind n other is = not_in_front bytes left kind n.refused.why other is
 
--- why a member has no next row, by the layout for which it has some
-pub no_row : (l m : Layout) (bytes : List ℕ) (e : JsonError) → m ≡ l → IsNoRow m e → Member (definitions_in l.map.now) l.root.now bytes → IsNoRowsReason (definitions_in l.map.now) l.root.now bytes e
-no_row l m bytes e same n is = subst (λ (m : Layout). IsNoRow m e) same n bytes is
+-- why a member has no next row, by the plan for which it has some
+pub no_row : (l m : Plan) (bytes : List ℕ) (e : JsonError) → m ≡ l → IsNoRow m e → Member (definitions_of l) (root_of l) bytes → IsNoRowsReason (definitions_of l) (root_of l) bytes e
+no_row l m bytes e same n is = subst (λ (m : Plan). IsNoRow m e) same n bytes is
 
--- what holds by a layout that was made of a name and a map
-pub by_layout : (P : List ℕ → BTreeMap (String Global) Definition → Type 0) (l : Layout) (root : Bor (List ℕ)) (map : Bor (BTreeMap (String Global) Definition)) {name : List ℕ} → l.root ≡ root → l.map ≡ map → root.now ≡ name → P l.root.now l.map.now → P name map.now
-by_layout P l root map f g e p = subst (λ x. P x map.now) e (subst (λ (m : Bor (BTreeMap (String Global) Definition)). P root.now m.now) g (subst (λ (r : Bor (List ℕ)). P r.now l.map.now) f p))
+-- what holds by a plan that was made of a name and a map
+pub by_plan : (P : List ℕ → BTreeMap (String Global) Definition → Type 0) (l : Plan) {root name : List ℕ} {map : BTreeMap (String Global) Definition} → IsPlanOf map root l → root ≡ name → P (root_of l) (map_of l) → P name map
+by_plan P l {root = root} {map = map} h e p = subst (λ x. P x map) e (subst (λ (m : BTreeMap (String Global) Definition). P root m) h.map (subst (λ r. P r (map_of l)) h.root p))

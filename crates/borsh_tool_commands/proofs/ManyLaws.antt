@@ -1,25 +1,36 @@
 -- What is written for many values.
 use Rattle.std.proofs.Common.{◌≡◌, ℕ, ◌+◌, inl, inr, true, false, List, [], ◌∷◌, ◌++◌, length, Option, None, Some, IfSome, Result, Ok, Err, refl, sym, ◌∙◌, ap, subst, append_assoc, append-nil}
-use Rattle.std.specs.Prelude.{Bool, OnOk, codes}
+use Rattle.std.specs.Prelude.{Bool, IfErr, IfOk, OnOk, codes}
 use Rattle.std.specs.Io.KnownBytes.{Consumes, IsAtEnd}
+use Rattle.std.proofs.KnownBytes.{Consumes-nil}
+use Rattle.borsh_io.specs.declared.error.Error.{Error}
+use Rattle.borsh_tool_commands.proofs.StopLaws.{stop-led, stops-unwritten, uncounted}
 use Rattle.std.proofs.lemmas.List.{length_push}
 use Rattle.borsh_io.specs.Sink.{WriterModel, WriterLaws}
 use Rattle.borsh_io.specs.Stream.{ReaderState}
 use Rattle.borsh_walks.specs.Container.{Shape}
 use Rattle.borsh_values.specs.Fronts.{HasNoFront}
 use Rattle.borsh_values.specs.Next.{IsFirst}
-use Rattle.borsh_values.specs.Records.{Advances, ahead, source_of, value_of}
+use Rattle.borsh_values.specs.Records.{Advances, IsRecordError, IsUnread, ahead, source_of, value_of}
 use Rattle.borsh_values.specs.declared.faults.Fault.{Fault}
-use Rattle.borsh_values.specs.declared.layout.Layout.{Layout}
+use Rattle.borsh_plan.specs.declared.plan.Plan.{Plan}
 use Rattle.borsh_values.specs.declared.records.Records.{Records}
-use Rattle.borsh_values.specs.declared.records.RecordError.TheVariants.{NoMember, CutShort}
+use Rattle.borsh_values.specs.declared.records.RecordError.{RecordError}
+use Rattle.borsh_values.specs.declared.records.RecordError.TheVariants.{NoMember, CutShort, TooLong, EmptyValue, Ambiguous, Reader, OutOfMemory as NoRecordMemory}
 use Rattle.borsh_tool_commands.specs.declared.command.Action.{Action}
 use Rattle.borsh_tool_commands.specs.declared.command.Action.TheVariants.{Decode, Encode, Member as AskMember, Show}
 use Rattle.borsh_tool_commands.specs.declared.command.Form.{Form}
 use Rattle.borsh_tool_commands.specs.declared.command.Form.TheVariants.{Records as AsRecords, Lines as AsLines}
 use Rattle.borsh_tool_commands.specs.declared.failure.Failure.{Failure}
+use Rattle.borsh_tool_commands.specs.declared.failure.Failure.TheVariants.{NoCommand, Unreadable, NotHexadecimal, NotContainer, NotValue, NotText, TwoInputs, RawOnTerminal, WrongUse, Unread, Unwritten, LongLine, NotType, OutOfMemory}
+use Rattle.borsh_tool_commands.specs.declared.many.Wanted.{Wanted}
+use Rattle.borsh_tool_commands.specs.Failures.{IsStop}
+use Rattle.borsh_tool_commands.specs.Lines.{IsFirstLine}
+use Rattle.borsh_plan.specs.Plan.{definitions_of, root_of}
 use Rattle.borsh_tool_commands.specs.Answers.{line_of}
-use Rattle.borsh_tool_commands.specs.Many.{AnswersEach, AnswersMany, AreAnswers, BeginWith, BeginsNone, IsCount, IsUnwritten, IsWriteFailure, Flushes, Writes, count_text}
+use Rattle.borsh_tool_commands.specs.Many.{AnswersEach, AnswersMany, AreAnswers, BeginWith, BeginsNone, FailsBy, IsCount, IsEnded, IsUncounted, IsUnwritten, IsWriteFailure, Flushes, LongNext, NoneNext, HasNoAnswer, StopsAtLine, StopsAtValue, Writes, count_text, most_bytes, rest_of}
+use Rattle.borsh_tool_commands.specs.Printed.{printed}
+use Rattle.borsh_tool_commands.specs.declared.answers.Answer.{Answer}
 use Rattle.borsh_tool_commands.specs.Many.IsCount.{counted, stopped}
 
 answers-more : (P : List ℕ → List ℕ → Type 0) (vs : List (List ℕ)) (out v text : List ℕ) → AreAnswers P vs out → P v text → AreAnswers P (vs ++ (v ∷ [])) (out ++ text)
@@ -110,10 +121,11 @@ module _ (F : List ℕ → List ℕ → List ℕ → Type 0) where
   ahead-ends (Some xs) None ahead ps i e h = absurd i
   ahead-ends (Some xs) (Some ys) ahead ps i e h = subst (BeginWith F ps xs) (ap (λ l. l ++ ys) e ∙ h) i
 
-  pub ahead-left : (bytes now : Option (List ℕ)) (ahead : List ℕ) (ps : List (List ℕ)) → IsAhead F bytes now ahead ps → (left : List ℕ) × IfSome bytes (λ xs. BeginWith F ps xs left)
-  ahead-left None now ahead ps i = ([], tt)
-  ahead-left (Some xs) None ahead ps i = absurd i
-  ahead-left (Some xs) (Some ys) ahead ps i = (ahead ++ ys, i)
+-- what is left is what is ahead, and what the reader has left
+pub left-of : (F : List ℕ → List ℕ → List ℕ → Type 0) (bytes now : Option (List ℕ)) (ahead : List ℕ) (ps : List (List ℕ)) → IsAhead F bytes now ahead ps → IfSome bytes (λ xs. BeginWith F ps xs (ahead ++ rest_of now))
+left-of F None now ahead ps i = tt
+left-of F (Some xs) None ahead ps i = absurd i
+left-of F (Some xs) (Some ys) ahead ps i = i
 
 -- ---- one answer after another
 
@@ -157,39 +169,110 @@ module _ {W : Type 0} {w : WriterModel W} (laws : WriterLaws W w) (F : List ℕ 
     taken = ahead-taken F bytes new (ahead ++ read) left p s.pieces (ahead-read F bytes now new ahead read s.pieces s.taken c) f;
   }
 
-  -- the run stops by a failure, after a flush or none
-  pub stops : {A : Type 0} {now : Option (List ℕ)} {ahead : List ℕ} {a b c : W} {made kept : List ℕ} (r : Result A Failure) (x : Failure) → SoFar F P w bytes now ahead a b made → Flushes w b c made kept r → (IsUnwritten r → IsWriteFailure x)
-      → Writes (AnswersEach F P bytes) w a c kept (Err x)
-  stops {now = now} {ahead = ahead} r x s f g =
-      let l = ahead-left F bytes now ahead s.pieces s.taken in
-      flushed laws (AnswersEach F P bytes) r (Err x) s.written s.wrote f (record { pieces = s.pieces; left = l.0; answers = s.answers; first = l.1; all = tt }) g
+module _ {W : Type 0} {w : WriterModel W} (laws : WriterLaws W w) (F : List ℕ → List ℕ → List ℕ → Type 0) (P : List ℕ → List ℕ → Type 0) (S : List ℕ → Failure → Type 0) (bytes : Option (List ℕ)) where
+  -- the run stops by a failure, after more was read and a flush or none
+  pub stops : {A : Type 0} {now : Option (List ℕ)} {ahead : List ℕ} {a b c : W} {made kept : List ℕ} (r : Result A Failure) (x : Failure) (new : Option (List ℕ)) (read : List ℕ) → SoFar F P w bytes now ahead a b made → Consumes now new read → Flushes w b c made kept r
+      → (IsUnwritten r → IsWriteFailure x) → S ((ahead ++ read) ++ rest_of new) x → Writes (AnswersEach F P S bytes) w a c kept (Err x)
+  stops {now = now} {ahead = ahead} r x new read s t f g h =
+      flushed laws (AnswersEach F P S bytes) r (Err x) s.written s.wrote f (record {
+        pieces = s.pieces;
+        left = (ahead ++ read) ++ rest_of new;
+        answers = s.answers;
+        first = left-of F bytes new (ahead ++ read) s.pieces (ahead-read F bytes now new ahead read s.pieces s.taken t);
+        all = tt;
+        stops = h;
+      }) g
+
+  -- for a reason that needs no bytes
+  pub stops-anyhow : {A : Type 0} {now : Option (List ℕ)} {ahead : List ℕ} {a b c : W} {made kept : List ℕ} (r : Result A Failure) (x : Failure) → SoFar F P w bytes now ahead a b made → Flushes w b c made kept r → (IsUnwritten r → IsWriteFailure x) → ((left : List ℕ) → S left x)
+      → Writes (AnswersEach F P S bytes) w a c kept (Err x)
+  stops-anyhow {now = now} {ahead = ahead} r x s f g h = stops r x now [] s (Consumes-nil now) f g (h ((ahead ++ []) ++ rest_of now))
 
   -- nothing was read or made
-  pub stops-first : (a : W) (made : List ℕ) (x : Failure) → made ≡ [] → Writes (AnswersEach F P bytes) w a a made (Err x)
-  stops-first a made x e = subst (λ m. Writes (AnswersEach F P bytes) w a a m (Err x)) (sym e) (stops {A = Bool} (Err x) x (begins a) (not-flushed laws a {made = []} {after = []} (Err x) refl) (λ u. u))
+  pub stops-first : (a : W) (made : List ℕ) (x : Failure) → made ≡ [] → ((left : List ℕ) → S left x) → Writes (AnswersEach F P S bytes) w a a made (Err x)
+  stops-first a made x e h = subst (λ m. Writes (AnswersEach F P S bytes) w a a m (Err x)) (sym e) (stops-anyhow {A = Bool} (Err x) x (begins laws F P bytes a) (not-flushed laws a {made = []} {after = []} (Err x) refl) (λ u. u) h)
 
   -- all is answered
   pub ends : {A : Type 0} {now : Option (List ℕ)} {ahead : List ℕ} {a b c : W} {made kept : List ℕ} (v : A) (new : Option (List ℕ)) (read : List ℕ) → SoFar F P w bytes now ahead a b made → Consumes now new read → ahead ++ read ≡ [] → IsAtEnd new → Flushes w b c made kept (Ok v)
-      → Writes (AnswersEach F P bytes) w a c kept (Ok true)
+      → Writes (AnswersEach F P S bytes) w a c kept (Ok true)
   ends {now = now} {ahead = ahead} v new read s c e h f =
       let first = ahead-ends F bytes new (ahead ++ read) s.pieces (ahead-read F bytes now new ahead read s.pieces s.taken c) e h in
-      flushed laws (AnswersEach F P bytes) (Ok v) (Ok true) s.written s.wrote f (record { pieces = s.pieces; left = []; answers = s.answers; first = first; all = (refl, refl) }) (λ u. u)
+      flushed laws (AnswersEach F P S bytes) (Ok v) (Ok true) s.written s.wrote f (record { pieces = s.pieces; left = []; answers = s.answers; first = first; all = (refl, refl); stops = tt }) (λ u. u)
+
+-- a further reason to stop, of which there is none
+pub other-root : {F : List ℕ → List ℕ → List ℕ → Type 0} {P : List ℕ → List ℕ → Type 0} (unread : Error → Type 0) (path : List ℕ) (l : Plan) (wanted : Wanted) (lenient : Bool) (other : Type 0) (bytes : Option (List ℕ)) (out : List ℕ) (r : Result Bool Failure)
+    → AnswersEach F P (StopsAtLine unread path l wanted lenient ⊥ bytes) bytes out r → AnswersEach F P (StopsAtLine unread path l wanted lenient other bytes) bytes out r
+other-root unread path l wanted lenient other bytes out (Ok v) h = record { pieces = h.pieces; left = h.left; answers = h.answers; first = h.first; all = h.all; stops = tt }
+other-root unread path l wanted lenient other bytes out (Err x) h = record { pieces = h.pieces; left = h.left; answers = h.answers; first = h.first; all = tt; stops = stop-led path (λ e u. u) (λ s. elim s [ inl n ↦ absurd n | inr y ↦ inr y ]) (λ u. u) x h.stops }
+
+-- the line that was taken is the first one, where the bytes are known
+known-line : (bytes after : Option (List ℕ)) (ahead p left : List ℕ) (ps : List (List ℕ)) → IsAhead IsFirstLine bytes after ahead ps → ((more : List ℕ) → after ≡ Some more → IsFirstLine p (ahead ++ more) (left ++ more)) → IfSome bytes (λ _. IsFirstLine p (ahead ++ rest_of after) (left ++ rest_of after))
+known-line None after ahead p left ps i f = tt
+known-line (Some xs) None ahead p left ps i f = absurd i
+known-line (Some xs) (Some ys) ahead p left ps i f = f ys refl
+
+-- ---- no next line, and no next value
+
+module _ {W : Type 0} {w : WriterModel W} (laws : WriterLaws W w) (P : List ℕ → List ℕ → Type 0) (unread : Error → Type 0) (path : List ℕ) (l : Plan) (bytes : Option (List ℕ)) (before after : ReaderState) {ahead : List ℕ} where
+  module _ (wanted : Wanted) (lenient : Bool) (other : Type 0) where
+    pub line-stops : {A : Type 0} {a b c : W} {made kept : List ℕ} (r : Result A Failure) (x : Failure) → SoFar IsFirstLine P w bytes before.bytes ahead a b made → IsStop path unread ⊥ (LongNext before after ahead) x → Flushes w b c made kept r → (IsUnwritten r → IsWriteFailure x)
+        → Writes (AnswersEach IsFirstLine P (StopsAtLine unread path l wanted lenient other bytes) bytes) w a c kept (Err x)
+    line-stops r NoCommand s h f g = absurd h
+    line-stops r (Unreadable p e) s h f g = absurd h
+    line-stops r (NotHexadecimal p e) s h f g = absurd h
+    line-stops r (NotContainer p e) s h f g = absurd h
+    line-stops r (NotValue p t) s h f g = absurd h.1
+    line-stops r (NotText p) s h f g = absurd h
+    line-stops r TwoInputs s h f g = absurd h
+    line-stops r RawOnTerminal s h f g = absurd h
+    line-stops r (WrongUse e) s h f g = absurd h
+    line-stops r (Unread p e) s h f g = stops-anyhow laws IsFirstLine P (StopsAtLine unread path l wanted lenient other bytes) bytes r (Unread p e) s f g (λ left. h)
+    line-stops r (Unwritten e) s h f g = stops-anyhow laws IsFirstLine P (StopsAtLine unread path l wanted lenient other bytes) bytes r (Unwritten e) s f g (λ left. tt)
+    line-stops r (LongLine p) s h f g = stops laws IsFirstLine P (StopsAtLine unread path l wanted lenient other bytes) bytes r (LongLine p) after.bytes h.1.read s h.1.taken f g (h.0, h.1.long)
+    line-stops r (NotType p t) s h f g = absurd h
+    line-stops r OutOfMemory s h f g = stops-anyhow laws IsFirstLine P (StopsAtLine unread path l wanted lenient other bytes) bytes r OutOfMemory s f g (λ left. tt)
+
+    -- the first line has no answer
+    pub first-line-stops : {A : Type 0} {a b c : W} {made kept : List ℕ} (r : Result A Failure) (x : Failure) (p left read : List ℕ) → SoFar IsFirstLine P w bytes before.bytes ahead a b made → Consumes before.bytes after.bytes read
+        → ((more : List ℕ) → after.bytes ≡ Some more → IsFirstLine p ((ahead ++ read) ++ more) (left ++ more)) → IsStop path (λ _. ⊥) (HasNoAnswer l wanted lenient p) ⊥ x → Flushes w b c made kept r → (IsUnwritten r → IsWriteFailure x)
+        → Writes (AnswersEach IsFirstLine P (StopsAtLine unread path l wanted lenient other bytes) bytes) w a c kept (Err x)
+    first-line-stops r NoCommand p left read s t f k h g = absurd k
+    first-line-stops r (Unreadable q e) p left read s t f k h g = absurd k
+    first-line-stops r (NotHexadecimal q e) p left read s t f k h g = absurd k
+    first-line-stops r (NotContainer q e) p left read s t f k h g = absurd k
+    first-line-stops r (NotValue q y) p left read s t f k h g = stops laws IsFirstLine P (StopsAtLine unread path l wanted lenient other bytes) bytes r (NotValue q y) after.bytes read s t h g (k.0, inr (p, left ++ rest_of after.bytes, known-line bytes after.bytes (ahead ++ read) p left s.pieces (ahead-read IsFirstLine bytes before.bytes after.bytes ahead read s.pieces s.taken t) f, k.1))
+    first-line-stops r (NotText q) p left read s t f k h g = absurd k
+    first-line-stops r TwoInputs p left read s t f k h g = absurd k
+    first-line-stops r RawOnTerminal p left read s t f k h g = absurd k
+    first-line-stops r (WrongUse e) p left read s t f k h g = absurd k
+    first-line-stops r (Unread q e) p left read s t f k h g = absurd k.1
+    first-line-stops r (Unwritten e) p left read s t f k h g = stops-anyhow laws IsFirstLine P (StopsAtLine unread path l wanted lenient other bytes) bytes r (Unwritten e) s h g (λ left. tt)
+    first-line-stops r (LongLine q) p left read s t f k h g = absurd k.1
+    first-line-stops r (NotType q y) p left read s t f k h g = absurd k
+    first-line-stops r OutOfMemory p left read s t f k h g = stops-anyhow laws IsFirstLine P (StopsAtLine unread path l wanted lenient other bytes) bytes r OutOfMemory s h g (λ left. tt)
+
+  pub value-stops : {A : Type 0} {a b c : W} {made kept : List ℕ} (r : Result A Failure) (x : Failure) → SoFar (IsFirst (definitions_of l) (root_of l)) P w bytes before.bytes ahead a b made → IsStop path unread (NoneNext (definitions_of l) (root_of l) before after ahead) ⊥ x → Flushes w b c made kept r → (IsUnwritten r → IsWriteFailure x)
+      → Writes (AnswersEach (IsFirst (definitions_of l) (root_of l)) P (StopsAtValue unread path l) bytes) w a c kept (Err x)
+  value-stops r NoCommand s h f g = absurd h
+  value-stops r (Unreadable p e) s h f g = absurd h
+  value-stops r (NotHexadecimal p e) s h f g = absurd h
+  value-stops r (NotContainer p e) s h f g = absurd h
+  value-stops r (NotValue p t) s h f g = stops laws (IsFirst (definitions_of l) (root_of l)) P (StopsAtValue unread path l) bytes r (NotValue p t) after.bytes h.1.read s h.1.taken f g (h.0, elim h.1.none [ inl b ↦ inl b | inr u ↦ inr (inl u) ])
+  value-stops r (NotText p) s h f g = absurd h
+  value-stops r TwoInputs s h f g = absurd h
+  value-stops r RawOnTerminal s h f g = absurd h
+  value-stops r (WrongUse e) s h f g = absurd h
+  value-stops r (Unread p e) s h f g = stops-anyhow laws (IsFirst (definitions_of l) (root_of l)) P (StopsAtValue unread path l) bytes r (Unread p e) s f g (λ left. h)
+  value-stops r (Unwritten e) s h f g = stops-anyhow laws (IsFirst (definitions_of l) (root_of l)) P (StopsAtValue unread path l) bytes r (Unwritten e) s f g (λ left. tt)
+  value-stops r (LongLine p) s h f g = absurd h.1
+  value-stops r (NotType p t) s h f g = absurd h
+  value-stops r OutOfMemory s h f g = stops-anyhow laws (IsFirst (definitions_of l) (root_of l)) P (StopsAtValue unread path l) bytes r OutOfMemory s f g (λ left. tt)
 
 -- ---- values counted
-
--- the bytes that a reader has left, if it knows them
-abbrev rest_of : Option (List ℕ) → List ℕ
-rest_of None = []
-rest_of (Some ys) = ys
 
 none-left : (now : Option (List ℕ)) → IsAtEnd now → rest_of now ≡ []
 none-left None h = refl
 none-left (Some ys) h = h
-
-left-of : (F : List ℕ → List ℕ → List ℕ → Type 0) (bytes now : Option (List ℕ)) (ahead : List ℕ) (ps : List (List ℕ)) → IsAhead F bytes now ahead ps → IfSome bytes (λ xs. BeginWith F ps xs (ahead ++ rest_of now))
-left-of F None now ahead ps i = tt
-left-of F (Some xs) None ahead ps i = absurd i
-left-of F (Some xs) (Some ys) ahead ps i = i
 
 module _ (C : List ℕ → Option Shape) (root : List ℕ) (bytes : Option (List ℕ)) where
   -- so many values were taken
@@ -244,16 +327,39 @@ module _ (C : List ℕ → Option Shape) (root : List ℕ) (bytes : Option (List
         stops-there now X (now-ahead a.read a.lost.bytes)
         (subst (BeginsNone C root) (sym (ap (λ l. X ++ l) (none-left now h.3) ∙ append-nil X)) (h.1.none, λ e. absurd (h.2 e))) t
 
+    -- the answer where the bytes stop being values
+    pub count-ended : (path : List ℕ) (e : RecordError) (r : Result Answer Failure) → Advances C root state old new (Err e) → IsEnded path e r → IfOk r (λ a. IsCount C root bytes a.is_yes (printed a.text))
+    count-ended path (NoMember o f) (Ok v) a h = count-none o f a (h.1, h.2)
+    count-ended path (CutShort o f) (Ok v) a h = count-short o f a (h.1, h.2)
+    count-ended path (TooLong o) (Ok v) a h = absurd h.0
+    count-ended path EmptyValue (Ok v) a h = absurd h.0
+    count-ended path (Ambiguous x) (Ok v) a h = absurd h.0
+    count-ended path (Reader e) (Ok v) a h = absurd h.0
+    count-ended path NoRecordMemory (Ok v) a h = absurd h.0
+    count-ended path e (Err x) a h = tt
+
+    -- and why there is none
+    pub count-fails : (path : List ℕ) (e : RecordError) (r : Result Answer Failure) → old.limit ≡ most_bytes → Advances C root state old new (Err e) → IsEnded path e r
+        → IfErr r (IsStop path (FailsBy state) ((values : List (List ℕ)) × (left : List ℕ) × IfSome bytes (λ xs. BeginWith (IsFirst C root) values xs left) × IsUncounted C root left) ⊥)
+    count-fails path e (Ok v) k a h = tt
+    count-fails path e (Err x) k a h =
+        let X = ahead old ++ a.read in
+        let rest = rest_of (state (source_of new)).bytes in
+        let ended = IsAtEnd (state (source_of new)).bytes in
+        let unread = IsUnread (state (source_of old)) (state (source_of new)) in
+        stop-led path (λ r q. (source_of old, source_of new, subst (λ e. IsRecordError C root X old.next old.limit ended unread e) q a.goes.error))
+        (λ v. (s.values, X ++ rest, left-of (IsFirst C root) bytes (state (source_of new)).bytes X s.values (now-ahead a.read a.lost.bytes), uncounted C root X rest old.next old.limit ended unread e k a.goes.error v.0 v.1)) (λ u. u) x h
+
 -- ---- each command
 
-each-fails : {F : List ℕ → List ℕ → List ℕ → Type 0} {P : List ℕ → List ℕ → Type 0} {bytes : Option (List ℕ)} {out : List ℕ} {r : Result Bool Failure} (x : Failure) → AnswersEach F P bytes out r → AnswersEach F P bytes out (Err x)
-each-fails x h = record { pieces = h.pieces; left = h.left; answers = h.answers; first = h.first; all = tt }
+each-fails : {F : List ℕ → List ℕ → List ℕ → Type 0} {P : List ℕ → List ℕ → Type 0} {S : List ℕ → Failure → Type 0} {bytes : Option (List ℕ)} {out : List ℕ} {r : Result Bool Failure} (x : Failure) → ((left : List ℕ) → S left x) → AnswersEach F P S bytes out r → AnswersEach F P S bytes out (Err x)
+each-fails x s h = record { pieces = h.pieces; left = h.left; answers = h.answers; first = h.first; all = tt; stops = s h.left }
 
--- an output that goes with a result goes with a failure
-pub many-fails : (a : Action) (f : Form) (strict : Bool) (l : Layout) (bytes : Option (List ℕ)) (out : List ℕ) (r : Result Bool Failure) (x : Failure) → AnswersMany a f strict l bytes out r → AnswersMany a f strict l bytes out (Err x)
-many-fails Decode AsRecords strict l bytes out r x h = each-fails x h
-many-fails Decode AsLines strict l bytes out r x h = each-fails x h
-many-fails Encode AsRecords strict l bytes out r x h = (each-fails x h.0, tt)
-many-fails Encode AsLines strict l bytes out r x h = each-fails x h
-many-fails AskMember f strict l bytes out r x h = tt
-many-fails Show f strict l bytes out r x h = tt
+-- an output that goes with a result goes with a failure of the writer
+pub many-fails : (a : Action) (f : Form) (strict : Bool) (unread : Error → Type 0) (path : List ℕ) (l : Plan) (bytes : Option (List ℕ)) (out : List ℕ) (r : Result Bool Failure) (x : Failure) → IsWriteFailure x → AnswersMany a f strict unread path l bytes out r → AnswersMany a f strict unread path l bytes out (Err x)
+many-fails Decode AsRecords strict unread path l bytes out r x u h = each-fails x (λ left. stops-unwritten _ _ _ _ x u) h
+many-fails Decode AsLines strict unread path l bytes out r x u h = each-fails x (λ left. stops-unwritten _ _ _ _ x u) h
+many-fails Encode AsRecords strict unread path l bytes out r x u h = (each-fails x (λ left. stops-unwritten _ _ _ _ x u) h.0, tt)
+many-fails Encode AsLines strict unread path l bytes out r x u h = each-fails x (λ left. stops-unwritten _ _ _ _ x u) h
+many-fails AskMember f strict unread path l bytes out r x u h = stops-unwritten _ _ _ _ x u
+many-fails Show f strict unread path l bytes out r x u h = inl u

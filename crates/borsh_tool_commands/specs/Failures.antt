@@ -2,12 +2,13 @@
 use Rattle.std.specs.Prelude.{◌≡◌, ⊤, ℕ, List, [], Option, IsUtf8, String}
 use Rattle.std.specs.BTreeMap.{BTreeMap}
 use Rattle.std.specs.Global.{Global}
+use Rattle.borsh_io.specs.declared.error.Error.{Error}
 use Rattle.borsh_walks.specs.Container.{Shape}
 use Rattle.borsh_values.specs.Membership.{IsUndecided}
 use Rattle.borsh_walks.specs.declared.definition.Definition.{Definition}
 use Rattle.borsh_json.specs.Errors.{IsNoRowsReason}
 use Rattle.borsh_tool_commands.specs.declared.failure.Failure.{Failure}
-use Rattle.borsh_tool_commands.specs.declared.failure.Failure.TheVariants.{NoCommand, Unreadable, NotHexadecimal, NotContainer, NotValue, NotText, TwoInputs, RawOnTerminal, Unwritable, Unread, Unwritten, LongLine, OutOfMemory}
+use Rattle.borsh_tool_commands.specs.declared.failure.Failure.TheVariants.{NoCommand, Unreadable, NotHexadecimal, NotContainer, NotValue, NotText, TwoInputs, RawOnTerminal, WrongUse, Unread, Unwritten, LongLine, NotType, OutOfMemory}
 use Rattle.borsh_tool_commands.specs.declared.values.Schema.{Schema}
 use Rattle.borsh_tool_commands.specs.Json.{HasNoJson, HasReason, SaysNone}
 use Rattle.borsh_tool_commands.specs.Sent.{HasNoSchemaJson, IsContainer, IsSent}
@@ -22,11 +23,29 @@ IsFailure path no_container no_value no_text (NotValue p text) = (p.now ≡ path
 IsFailure path no_container no_value no_text (NotText p) = (p.now ≡ path) × no_text
 IsFailure path no_container no_value no_text TwoInputs = ⊥
 IsFailure path no_container no_value no_text RawOnTerminal = ⊥
-IsFailure path no_container no_value no_text (Unwritable e) = ⊥
+IsFailure path no_container no_value no_text (WrongUse e) = ⊥
 IsFailure path no_container no_value no_text (Unread p e) = ⊥
 IsFailure path no_container no_value no_text (Unwritten e) = ⊥
 IsFailure path no_container no_value no_text (LongLine p) = ⊥
+IsFailure path no_container no_value no_text (NotType t text) = ⊥
 IsFailure path no_container no_value no_text OutOfMemory = ⊤
+
+-- an allocation or the writer failed; or, of this path, the reader by an error, or there is no value or too long a line, each only where a fact holds that goes with it
+abbrev pub IsStop : (path : List ℕ) (unread : Error → Type 0) (no_value long_line : Type 0) → Failure → Type 0
+IsStop path unread no_value long_line NoCommand = ⊥
+IsStop path unread no_value long_line (Unreadable p e) = ⊥
+IsStop path unread no_value long_line (NotHexadecimal p e) = ⊥
+IsStop path unread no_value long_line (NotContainer p e) = ⊥
+IsStop path unread no_value long_line (NotValue p text) = (p.now ≡ path) × no_value
+IsStop path unread no_value long_line (NotText p) = ⊥
+IsStop path unread no_value long_line TwoInputs = ⊥
+IsStop path unread no_value long_line RawOnTerminal = ⊥
+IsStop path unread no_value long_line (WrongUse e) = ⊥
+IsStop path unread no_value long_line (Unread p e) = (p.now ≡ path) × unread e
+IsStop path unread no_value long_line (Unwritten e) = ⊤
+IsStop path unread no_value long_line (LongLine p) = (p.now ≡ path) × long_line
+IsStop path unread no_value long_line (NotType t text) = ⊥
+IsStop path unread no_value long_line OutOfMemory = ⊤
 
 -- ---- containers
 

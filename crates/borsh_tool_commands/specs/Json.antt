@@ -2,9 +2,10 @@
 use Rattle.std.specs.Prelude.{◌≡◌, ℕ, All, Bool, true, false, List, String}
 use Rattle.std.specs.Global.{Global}
 use Rattle.std.specs.BTreeMap.{BTreeMap}
-use Rattle.borsh_json.specs.Ascii.{IsInLine}
+use Rattle.borsh_json.specs.Ascii.{IsInLine, IsPlain}
 use Rattle.borsh_json.specs.Errors.{IsNoJsonReason, IsTextReason}
 use Rattle.borsh_json.specs.Forms.{forms_in}
+use Rattle.borsh_json.specs.InOrder.{TextRepresents}
 use Rattle.borsh_json.specs.Represents.{TextSays}
 use Rattle.borsh_json.specs.NoJson.{ShowsNoJson}
 use Rattle.borsh_json.specs.NoValue.{ShowsNoValue}
@@ -30,9 +31,13 @@ module _ (map : BTreeMap (String Global) Definition) (root : List ℕ) where
   abbrev pub IsJson : List ℕ → List ℕ → Type 0
   IsJson text bytes = TextSays (forms_in map) root text bytes
 
-  -- such a text with a line feed behind it, which is the only one if the text is compact
+  -- such a text, in which the elements of sets and the keys of maps ascend where their order is known
+  abbrev pub IsJsonInOrder : List ℕ → List ℕ → Type 0
+  IsJsonInOrder text bytes = TextRepresents (forms_in map) root text bytes
+
+  -- such a text of printable ASCII, in any order, with a line feed behind it, which is the only one if the text is compact
   abbrev pub IsJsonLine : Layout → List ℕ → List ℕ → Type 0
-  IsJsonLine layout bytes line = (text : List ℕ) × IsJson text bytes × (layout ≡ Compact → All IsInLine text) × (line ≡ line_of text)
+  IsJsonLine layout bytes line = (text : List ℕ) × IsJson text bytes × All IsPlain text × (layout ≡ Compact → All IsInLine text) × (line ≡ line_of text)
 
   -- the bytes are no member, or the definitions are undecided, or a part of a member has no JSON
   abbrev pub HasNoJson : List ℕ → Type 0

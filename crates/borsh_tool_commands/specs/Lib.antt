@@ -8,6 +8,8 @@ pub mod Definitions
 pub mod Json
 pub mod Sent
 pub mod Failures
-pub mod Replies
 pub mod Lines
+pub mod Fronts
 pub mod Many
+pub mod Replies
+pub mod Comparisons

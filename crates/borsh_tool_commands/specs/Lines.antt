@@ -9,6 +9,10 @@ use Rattle.borsh_values.specs.declared.buffered.Buffered.{Buffered}
 abbrev pub HasNoFeed : List ℕ → Type 0
 HasNoFeed bytes = All (λ b. b ≢ 10) bytes
 
+-- more bytes than a line may have come before the first line feed
+abbrev pub IsLong : List ℕ → Type 0
+IsLong bytes = (front : List ℕ) × (more : List ℕ) × (bytes ≡ front ++ more) × HasNoFeed front × (268435456 < length front)
+
 -- the bytes begin with this line, which has its line feed unless it is the last one, and others are left
 pub record IsFirstLine (line bytes left : List ℕ) : Type 0 where
   pub text : List ℕ

@@ -1,11 +1,9 @@
 // What each byte of a value is, as lines whose columns are aligned.
+ghost use Rattle.borsh_plan.specs.Plan.{definitions_of, root_of};
 ghost use Rattle.borsh_json.specs.Errors.{IsNoRowsReason};
 ghost use Rattle.borsh_tool_commands.specs.Colored.{IsShowFailure, Paints, has_colors, printed_colors};
 ghost use Rattle.borsh_tool_commands.specs.Many.{Flushes, IsUnwritten};
-ghost use Rattle.borsh_values.specs.Free.{KnowsSizes};
-ghost use Rattle.borsh_values.specs.Layouts.{IsLaidOut};
 ghost use Rattle.borsh_walks.specs.Container.{Member};
-ghost use Rattle.borsh_walks.specs.Definitions.{definitions_in};
 ghost use Rattle.std.specs.Prelude.{◌≡◌, [], IfErr, OnErr, OnOk};
 
 use super::colors::{Color, ColoredText};
@@ -14,7 +12,7 @@ use super::plain_text::{Added, PlainText};
 use super::values::no_value;
 use borsh::io::Write as WriteBytes;
 use borsh_json::{JsonError, Rows, value_of};
-use borsh_values::{Layout, Node, Path, PathStep};
+use borsh_values::{Node, Path, PathStep, Plan};
 use itoa::Buffer;
 use std::alloc::{AllocError, Global};
 
@@ -38,26 +36,24 @@ struct Widths {
     name: usize,
 }
 
-/// Writes a line for each row of the value of the layout's root that the bytes are. The rows are gone over twice.
+/// Writes a line for each row of the value of the plan's root that the bytes are. The rows are gone over twice.
 pub(crate) fn write_rows<'a, W: WriteBytes>(
     alloc: Global,
-    layout: &Layout<'_>,
+    plan: &Plan<'_>,
     path: &'a str,
     bytes: &[u8],
     is_colored: bool,
     out: &mut W,
 ) -> Result<(), Failure<'a>>
-    requires laid_out { IsLaidOut layout.now }
-    requires sizes { KnowsSizes layout.now }
-    ensures member { OnOk result (Member (definitions_in layout.now.map.now) layout.now.root.now bytes.now) }
+    ensures member { OnOk result (Member (definitions_of plan.now) (root_of plan.now) bytes.now) }
     ensures painted { Paints W.writing is_colored out.old out.new result }
-    ensures err { IfErr result (IsShowFailure (definitions_in layout.now.map.now) layout.now.root.now path.now bytes.now) }
+    ensures err { IfErr result (IsShowFailure (definitions_of plan.now) (root_of plan.now) path.now bytes.now) }
 {
-    let widths = match widths_of(alloc, layout, bytes) {
+    let widths = match widths_of(alloc, plan, bytes) {
         Ok(widths) => widths,
         Err(error) => return Err(no_value(alloc, path, error)),
     };
-    let mut rows = match Rows::new(alloc, layout, bytes) {
+    let mut rows = match Rows::new(alloc, plan, bytes) {
         Ok(rows) => rows,
         Err(error) => return Err(no_value(alloc, path, error)),
     };
@@ -66,7 +62,7 @@ pub(crate) fn write_rows<'a, W: WriteBytes>(
     for _ in 0..u64::MAX {
         match rows.next() {
             Ok(Some(row)) => {
-                let value = value_of(alloc, layout.map, &row);
+                let value = value_of(alloc, plan.map(), &row);
                 push_row(&row, rows.path(), value, widths, &mut text, &mut made)?;
                 if made.as_bytes().len() >= ROOM {
                     write_made(&mut made, out)?;
@@ -95,12 +91,10 @@ fn write_made<'a, W: WriteBytes>(made: &mut ColoredText, out: &mut W) -> Result<
 }
 
 /// How wide the columns of the rows are.
-fn widths_of<'a>(alloc: Global, layout: &Layout<'a>, bytes: &[u8]) -> Result<Widths, JsonError<'a>>
-    requires laid_out { IsLaidOut layout.now }
-    requires sizes { KnowsSizes layout.now }
-    ensures { IfErr result (IsNoRowsReason (definitions_in layout.now.map.now) layout.now.root.now bytes.now) }
+fn widths_of<'a>(alloc: Global, plan: &Plan<'a>, bytes: &[u8]) -> Result<Widths, JsonError<'a>>
+    ensures { IfErr result (IsNoRowsReason (definitions_of plan.now) (root_of plan.now) bytes.now) }
 {
-    let mut rows = Rows::new(alloc, layout, bytes)?;
+    let mut rows = Rows::new(alloc, plan, bytes)?;
     let mut text = PlainText::new(alloc);
     let mut widths = Widths::default();
     for _ in 0..u64::MAX {

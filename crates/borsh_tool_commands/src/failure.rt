@@ -27,14 +27,16 @@ pub enum Failure<'a> {
     TwoInputs,
     /// Raw bytes were to go to a terminal.
     RawOnTerminal,
-    /// The answer can't be written.
-    Unwritable(io::Error),
+    /// The words of the command line don't go together.
+    WrongUse(&'static str),
     /// Reading stopped by an error.
     Unread(&'a str, borsh::io::Error),
     /// Writing did.
     Unwritten(borsh::io::Error),
     /// A line has too many bytes.
     LongLine(&'a str),
+    /// The text is no type, or its type has no container.
+    NotType(&'a str, String),
     /// An allocation failed.
     OutOfMemory,
 }
@@ -65,7 +67,9 @@ impl<'a> fmt::Display for Failure<'a> {
         match self {
             Failure::NoCommand => write!(f, "no command"),
             Failure::Unreadable(path, error) => write!(f, "{}: {error}", Named(path)),
-            Failure::NotHexadecimal(path, error) => write!(f, "{}: {error}", Named(path)),
+            Failure::NotHexadecimal(path, error) => {
+                write!(f, "{}: {}", Named(path), NoDigits(*error))
+            }
             Failure::NotContainer(path, error) => {
                 write!(f, "{}: not a schema container: {error}", Named(path))
             }
@@ -73,12 +77,13 @@ impl<'a> fmt::Display for Failure<'a> {
             Failure::NotText(path) => write!(f, "{}: not UTF-8", Named(path)),
             Failure::TwoInputs => write!(f, "only one input can be standard input"),
             Failure::RawOnTerminal => f.write_str(RAW_ON_TERMINAL),
-            Failure::Unwritable(error) => write!(f, "{error}"),
+            Failure::WrongUse(why) => f.write_str(why),
             Failure::Unread(path, error) => write!(f, "{}: {error}", Named(path)),
             Failure::Unwritten(error) => write!(f, "{error}"),
             Failure::LongLine(path) => {
                 write!(f, "{}: a line has more than {MOST_LINE} bytes", Named(path))
             }
+            Failure::NotType(path, error) => write!(f, "{path}: {error}"),
             Failure::OutOfMemory => write!(f, "out of memory"),
         }
     }
@@ -101,6 +106,22 @@ impl<'a> fmt::Display for Named<'a> {
                 write!(f, "{front}..")
             }
             _ => f.write_str(self.0),
+        }
+    }
+}
+
+/// Why digits are none: a byte that isn't printable ASCII is shown as `\x` and two digits.
+#[derive(Clone, Copy)]
+pub(crate) struct NoDigits(pub FromHexError);
+
+impl fmt::Display for NoDigits {
+    fn fmt<W: fmt::Write>(&self, f: &mut fmt::Formatter<W>) -> fmt::Result {
+        match self.0 {
+            FromHexError::InvalidHexCharacter { c, index } if !(' '..='~').contains(&c) => {
+                let byte = u32::from(c);
+                write!(f, "Invalid character '\\x{byte:02x}' at position {index}")
+            }
+            error => write!(f, "{error}"),
         }
     }
 }

@@ -1,7 +1,8 @@
 // Lines of a reader. A line ends by a line feed; a last line without one counts if it isn't empty.
 ghost use Rattle.borsh_tool_commands.specs.Lines.{HasNoFeed, IsFirstLine, NextLine};
+ghost use Rattle.borsh_tool_commands.specs.Many.{StopsNextLine};
 ghost use Rattle.borsh_values.specs.Records.{held, piece, reader_of};
-ghost use Rattle.std.specs.Prelude.{IfOk, List, ℕ, ◌++◌, ◌<◌, ◌≡◌, ◌≢◌, ◌≤◌, false, length, slice_index, take, true};
+ghost use Rattle.std.specs.Prelude.{IfErr, IfOk, List, ℕ, ◌++◌, ◌<◌, ◌≡◌, ◌≢◌, ◌≤◌, false, length, slice_index, take, true};
 
 use super::failure::Failure;
 use borsh::io::Read;
@@ -15,7 +16,8 @@ pub fn take_line<'a, R: Read + Drop>(
     input: &mut Buffered<R>,
     path: &'a str,
 ) -> Result<bool, Failure<'a>>
-    ensures { IfOk result (λ found. NextLine R.stream input.old input.new found) }
+    ensures next { IfOk result (λ found. NextLine R.stream input.old input.new found) }
+    ensures stops { IfErr result (StopsNextLine R.stream path.now input.old input.new) }
 {
     let mut searched = 0;
     'reads: for _ in 0..u64::MAX {
@@ -35,7 +37,7 @@ pub fn take_line<'a, R: Read + Drop>(
             Err(error) => return Err(Failure::Unread(path, error)),
         }
     }
-    Err(Failure::LongLine(path))
+    Err(Failure::OutOfMemory)
 }
 
 /// The same of the bytes that are held, of which the first have no line feed.

@@ -1,29 +1,28 @@
 // What is asked of values one after another, and of one value a line.
-ghost use Rattle.borsh_json.specs.Ascii.{IsInLine};
-ghost use Rattle.borsh_json.specs.Orders.{HasKinds};
+ghost use Rattle.borsh_plan.specs.Plan.{definitions_of, map_of, root_of};
+ghost use Rattle.borsh_json.specs.Ascii.{IsInLine, IsPlain};
 ghost use Rattle.borsh_json.specs.declared.output.Layout.TheVariants.{Compact};
 ghost use Rattle.borsh_tool_commands.specs.Answers.{line_of};
-ghost use Rattle.borsh_tool_commands.specs.Failures.{IsNoJson};
-ghost use Rattle.borsh_tool_commands.specs.Json.{IsJson, IsJsonLine};
-ghost use Rattle.borsh_tool_commands.specs.Lines.{IsFirstLine, NextLine};
-ghost use Rattle.borsh_tool_commands.specs.Many.{AnswersEach, AnswersLine, AnswersMany, AnswersText, Flushes, IsCount, IsErrorLine, IsUnwritten, Writes, count_text, digits_line as line_of_digits, said_by as said_by_digits, unmarked as unmarked_digits};
+ghost use Rattle.borsh_tool_commands.specs.Failures.{IsNoJson, IsNoMemory, IsStop};
+ghost use Rattle.borsh_tool_commands.specs.Json.{IsJsonInOrder, IsJsonLine};
+ghost use Rattle.borsh_tool_commands.specs.Lines.{IsFirstLine, IsLong, NextLine};
+ghost use Rattle.borsh_tool_commands.specs.Many.{AnswersEach, AnswersLine, AnswersMany, AnswersText, FailsBy, Flushes, HasNoAnswer, IsCount, IsEnded, IsErrorLine, IsNoRoot, IsPlaced, IsRefusedAs, IsUnwritten, IsValueError, StopsAtLine, StopsCounting, StopsNext, StopsNextLine, Writes, count_text, digits_line as line_of_digits, most_bytes, said_by as said_by_digits, unmarked as unmarked_digits};
 ghost use Rattle.borsh_tool_commands.specs.Printed.{Adds, printed};
-ghost use Rattle.borsh_values.specs.Free.{KnowsSizes};
-ghost use Rattle.borsh_values.specs.Layouts.{IsLaidOut};
 ghost use Rattle.borsh_values.specs.Next.{IsFirst};
-ghost use Rattle.borsh_values.specs.Records.{Advances, SameRoot, ahead, layout_of, source_of};
+ghost use Rattle.borsh_values.specs.Records.{Advances, SameRoot, ahead, limit_of, plan_of, source_of};
+ghost use Rattle.borsh_values.specs.declared.records.RecordError.TheVariants.{Reader};
 ghost use Rattle.borsh_walks.specs.Container.{Member};
-ghost use Rattle.borsh_walks.specs.Definitions.{definitions_in};
 ghost use Rattle.hex.specs.declared.error.FromHexError.TheVariants.{OutOfMemory as NoDigitsMemory};
 ghost use Rattle.std.specs.Prelude.{[], All, IfErr, IfOk, List, Ok, Err, OnErr, OnOk, codes, false, true, ℕ, ◌≡◌, ◌++◌, ◌⊎◌};
 
 use super::answers::{Answer, line};
 use super::command::{Action, Form};
-use super::failure::Failure;
+use super::failure::{Failure, NoDigits};
 use super::lines::{take_held_line, take_line};
+use super::output::write_made;
 use super::plain_text::{Added, PlainText};
 use super::progress::Progress;
-use super::values::{hex_line, no, no_value};
+use super::values::{hex_line, no, no_value, no_value_said};
 use borsh::io::{Read, Write};
 use borsh_json::{Characters, Json, LongNumbers, Style, in_ascii};
 use borsh_values::{Buffered, Fault, MOST_BYTES, RecordError, Records};
@@ -68,8 +67,9 @@ pub enum Wanted {
 ///
 /// Determined: what was written is an answer to each of the first values or lines, in order and nothing else, and to all of them
 /// after `Ok`; unless the writer fails, none that was made is lost; an error line, only where there is a reason; the number of
-/// values, and that where it is no none begins there. Each line has one line feed. Left open: memory; when a failure is returned, and
-/// texts of errors: tested; as of [`borsh_json`].
+/// values, and that where it is no none begins there. Each line has one line feed. A failure has the path, and comes only where none of
+/// the bytes that are left is a value, or their first value or line has no answer, or a line is too long, or the reader or the writer
+/// fails. Left open: memory; when the writer fails; texts of errors: tested; as of [`borsh_json`].
 ///
 /// ```
 /// answer_many(Action::Decode, Form::Records, &many, StdReader::new(rt.stdin(), 1000), &mut progress, &mut out)?;
@@ -82,9 +82,9 @@ pub fn answer_many<'a, E: Eprint, R: Read + Drop, W: Write>(
     progress: &mut Progress<'_, E>,
     out: &mut W,
 ) -> Result<bool, Failure<'a>>
-    requires { HasKinds many.now.json.now }
-    ensures { let l = many.now.json.now.layout.now in
-        Writes (AnswersMany action form many.now.is_strict l (R.stream input).bytes)
+    ensures { let l = many.now.json.now.plan.now in
+        Writes (AnswersMany action form many.now.is_strict (FailsBy R.stream) many.now.path.now l
+        (R.stream input).bytes)
         W.writing out.old out.new [] result }
 {
     let mut made = Vec::new(many.alloc);
@@ -102,10 +102,10 @@ fn make_answers<'a, E: Eprint, R: Read + Drop, W: Write>(
     made: &mut Vec<u8>,
     out: &mut W,
 ) -> Result<bool, Failure<'a>>
-    requires known { HasKinds many.now.json.now }
-    requires none { made.old.items ≡ [] }
-    ensures { let l = many.now.json.now.layout.now in
-        Writes (AnswersMany action form many.now.is_strict l (R.stream input).bytes)
+    requires { made.old.items ≡ [] }
+    ensures { let l = many.now.json.now.plan.now in
+        Writes (AnswersMany action form many.now.is_strict (FailsBy R.stream) many.now.path.now l
+        (R.stream input).bytes)
         W.writing out.old out.new made.new.items result }
 {
     let lenient = !many.is_strict;
@@ -131,21 +131,24 @@ fn decode_records<'a, E: Eprint, R: Read + Drop, W: Write>(
     made: &mut Vec<u8>,
     out: &mut W,
 ) -> Result<bool, Failure<'a>>
-    requires known { HasKinds many.now.json.now }
-    requires none { made.old.items ≡ [] }
-    ensures { let l = many.now.json.now.layout.now in
-        Writes (AnswersMany Action.Decode Form.Records many.now.is_strict l (R.stream input).bytes)
+    requires { made.old.items ≡ [] }
+    ensures { let l = many.now.json.now.plan.now in
+        Writes (AnswersMany Action.Decode Form.Records many.now.is_strict (FailsBy R.stream) many.now.path.now
+        l (R.stream input).bytes)
         W.writing out.old out.new made.new.items result }
 {
     let mut records = records_of(many, input)?;
-    while next_record(many, &mut records, made, out)? {
+    let mut number: u64 = 1;
+    while next_record(many, &mut records, number, made, out)? {
         match json_line(many, records.value()) {
             Ok(line) => made.extend_from_slice(line.as_slice())?,
             Err(failure) => {
-                return Err(placed(many.alloc, failure, "value at byte", records.offset()));
+                let offset = Some(records.offset());
+                return Err(placed(many.alloc, failure, number, offset));
             }
         }
         progress.step(records.value().len());
+        number = number.saturating_add(1);
     }
     Ok(true)
 }
@@ -158,10 +161,10 @@ fn encode_records<'a, E: Eprint, R: Read + Drop, W: Write>(
     made: &mut Vec<u8>,
     out: &mut W,
 ) -> Result<bool, Failure<'a>>
-    requires known { HasKinds many.now.json.now }
-    requires none { made.old.items ≡ [] }
-    ensures { let l = many.now.json.now.layout.now in
-        Writes (AnswersMany Action.Encode Form.Records many.now.is_strict l (R.stream input).bytes)
+    requires { made.old.items ≡ [] }
+    ensures { let l = many.now.json.now.plan.now in
+        Writes (AnswersMany Action.Encode Form.Records many.now.is_strict (FailsBy R.stream) many.now.path.now
+        l (R.stream input).bytes)
         W.writing out.old out.new made.new.items result }
 {
     let _none = records_of(many, b"".as_slice())?;
@@ -170,11 +173,10 @@ fn encode_records<'a, E: Eprint, R: Read + Drop, W: Write>(
 
 /// The JSON of a value, and a line feed.
 fn json_line<'a>(many: &Many<'a, '_, '_>, value: &[u8]) -> Result<Vec<u8>, Failure<'a>>
-    requires { HasKinds many.now.json.now }
-    ensures ok { let l = many.now.json.now.layout.now in
-        IfOk result (λ line. IsJsonLine l.map.now l.root.now Compact value.now line.items) }
-    ensures err { let l = many.now.json.now.layout.now in
-        IfErr result (IsNoJson l.map.now l.root.now many.now.path.now value.now) }
+    ensures ok { let l = many.now.json.now.plan.now in
+        IfOk result (λ line. IsJsonLine (map_of l) (root_of l) Compact value.now line.items) }
+    ensures err { let l = many.now.json.now.plan.now in
+        IfErr result (IsNoJson (map_of l) (root_of l) many.now.path.now value.now) }
 {
     let style = Style {
         long_numbers: many.long_numbers,
@@ -198,10 +200,11 @@ fn make_count<'a, E: Eprint, R: Read + Drop>(
     progress: &mut Progress<'_, E>,
     made: &mut Vec<u8>,
 ) -> Result<bool, Failure<'a>>
-    requires known { HasKinds many.now.json.now }
-    requires none { made.old.items ≡ [] }
-    ensures { let layout = many.now.json.now.layout.now in IfOk result (λ yes.
-        IsCount (definitions_in layout.map.now) layout.root.now (R.stream input).bytes yes made.new.items) }
+    requires { made.old.items ≡ [] }
+    ensures ok { let plan = many.now.json.now.plan.now in IfOk result (λ yes.
+        IsCount (definitions_of plan) (root_of plan) (R.stream input).bytes yes made.new.items) }
+    ensures err { let l = many.now.json.now.plan.now in IfErr result
+        (StopsCounting (FailsBy R.stream) many.now.path.now l (R.stream input).bytes) }
 {
     let Answer { is_yes, text } = count_records(many, input, progress)?;
     made.extend_from_slice(text.as_bytes())?;
@@ -214,25 +217,35 @@ fn count_records<'a, E: Eprint, R: Read + Drop>(
     input: R,
     progress: &mut Progress<'_, E>,
 ) -> Result<Answer, Failure<'a>>
-    requires { HasKinds many.now.json.now }
-    ensures { let layout = many.now.json.now.layout.now in IfOk result (λ a.
-        IsCount (definitions_in layout.map.now) layout.root.now (R.stream input).bytes a.is_yes (printed a.text)) }
+    ensures ok { let plan = many.now.json.now.plan.now in IfOk result (λ a.
+        IsCount (definitions_of plan) (root_of plan) (R.stream input).bytes a.is_yes (printed a.text)) }
+    ensures err { let l = many.now.json.now.plan.now in IfErr result
+        (StopsCounting (FailsBy R.stream) many.now.path.now l (R.stream input).bytes) }
 {
     let mut records = records_of(many, input)?;
     for count in 0..u64::MAX {
         match records.advance(many.alloc) {
             Ok(true) => progress.step(records.value().len()),
             Ok(false) => return Ok(counted(many.alloc, count)?),
-            Err(RecordError::NoMember(offset, fault)) => {
-                return Ok(stopped(many.alloc, count, offset, fault)?);
-            }
-            Err(RecordError::CutShort(offset, fault)) => {
-                return Ok(stopped(many.alloc, count, offset, fault)?);
-            }
-            Err(error) => return Err(no_record(many, error)),
+            Err(error) => return ended(many, count, error),
         }
     }
     Err(Failure::OutOfMemory)
+}
+
+/// The answer where the bytes stop being values behind so many, or the failure.
+fn ended<'a>(
+    many: &Many<'a, '_, '_>,
+    count: u64,
+    error: RecordError<'_>,
+) -> Result<Answer, Failure<'a>>
+    ensures { IsEnded many.now.path.now error.entry result }
+{
+    match error {
+        RecordError::NoMember(offset, fault) => Ok(stopped(many.alloc, count, offset, fault)?),
+        RecordError::CutShort(offset, fault) => Ok(stopped(many.alloc, count, offset, fault)?),
+        error => Err(no_record(many, count.saturating_add(1), error)),
+    }
 }
 
 /// The answer that the bytes are so many values.
@@ -261,7 +274,8 @@ fn stopped(alloc: Global, count: u64, offset: u64, fault: Fault<'_>) -> Result<A
     ensures { IfOk result (λ a. (a.is_yes ≡ false) × ((why : List ℕ) ×
         (printed a.text ≡ line_of (codes "no member: " ++ why)))) }
 {
-    let why = format!(in alloc; "value {count} at byte {offset}: {fault}")?;
+    let number = count.saturating_add(1);
+    let why = format!(in alloc; "value {number} at byte {offset}: {fault}")?;
     no(alloc, "no member: ", why.as_str())
 }
 
@@ -275,10 +289,11 @@ fn answer_lines<'a, E: Eprint, R: Read + Drop, W: Write>(
     made: &mut Vec<u8>,
     out: &mut W,
 ) -> Result<bool, Failure<'a>>
-    requires known { HasKinds many.now.json.now }
-    requires none { made.old.items ≡ [] }
-    ensures { let l = many.now.json.now.layout.now in
-        Writes (AnswersEach IsFirstLine (AnswersLine l wanted is_lenient) (R.stream input).bytes)
+    requires { made.old.items ≡ [] }
+    ensures { let l = many.now.json.now.plan.now in
+        Writes (AnswersEach IsFirstLine (AnswersLine l wanted is_lenient)
+        (StopsAtLine (FailsBy R.stream) many.now.path.now l wanted is_lenient ⊥ (R.stream input).bytes)
+        (R.stream input).bytes)
         W.writing out.old out.new made.new.items result }
 {
     let mut lines = Buffered::new(many.alloc, input);
@@ -301,13 +316,24 @@ fn line_answer<'a>(
     number: u64,
     line: &[u8],
 ) -> Result<Vec<u8>, Failure<'a>>
-    requires { HasKinds many.now.json.now }
-    ensures { IfOk result (λ out. AnswersLine many.now.json.now.layout.now wanted is_lenient line.now out.items) }
+    ensures ok { IfOk result (λ out. AnswersLine many.now.json.now.plan.now wanted is_lenient line.now out.items) }
+    ensures err { let l = many.now.json.now.plan.now in IfErr result
+        (IsStop many.now.path.now (λ _. ⊥) (HasNoAnswer l wanted is_lenient line.now) ⊥) }
 {
     match text_answer(many, wanted, line.trim_ascii()) {
         Ok(text) => Ok(text),
-        Err(Failure::NotValue(_, why)) if is_lenient => Ok(error_line(many.alloc, why.as_str())?),
-        Err(failure) => Err(placed(many.alloc, failure, "line", number)),
+        Err(failure) if is_lenient => refused_line(many.alloc, failure),
+        Err(failure) => Err(placed(many.alloc, failure, number, None)),
+    }
+}
+
+/// The line that says why there is no value; any other failure is returned.
+fn refused_line<'a>(alloc: Global, failure: Failure<'a>) -> Result<Vec<u8>, Failure<'a>>
+    ensures { IsRefusedAs failure.entry result }
+{
+    match failure {
+        Failure::NotValue(_, why) => Ok(error_line(alloc, why.as_str())?),
+        failure => Err(failure),
     }
 }
 
@@ -317,8 +343,7 @@ fn text_answer<'a>(
     wanted: Wanted,
     text: &[u8],
 ) -> Result<Vec<u8>, Failure<'a>>
-    requires { HasKinds many.now.json.now }
-    ensures { AnswersText many.now.json.now.layout.now wanted many.now.path.now text.now result }
+    ensures { AnswersText many.now.json.now.plan.now wanted many.now.path.now text.now result }
 {
     match wanted {
         Wanted::Json => json_said(many, text),
@@ -329,14 +354,13 @@ fn text_answer<'a>(
 
 /// The JSON of the value whose digits a text is, as a line.
 fn json_said<'a>(many: &Many<'a, '_, '_>, digits: &[u8]) -> Result<Vec<u8>, Failure<'a>>
-    requires { HasKinds many.now.json.now }
-    ensures { AnswersText many.now.json.now.layout.now Wanted.Json many.now.path.now digits.now result }
+    ensures { AnswersText many.now.json.now.plan.now Wanted.Json many.now.path.now digits.now result }
 {
     match said_by(many.alloc, digits) {
         Ok(bytes) => json_line(many, bytes.as_slice()),
         Err(FromHexError::OutOfMemory) => Err(Failure::OutOfMemory),
         Err(error) => {
-            let why = format!(in many.alloc; "{error}")?;
+            let why = format!(in many.alloc; "{}", NoDigits(error))?;
             Err(Failure::NotValue(many.path, why))
         }
     }
@@ -364,8 +388,7 @@ fn unmarked(text: &[u8]) -> &[u8]
 
 /// The digits of the value whose JSON a text is, as a line; `-` for no bytes.
 fn digits_said<'a>(many: &Many<'a, '_, '_>, json: &[u8]) -> Result<Vec<u8>, Failure<'a>>
-    requires { HasKinds many.now.json.now }
-    ensures { AnswersText many.now.json.now.layout.now Wanted.Digits many.now.path.now json.now result }
+    ensures { AnswersText many.now.json.now.plan.now Wanted.Digits many.now.path.now json.now result }
 {
     let bytes = bytes_said(many, json)?;
     let line = digits_line(many.alloc, bytes.as_slice())?;
@@ -383,8 +406,7 @@ fn digits_line(alloc: Global, bytes: &[u8]) -> Result<PlainText, AllocError>
 
 /// The bytes of the value whose JSON a text is.
 fn bytes_said<'a>(many: &Many<'a, '_, '_>, json: &[u8]) -> Result<Vec<u8>, Failure<'a>>
-    requires { HasKinds many.now.json.now }
-    ensures { AnswersText many.now.json.now.layout.now Wanted.Bytes many.now.path.now json.now result }
+    ensures { AnswersText many.now.json.now.plan.now Wanted.Bytes many.now.path.now json.now result }
 {
     let Ok(text) = str::from_utf8(json) else {
         let why = String::from_str(many.alloc, "not UTF-8")?;
@@ -392,7 +414,7 @@ fn bytes_said<'a>(many: &Many<'a, '_, '_>, json: &[u8]) -> Result<Vec<u8>, Failu
     };
     match many.json.from_json(text) {
         Ok(bytes) => Ok(bytes),
-        Err(error) => Err(no_value(many.alloc, many.path, error)),
+        Err(error) => Err(no_value_said(many.alloc, many.path, text, true, error)),
     }
 }
 
@@ -407,9 +429,10 @@ fn error_line(alloc: Global, why: &str) -> Result<Vec<u8>, AllocError>
     Ok(line)
 }
 
-/// A text as JSON in ASCII.
+/// A text as JSON in ASCII, in one line.
 fn quoted(alloc: Global, text: &str) -> Result<Vec<u8>, AllocError>
-    ensures { IfOk result (λ json. All IsInLine json.items) }
+    ensures plain { IfOk result (λ json. All IsPlain json.items) }
+    ensures line { IfOk result (λ json. All IsInLine json.items) }
 {
     let mut writer = Writer::new(Vec::new(alloc));
     writer.string(text)?;
@@ -424,31 +447,34 @@ fn records_of<'a, 'l, 's, R: Read + Drop>(
     many: &Many<'a, 'l, 's>,
     input: R,
 ) -> Result<Records<'s, 'l, R>, Failure<'a>>
-    requires { HasKinds many.now.json.now }
     ensures first { IfOk result (λ r. (source_of r ≡ input) × (ahead r ≡ [])) }
-    ensures same { IfOk result (λ r. layout_of r ≡ many.now.json.now.layout) }
-    ensures nonempty { let layout = many.now.json.now.layout.now in
-        OnOk result (Member (definitions_in layout.map.now) layout.root.now [] → ⊥) }
+    ensures same { IfOk result (λ r. (plan_of r ≡ many.now.json.now.plan) × (limit_of r ≡ most_bytes)) }
+    ensures nonempty { let plan = many.now.json.now.plan.now in
+        OnOk result (Member (definitions_of plan) (root_of plan) [] → ⊥) }
+    ensures err { let plan = many.now.json.now.plan.now in IfErr result
+        (IsStop many.now.path.now (λ _. ⊥) (IsNoRoot (definitions_of plan) (root_of plan)) ⊥) }
 {
-    match Records::new(many.alloc, many.json.layout, input, MOST_BYTES) {
+    match Records::new(many.alloc, many.json.plan(), input, MOST_BYTES) {
         Ok(records) => Ok(records),
-        Err(error) => Err(no_record(many, error)),
+        Err(error) => Err(no_record(many, 1, error)),
     }
 }
 
-/// Goes on to the next value. What was made is written before bytes are waited for.
+/// Goes on to the next value, which has this number. What was made is written before bytes are waited for.
 fn next_record<'a, 's, R: Read + Drop, W: Write>(
     many: &Many<'a, '_, '_>,
     records: &mut Records<'s, '_, R>,
+    number: u64,
     made: &mut Vec<u8>,
     out: &mut W,
 ) -> Result<bool, Failure<'a>>
-    requires laid_out { IsLaidOut (layout_of records.old).now }
-    requires sizes { KnowsSizes (layout_of records.old).now }
+    requires { limit_of records.old ≡ most_bytes }
     ensures same { SameRoot records.old records.new }
-    ensures advances { let layout = (layout_of records.old).now in
-        IfOk result (λ found. Advances (definitions_in layout.map.now) layout.root.now R.stream
+    ensures advances { let plan = (plan_of records.old).now in
+        IfOk result (λ found. Advances (definitions_of plan) (root_of plan) R.stream
         records.old records.new (Ok found)) }
+    ensures stops { IfErr result (StopsNext R.stream many.now.path.now (plan_of records.old).now
+        records.old records.new) }
     ensures flushes { Flushes W.writing out.old out.new made.old.items made.new.items result }
 {
     match records.advance_held(many.alloc) {
@@ -458,12 +484,12 @@ fn next_record<'a, 's, R: Read + Drop, W: Write>(
             return Ok(true);
         }
         Ok(false) => (),
-        Err(error) => return Err(no_record(many, error)),
+        Err(error) => return Err(no_record(many, number, error)),
     }
     write_made(made, out)?;
     match records.advance(many.alloc) {
         Ok(is_found) => Ok(is_found),
-        Err(error) => Err(no_record(many, error)),
+        Err(error) => Err(no_record(many, number, error)),
     }
 }
 
@@ -475,6 +501,7 @@ fn next_line<'a, R: Read + Drop, W: Write>(
     out: &mut W,
 ) -> Result<bool, Failure<'a>>
     ensures next { IfOk result (λ found. NextLine R.stream lines.old lines.new found) }
+    ensures stops { IfErr result (StopsNextLine R.stream many.now.path.now lines.old lines.new) }
     ensures flushes { Flushes W.writing out.old out.new made.old.items made.new.items result }
 {
     let is_held = take_held_line(lines, 0);
@@ -488,39 +515,45 @@ fn next_line<'a, R: Read + Drop, W: Write>(
     take_line(lines, many.path)
 }
 
-/// Writes what was made.
-fn write_made<'a, W: Write>(made: &mut Vec<u8>, out: &mut W) -> Result<(), Failure<'a>>
-    ensures none { made.new.items ≡ [] }
-    ensures unwritten { OnErr result (IsUnwritten result) }
-    ensures flushes { Flushes W.writing out.old out.new made.old.items made.new.items result }
+/// The failure where there is no value of this number.
+fn no_record<'a>(many: &Many<'a, '_, '_>, number: u64, error: RecordError<'_>) -> Failure<'a>
+    ensures { IsStop many.now.path.now (λ e. error.entry ≡ Reader e) (IsValueError error.entry) ⊥ result }
 {
-    let outcome = out.write_all(made.as_slice());
-    made.clear();
-    match outcome {
-        Ok(()) => Ok(()),
-        Err(error) => Err(Failure::Unwritten(error)),
+    let why = match error {
+        RecordError::Reader(error) => return Failure::Unread(many.path, error),
+        RecordError::OutOfMemory => return Failure::OutOfMemory,
+        RecordError::NoMember(offset, fault) => {
+            format!(in many.alloc; "value {number} at byte {offset}: {fault}")
+        }
+        RecordError::CutShort(offset, fault) => {
+            format!(in many.alloc; "value {number} at byte {offset}: cut short: {fault}")
+        }
+        RecordError::TooLong(offset) => {
+            format!(in many.alloc; "value {number} at byte {offset}: longer than the limit")
+        }
+        error => format!(in many.alloc; "{error}"),
+    };
+    match why {
+        Ok(text) => Failure::NotValue(many.path, text),
+        Err(_) => Failure::OutOfMemory,
     }
 }
 
-/// The failure where there is no next value.
-fn no_record<'a>(many: &Many<'a, '_, '_>, error: RecordError<'_>) -> Failure<'a> {
-    match error {
-        RecordError::Reader(error) => Failure::Unread(many.path, error),
-        RecordError::OutOfMemory => Failure::OutOfMemory,
-        error => match format!(in many.alloc; "{error}") {
-            Ok(text) => Failure::NotValue(many.path, text),
-            Err(_) => Failure::OutOfMemory,
-        },
-    }
-}
-
-/// The failure, with its place in front of why there is no value.
-fn placed<'a>(alloc: Global, failure: Failure<'a>, place: &str, number: u64) -> Failure<'a> {
+/// The failure, with the number of the line, or of the value at a byte, in front of why there is no value.
+fn placed<'a>(alloc: Global, failure: Failure<'a>, number: u64, offset: Option<u64>) -> Failure<'a>
+    ensures { IsPlaced failure.entry result }
+{
     match failure {
-        Failure::NotValue(path, why) => match format!(in alloc; "{place} {number}: {why}") {
-            Ok(text) => Failure::NotValue(path, text),
-            Err(_) => Failure::OutOfMemory,
-        },
+        Failure::NotValue(path, why) => {
+            let text = match offset {
+                Some(offset) => format!(in alloc; "value {number} at byte {offset}: {why}"),
+                None => format!(in alloc; "line {number}: {why}"),
+            };
+            match text {
+                Ok(text) => Failure::NotValue(path, text),
+                Err(_) => Failure::OutOfMemory,
+            }
+        }
         failure => failure,
     }
 }

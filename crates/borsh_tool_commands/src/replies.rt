@@ -1,12 +1,20 @@
-// What is replied to a request about a value.
+// What is replied to a request.
 ghost use Rattle.std.specs.Prelude.{◌≡◌, IfErr, IfOk, true};
+ghost use Rattle.borsh_tool_commands.specs.Failures.{IsNoContainer, IsNoContainerJson, IsNoMemory};
 ghost use Rattle.borsh_tool_commands.specs.Json.{layout_if};
-ghost use Rattle.borsh_tool_commands.specs.Replies.{IsNoReply, Replies};
+ghost use Rattle.borsh_tool_commands.specs.Printed.{printed};
+ghost use Rattle.borsh_tool_commands.specs.Questions.{AnswersRequest};
+ghost use Rattle.borsh_tool_commands.specs.Replies.{IsContainerReply, IsNoReply, IsReplyOf, IsSchemaReply, Never, Prints, Replies};
 
-use super::answers::Answer;
-use super::command::{Action, ValueRequest};
+use super::answers::{Answer, answer_to, container_from};
+use super::command::{Action, Request, ValueRequest};
 use super::failure::Failure;
-use super::values::{Schema, encoded, hex_line, json_text, member, strict_member};
+use super::output::write_made;
+use super::values::{
+    Schema, encoded, hex_line, json_text, member, no_container, schema_json, strict_member,
+    with_schema,
+};
+use borsh::io::Write;
 use borsh_json::{Layout, LongNumbers, Style};
 use std::alloc::Global;
 
@@ -20,10 +28,11 @@ pub struct Reply {
 /// What is replied to a request about a value, whose bytes or, for `encode`, whose JSON are given; `show`, which writes as it goes,
 /// is [`super::values::show`]. Errors have the path that the request has for it.
 ///
-/// Determined: of `decode` JSON of the bytes, on one line with `--compact`, and a line feed; of `encode` the bytes that the JSON is of,
-/// behind their container if that is asked for, or their digits as a line; of `member` yes exactly for a member, but for one that
-/// `--strict` says isn't canonical, and the line up to where and why; `NotValue` and `NotText` only for a reason; `NoCommand` only of
-/// `show`. Left open: memory; which members aren't canonical, and where and why: tested; as of [`borsh_json`].
+/// Determined: of `decode` JSON of the bytes in ASCII, on one line with `--compact`, and a line feed; of `encode` the bytes that the
+/// JSON, in order, is of, behind their container if that is asked for, or their digits as a line; of `member` yes exactly for a
+/// member, but for one that `--strict` says isn't canonical, and the line up to where and why; `NotValue` and `NotText` only for a
+/// reason; `NoCommand` only of `show`. Left open: memory; which members aren't canonical, and where and why: tested; as of
+/// [`borsh_json`].
 ///
 /// ```
 /// let reply = reply_to(alloc, &request, &schema, bytes.as_slice())?;
@@ -66,6 +75,127 @@ pub fn reply_to<'a>(
         }
         Action::Show => Err(Failure::NoCommand),
     }
+}
+
+/// The answer to a request about the container whose encoding the bytes are.
+///
+/// Returns `NotContainer` with the request's path if they are none, and `OutOfMemory` if an allocation fails. Left open: as
+/// of [`answer_to`].
+///
+/// ```
+/// let answer = answer_about(alloc, &request, bytes.as_slice())?;
+/// assert!(rt; answer.is_yes);
+/// ```
+pub fn answer_about<'a>(
+    alloc: Global,
+    request: &Request<'a>,
+    bytes: &[u8],
+) -> Result<Answer, Failure<'a>>
+    ensures ok { IfOk result (λ a. AnswersRequest request.now.question bytes.now a.is_yes (printed a.text)) }
+    ensures err { IfErr result (IsNoContainer request.now.path.now bytes.now) }
+{
+    match container_from(alloc, bytes) {
+        Ok(container) => Ok(answer_to(alloc, request.question, &container)?),
+        Err(error) => Err(no_container(request.path, error)),
+    }
+}
+
+/// Writes the reply of [`reply_to`], and returns whether it is yes. After an error a beginning was written, since the writer failed,
+/// or nothing. Left open: as of [`reply_to`].
+///
+/// ```
+/// assert!(rt; write_reply(alloc, &request, &schema, bytes.as_slice(), &mut out)?);
+/// ```
+pub fn write_reply<'a, W: Write>(
+    alloc: Global,
+    request: &ValueRequest<'a>,
+    schema: &Schema,
+    value: &[u8],
+    out: &mut W,
+) -> Result<bool, Failure<'a>>
+    ensures { let r = request.now in Prints (Replies r.action r schema.now value.now)
+        (IsNoReply r.action schema.now r.value.now value.now) W.writing out.old out.new result }
+{
+    let reply = reply_to(alloc, request, schema, value)?;
+    write_whole(reply, out)
+}
+
+/// [`write_reply`] of the answer of [`answer_about`].
+///
+/// ```
+/// assert!(rt; write_answer(alloc, &request, bytes.as_slice(), &mut out)?);
+/// ```
+pub fn write_answer<'a, W: Write>(
+    alloc: Global,
+    request: &Request<'a>,
+    bytes: &[u8],
+    out: &mut W,
+) -> Result<bool, Failure<'a>>
+    ensures { Prints (AnswersRequest request.now.question bytes.now)
+        (IsNoContainer request.now.path.now bytes.now) W.writing out.old out.new result }
+{
+    let Answer { is_yes, text } = answer_about(alloc, request, bytes)?;
+    let reply = Reply {
+        is_yes,
+        output: text.into_bytes(),
+    };
+    write_whole(reply, out)
+}
+
+/// [`write_reply`] of the JSON of [`schema_json`].
+///
+/// ```
+/// assert!(rt; write_schema_json(alloc, "readme.borsh", bytes.as_slice(), &mut out)?);
+/// ```
+pub fn write_schema_json<'a, W: Write>(
+    alloc: Global,
+    path: &'a str,
+    bytes: &[u8],
+    out: &mut W,
+) -> Result<bool, Failure<'a>>
+    ensures { Prints (IsSchemaReply bytes.now) (IsNoContainerJson path.now bytes.now)
+        W.writing out.old out.new result }
+{
+    let text = schema_json(alloc, path, bytes)?;
+    write_whole(yes(text.into_bytes()), out)
+}
+
+/// Writes the encoding of a container, or its digits as a line. Errors as of [`write_reply`].
+///
+/// ```
+/// assert!(rt; write_container(alloc, &schema, true, &mut out)?);
+/// ```
+pub fn write_container<'a, W: Write>(
+    alloc: Global,
+    schema: &Schema,
+    is_hex: bool,
+    out: &mut W,
+) -> Result<bool, Failure<'a>>
+    ensures { Prints (IsContainerReply schema.now is_hex) IsNoMemory W.writing out.old out.new result }
+{
+    let reply = container_reply(alloc, schema, is_hex)?;
+    write_whole(reply, out)
+}
+
+fn container_reply<'a>(alloc: Global, schema: &Schema, is_hex: bool) -> Result<Reply, Failure<'a>>
+    ensures ok { IfOk result (λ r. IsContainerReply schema.now is_hex r.is_yes r.output.items) }
+    ensures err { IfErr result IsNoMemory }
+{
+    let bytes = with_schema(alloc, schema, &[])?;
+    if is_hex {
+        let text = hex_line(alloc, bytes.as_slice())?;
+        return Ok(yes(text.into_bytes()));
+    }
+    Ok(yes(bytes))
+}
+
+/// Writes a reply, and returns whether its answer is yes.
+fn write_whole<'a, W: Write>(reply: Reply, out: &mut W) -> Result<bool, Failure<'a>>
+    ensures { Prints (IsReplyOf reply) Never W.writing out.old out.new result }
+{
+    let Reply { is_yes, mut output } = reply;
+    write_made(&mut output, out)?;
+    Ok(is_yes)
 }
 
 fn yes(output: Vec<u8>) -> Reply

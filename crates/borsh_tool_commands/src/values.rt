@@ -6,8 +6,8 @@ ghost use Rattle.borsh_tool_commands.specs.Colored.{IsShowFailure, Paints};
 ghost use Rattle.borsh_tool_commands.specs.Failures.{IsFailure, IsNoAnswer, IsNoContainer, IsNoContainerInFront, IsNoContainerJson, IsNoJson, IsNoMemory, IsNoValue};
 ghost use Rattle.borsh_tool_commands.specs.Plain.{digits, escaped};
 ghost use Rattle.borsh_tool_commands.specs.Printed.{printed};
-ghost use Rattle.borsh_tool_commands.specs.Json.{IsJson, IsJsonLine};
-ghost use Rattle.borsh_tool_commands.specs.Sent.{EncodesJson, IsContainer, IsOwnSchema, IsSchemaJson, IsSent, schema_encoding};
+ghost use Rattle.borsh_tool_commands.specs.Json.{IsJsonInOrder, IsJsonLine};
+ghost use Rattle.borsh_tool_commands.specs.Sent.{EncodesJson, IsContainer, IsOwnSchema, IsSchemaJson, IsSent, ReadsSchema, schema_encoding};
 ghost use Rattle.borsh_io.specs.declared.error.ErrorKind.TheVariants.{OutOfMemory as NoRoom};
 ghost use Rattle.borsh_json.specs.declared.error.JsonError.TheVariants.{OutOfMemory as NoMemory};
 ghost use Rattle.borsh_walks.specs.Container.{Member};
@@ -16,13 +16,14 @@ ghost use Rattle.borsh_walks.specs.Definitions.{definitions_in};
 use super::answers::{Answer, line};
 use super::columns::write_rows;
 use super::failure::Failure;
+use super::not_json::not_json;
 use super::plain_text::PlainText;
-use borsh::io::{Error, ErrorKind, Write};
+use borsh::io::{Error, ErrorKind, Read, Write};
 use borsh::schema::{BorshSchemaContainer, Definition};
 use borsh::ser::write_two;
-use borsh::{BorshDeserialize, from_slice, schema_container_of, to_vec};
+use borsh::{BorshDeserialize, BorshSchema, from_slice};
 use borsh_json::{Characters, JsonError, Style, check_strict, from_json, to_json};
-use borsh_values::{Layout, Membership, is_member};
+use borsh_values::{Membership, Plan, is_member};
 use std::alloc::{AllocError, Global};
 use std::collections::BTreeMap;
 use std::str;
@@ -64,6 +65,22 @@ pub fn schema_in_front<'a, 'b>(
     }
 }
 
+/// The container whose encoding a reader gives first, of which no more is read. The errors are those of [`schema_from`].
+pub fn schema_read<'a, R: Read>(
+    alloc: Global,
+    path: &'a str,
+    reader: &mut R,
+) -> Result<Schema, Failure<'a>>
+    ensures { IfOk result (ReadsSchema (R.stream reader.old) (R.stream reader.new)) }
+{
+    let decoded: Result<(String, BTreeMap<String, Definition>), Error> =
+        BorshDeserialize::deserialize_reader(alloc, reader);
+    match decoded {
+        Ok((root, definitions)) => Ok(Schema { root, definitions }),
+        Err(error) => Err(no_container(path, error)),
+    }
+}
+
 /// The encoding of a container, and behind it the bytes of a value.
 pub fn with_schema(alloc: Global, schema: &Schema, value: &[u8]) -> Result<Vec<u8>, AllocError>
     ensures { IfOk result (λ sent. IsSent schema.now value.now sent.items) }
@@ -81,13 +98,14 @@ pub fn own_schema<'a>(alloc: Global) -> Result<Schema, Failure<'a>>
     ensures ok { IfOk result IsOwnSchema }
     ensures err { IfErr result IsNoMemory }
 {
-    let Ok(container) = schema_container_of::<BorshSchemaContainer>(alloc) else {
+    let mut definitions = BTreeMap::new(alloc);
+    let Ok(()) = BorshSchemaContainer::add_definitions_recursively(alloc, &mut definitions) else {
         return Err(Failure::OutOfMemory);
     };
-    match to_vec(alloc, &container) {
-        Ok(bytes) => schema_from(alloc, "self", bytes.as_slice()),
-        Err(_) => Err(Failure::OutOfMemory),
-    }
+    let Ok(root) = <BorshSchemaContainer as BorshSchema>::declaration(alloc) else {
+        return Err(Failure::OutOfMemory);
+    };
+    Ok(Schema { root, definitions })
 }
 
 /// The container whose encoding the bytes are as JSON by the container of containers, and a line feed. The errors are those of
@@ -157,7 +175,7 @@ pub fn bytes_said<'a>(
     path: &'a str,
     json: &[u8],
 ) -> Result<Vec<u8>, Failure<'a>>
-    ensures ok { IfOk result (λ bytes. IsJson schema.now.definitions (string_bytes schema.now.root)
+    ensures ok { IfOk result (λ bytes. IsJsonInOrder schema.now.definitions (string_bytes schema.now.root)
         json.now bytes.items) }
     ensures err { IfErr result (IsNoValue schema.now.definitions (string_bytes schema.now.root)
         path.now json.now) }
@@ -167,7 +185,7 @@ pub fn bytes_said<'a>(
     };
     match from_json(alloc, schema.root.as_str(), &schema.definitions, text) {
         Ok(bytes) => Ok(bytes),
-        Err(error) => Err(no_value_said(alloc, path, text, error)),
+        Err(error) => Err(no_value_said(alloc, path, text, false, error)),
     }
 }
 
@@ -284,8 +302,8 @@ pub fn show<'a, W: Write>(
     ensures err { IfErr result (IsShowFailure (definitions_in schema.now.definitions)
         (string_bytes schema.now.root) path.now bytes.now) }
 {
-    let layout = Layout::new(alloc, schema.root.as_str(), &schema.definitions)?;
-    write_rows(alloc, &layout, path, bytes, is_colored, out)
+    let plan = Plan::new(alloc, schema.root.as_str(), &schema.definitions)?;
+    write_rows(alloc, &plan, path, bytes, is_colored, out)
 }
 
 /// Bytes as hexadecimal digits, and a line feed.
@@ -298,26 +316,23 @@ pub fn hex_line(alloc: Global, bytes: &[u8]) -> Result<PlainText, AllocError>
     Ok(out)
 }
 
-/// The failure of JSON that says no value. Where it isn't JSON, the place is a line and a column.
-fn no_value_said<'a>(alloc: Global, path: &'a str, json: &str, error: JsonError<'_>) -> Failure<'a>
+/// The failure of JSON that says no value: of a whole text, or of a line alone.
+pub(crate) fn no_value_said<'a>(
+    alloc: Global,
+    path: &'a str,
+    json: &str,
+    is_line: bool,
+    error: JsonError<'_>,
+) -> Failure<'a>
     ensures { IsFailure path.now ⊥ (error.entry ≡ NoMemory → ⊥) ⊥ result }
 {
     let JsonError::NotJson(offset) = error else {
         return no_value(alloc, path, error);
     };
-    let (line, column) = line_and_column(json, offset);
-    match format!(in alloc; "not JSON, near line {line}, column {column}") {
+    match not_json(alloc, json, offset, is_line) {
         Ok(text) => Failure::NotValue(path, text),
         Err(_) => Failure::OutOfMemory,
     }
-}
-
-/// The line and the column of a byte of a text, which count lines and characters from 1 on.
-fn line_and_column(text: &str, offset: usize) -> (usize, usize) {
-    let before = text.get(..offset).unwrap_or(text);
-    let line = before.split('\n').count();
-    let last = before.rsplit('\n').next().unwrap_or(before);
-    (line, last.chars().count().saturating_add(1))
 }
 
 /// The failure of a value that has no JSON, or of JSON that says no value.

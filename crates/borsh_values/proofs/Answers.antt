@@ -1,5 +1,5 @@
 -- Answers of the loop over the bytes.
-use Rattle.std.proofs.Common.{◌≡◌, ℕ, suc, zero, Some, None, ◌+◌, ◌-◌, ◌<◌, ◌≤◌, List, [], ◌∷◌, ◌++◌, length, take, drop, Ok, Err, refl, sym, ◌∙◌, ap, subst, arith, append_assoc, append-nil, length-append, length-drop, drop-drop, take-add, take-append-drop, length-take-le, inl, inr}
+use Rattle.std.proofs.Common.{◌≡◌, ℕ, suc, zero, Some, ◌+◌, ◌-◌, ◌<◌, ◌≤◌, List, [], ◌∷◌, ◌++◌, length, take, drop, Ok, Err, refl, sym, ◌∙◌, ap, subst, arith, append_assoc, append-nil, length-append, length-drop, drop-drop, take-add, take-append-drop, length-take-le, inl, inr}
 use Rattle.std.specs.Prelude.{Option, Result, IfOk}
 use Rattle.std.proofs.lemmas.Bool.{cases_lt}
 use Rattle.borsh_walks.specs.Container.{Shape, primitive, sequence, product, choice, Member, Reached, stays}
@@ -8,18 +8,15 @@ use Rattle.borsh_values.specs.declared.faults.Reason.{Reason}
 use Rattle.borsh_values.specs.declared.faults.Reason.TheVariants.{BytesLeft, TooShort as IsShort, Count, Tag, MissingDefinition, Recursive}
 use Rattle.borsh_values.specs.declared.fronts.Front.{Front}
 use Rattle.borsh_values.specs.declared.fronts.Front.TheVariants.{Value, TooShort, NoMember, Ambiguous}
-use Rattle.borsh_values.specs.Faults.{BeginsWith, Refuses, HasOtherCount, HasOtherTag, IsRefused, LeadsTo, IsWhy, Stops, IsFault}
+use Rattle.borsh_values.specs.Faults.{BeginsWith, Refuses, HasOtherCount, HasOtherTag, IsRefused, IsWhy, Stops, IsFault}
 use Rattle.borsh_values.specs.Nodes.{Reads}
 use Rattle.borsh_values.specs.Fronts.{IsAt, StopsAt, IsFront, HasNoFront, IsFrontAnswer}
 use Rattle.borsh_values.specs.Steps.{NoneBegins}
-use Rattle.borsh_values.proofs.FrontLaws.{Begun, begun_end}
+use Rattle.borsh_values.specs.Cursor.{Begun, Why, before}
+use Rattle.borsh_values.proofs.FrontLaws.{begun_end}
 use Rattle.borsh_values.proofs.TakesLaws.{take_front}
 
 -- ---- bytes that are read, and those that are left
--- the bytes before those that are left
-abbrev pub before : List ℕ → List ℕ → List ℕ
-before bytes left = take (length bytes - length left) bytes
-
 pub before_start : (xs : List ℕ) → [] ≡ before xs xs
 before_start xs = ap (λ k. take k xs) {x = 0} {y = length xs - length xs} (omega arith)
 
@@ -53,14 +50,6 @@ module _ (C : List ℕ → Option Shape) (root bytes : List ℕ) where
   }
 
 -- ---- why no member of a name begins at the bytes that are left
-abbrev pub Why : (List ℕ → Option Shape) → Reason → List ℕ → List ℕ → Type 0
-Why C BytesLeft x left = ⊥
-Why C IsShort x left = IsRefused C IsShort x left
-Why C Count x left = IsRefused C Count x left
-Why C Tag x left = IsRefused C Tag x left
-Why C MissingDefinition x left = C x ≡ None
-Why C Recursive x left = LeadsTo C x x
-
 pub refused_why : (C : List ℕ → Option Shape) (r : Reason) (d : Shape) (x left : List ℕ) → C x ≡ Some d → Refuses C r d left → Why C r x left
 refused_why C BytesLeft d x left c h = h
 refused_why C IsShort d x left c h = (d, c, h)

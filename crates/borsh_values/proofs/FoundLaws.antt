@@ -1,10 +1,11 @@
 -- Variants found one after another.
 use Rattle.std.proofs.Common.{◌≡◌, ℕ, suc, zero, ◌+◌, ◌<◌, ◌≤◌, List, [], ◌∷◌, ◌++◌, length, take, map, get_or, Some, refl, sym, ◌∙◌, ap, subst, arith, add-one, ◌⊎◌, inl, inr}
-use Rattle.std.specs.Prelude.{ℤ, pos, negsuc, slice_get, option_map, string_bytes, String}
+use Rattle.std.specs.Prelude.{Option, ℤ, pos, negsuc, slice_get, option_map, string_bytes, String}
 use Rattle.std.specs.Global.{Global}
 use Rattle.std.proofs.lemmas.Option.{slice_get_read, slice_get-map}
 use Rattle.std.proofs.lemmas.List.{length-map}
 use Rattle.borsh_walks.specs.Container.{IsListedVariant, first_variant, later_variant, tag}
+use Rattle.borsh_plan.proofs.NameLaws.{get_last, get_left, get_more}
 use Rattle.borsh_values.specs.Unambiguous.{DistinctTags, no_tags, more_tags}
 use Rattle.borsh_values.specs.Steps.{FoundAs, more_found}
 use Rattle.borsh_values.specs.declared.tags.Found.{Found}
@@ -32,10 +33,6 @@ no_tag t k e = ap (λ l. tag (length l) k) e ∙ none k ∙ sym e
     none (pos n) = refl
     none (negsuc n) = refl
 
-pub only_last : {j : ℤ} {q : List ℕ} {k : ℤ} {p : List ℕ} → IsListedVariant j q ((k, p) ∷ []) → q ≡ p
-only_last first_variant = refl
-only_last (later_variant a) = elim a [ ]
-
 pub twice : (w : ℕ) {k : ℤ} (j : ℤ) {p : List ℕ} (q : List ℕ) (xs : List (ℤ × List ℕ)) (t : List ℕ) → IsListedVariant k p xs → tag w k ≡ t → tag w j ≡ t → DistinctTags w (xs ++ (j, q) ∷ []) → ⊥
 twice w j q [] t a e f b = elim a [ ]
 twice w j q (x ∷ xs) t first_variant e f (more_tags g b) = g j q (listed_last xs) (e ∙ sym f)
@@ -45,30 +42,35 @@ pub distinct_left : (w : ℕ) (xs ys : List (ℤ × List ℕ)) → DistinctTags 
 distinct_left w [] ys b = no_tags
 distinct_left w (x ∷ xs) ys (more_tags g b) = more_tags (λ k p a. g k p (listed_left xs ys a)) (distinct_left w xs ys b)
 
-get_left : {v : ℤ × List ℕ} (xs ys : List (ℤ × List ℕ)) (i : ℕ) → slice_get xs i ≡ Some v → slice_get (xs ++ ys) i ≡ Some v
-get_left [] ys i e = cc
-get_left (x ∷ xs) ys zero e = e
-get_left (x ∷ xs) ys (suc i) e = get_left xs ys i e
-
-get_last : (v : ℤ × List ℕ) (xs : List (ℤ × List ℕ)) (i : ℕ) → length xs ≡ i → slice_get (xs ++ v ∷ []) i ≡ Some v
-get_last v [] zero h = refl
-get_last v [] (suc i) h = absurd (omega arith)
-get_last v (x ∷ xs) zero h = absurd (omega arith)
-get_last v (x ∷ xs) (suc i) h = get_last v xs i (omega arith)
+pub last_at : (v : ℤ × List ℕ) (xs : List (ℤ × List ℕ)) (i : ℕ) → length xs ≡ i → slice_get (xs ++ v ∷ []) i ≡ Some v
+last_at v xs i l = ap (λ n. slice_get (xs ++ v ∷ []) n) (sym l) ∙ get_last v xs
 
 pub listed_at : (vs : List (ℤ × List ℕ)) (i : ℕ) (k : ℤ) (q : List ℕ) → slice_get vs i ≡ Some (k, q) → IsListedVariant k q vs
 listed_at [] i k q e = cc
 listed_at (v ∷ vs) zero k q e = let h : (k, q) ≡ v = cc in subst (λ u. IsListedVariant k q (u ∷ vs)) h first_variant
 listed_at (v ∷ vs) (suc i) k q e = later_variant (listed_at vs i k q e)
 
+listed_index : {j : ℤ} {q : List ℕ} (vs : List (ℤ × List ℕ)) → IsListedVariant j q vs → (i : ℕ) × (slice_get vs i ≡ Some (j, q))
+listed_index [] a = elim a [ ]
+listed_index (v ∷ vs) first_variant = (0, refl)
+listed_index (v ∷ vs) (later_variant a) = let h = listed_index vs a in (suc h.0, h.1)
+
+-- the variant that was found has the only name
+pub only_name : (vs : List (ℤ × List ℕ)) (t : List ℕ) (i : ℕ) (f : FoundAs vs t (One i)) (j : ℤ) (q : List ℕ) → IsListedVariant j q vs → tag (length t) j ≡ t → q ≡ f.1
+only_name vs t i f j q a b =
+    let h = listed_index vs a in
+    let e : ◌≡◌ {A = Option (ℤ × List ℕ)} (Some (j, q)) (Some (f.0, f.1)) = sym h.1 ∙ ap (λ n. slice_get vs n) (f.4 h.0 j q h.1 b) ∙ f.2 in
+    let v : ◌≡◌ {A = ℤ × List ℕ} (j, q) (f.0, f.1) = cc in
+    ap (λ v. v.1) v
+
 -- a variant with the tag
 pub found_more : (vs : List (ℤ × List ℕ)) (t : List ℕ) (f : Found) (i : ℕ) (k : ℤ) (p : List ℕ) → length vs ≡ i → FoundAs vs t f → tag (length t) k ≡ t → FoundAs (vs ++ (k, p) ∷ []) t (more_found f i)
 found_more vs t Nothing i k p l h e = (
   k,
   p,
-  get_last (k, p) vs i l,
+  last_at (k, p) vs i l,
   e,
-  (λ j q a b. elim (listed_append vs ((k, p) ∷ []) a) [ inl c ↦ absurd (h.0 j q c b) | inr c ↦ only_last c ]),
+  (λ m j q a b. elim (get_more (k, p) vs m a) [ inl c ↦ absurd (h.0 j q (listed_at vs m j q c) b) | inr c ↦ c.0 ∙ l ]),
   λ z. ap (λ l. l ++ (k, p) ∷ []) (h.1 z),
 )
 found_more vs t (One o) i k p l h e = λ a. twice (length t) k p vs t (listed_at vs o h.0 h.1 h.2) h.3 e a
@@ -89,7 +91,7 @@ found_same vs t (One r) k p h off = (
   h.1,
   get_left vs ((k, p) ∷ []) r h.2,
   h.3,
-  (λ j q a b. elim (listed_append vs ((k, p) ∷ []) a) [ inl c ↦ h.4 j q c b | inr c ↦ absurd (off (other_tag {q = q} {p = p} c b)) ]),
+  (λ m j q a b. elim (get_more (k, p) vs m a) [ inl c ↦ h.4 m j q c b | inr c ↦ absurd (off (ap (λ (v : ℤ × List ℕ). tag (length t) v.0) (sym c.1) ∙ b)) ]),
   λ z. absurd (off (no_tag t k z)),
 )
 found_same vs t Several k p h off = λ a. h (distinct_left (length t) vs ((k, p) ∷ []) a)

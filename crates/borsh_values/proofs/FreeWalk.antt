@@ -7,24 +7,15 @@ use Rattle.borsh_walks.proofs.Names.{among_right}
 use Rattle.borsh_values.specs.Steps.{remaining, pending}
 use Rattle.borsh_values.specs.declared.frames.Frame.{Frame}
 use Rattle.borsh_values.specs.declared.frames.Rest.{Rest}
-use Rattle.borsh_values.specs.declared.members.Mark.{Mark}
-use Rattle.borsh_values.proofs.FrontLaws.{Begun, begun_first}
-use Rattle.borsh_values.proofs.Walk.{Walk, Top, Link, Chain, with_rest}
+use Rattle.borsh_values.specs.declared.frames.Mark.{Mark}
+use Rattle.borsh_values.specs.Cursor.{Begun, Walk}
+use Rattle.borsh_values.proofs.FrontLaws.{begun_first}
+use Rattle.borsh_values.proofs.Walk.{far_chain, start_top, with_rest}
 use Rattle.borsh_values.specs.Free.{AreFirst}
-use Rattle.borsh_values.specs.Layouts.{name_at}
-use Rattle.borsh_values.specs.declared.layout.Named.{Named}
+use Rattle.borsh_plan.specs.Names.{name_at}
+use Rattle.borsh_plan.specs.declared.named.Named.{Named}
 
 module _ (C : List ℕ → Option Shape) (ns : List Named) where
-  far_top : (o : ℕ) (f : Frame) → o < f.start → Top C ns o f
-  far_top o f h = record { low = omega arith; only_empty = λ e. absurd (omega arith); needs = λ e. absurd (omega arith) }
-
-  far_link : {o : ℕ} (f : Frame) (y : List ℕ) (s : ℕ) → o < f.start → Link C ns o f y s
-  far_link f y s h = record { low = omega arith; same = λ e. absurd (omega arith); only_empty = λ e. absurd (omega arith); needs = λ e. absurd (omega arith) }
-
-  far_chain : {o u : ℕ} (fs : List Frame) (y : List ℕ) (s : ℕ) → u < o → Chain C ns o fs y s → Chain C ns u fs y s
-  far_chain [] y s h c = tt
-  far_chain (f ∷ fs) y s h c = (far_link f y s (let k = c.0.low in omega (arith, k)), far_chain fs (name_at ns f.at) f.start h c.1)
-
   -- the next names are passed with bytes that are their only members
   pub walk_free : {root done rest : List ℕ} {T : List ℕ → Option Mark} {fs : List Frame} {f : Frame} {L : List (List ℕ)} (qs : List (List ℕ)) (n : ℕ) (r : Rest) → Walk C ns root done T fs f rest L → AreFirst C qs rest n → remaining ns f.rest ≡ qs ++ remaining ns r → 0 < n → Walk C ns root (done ++ take n rest) T fs (with_rest f r) (drop n rest) []
   walk_free {root} {done} {rest} {T} {fs} {f} {L} qs n r w free e more =
@@ -36,8 +27,8 @@ module _ (C : List ℕ → Option Shape) (ns : List Named) where
         empty = w.empty;
         here = λ x h. let k = w.past x (length (drop n rest)) h in absurd (omega (arith, k, less));
         past = λ x k h. let i = w.past x k h in omega (arith, i, less);
-        top = far_top (length (drop n rest)) (with_rest f r) (let k = w.top.low in omega (arith, k, less));
-        chain = far_chain fs (name_at ns f.at) f.start less w.chain;
+        top = start_top C ns (length (drop n rest)) (with_rest f r) (let k = w.top.low in omega (arith, k, less));
+        chain = far_chain C ns fs (name_at ns f.at) f.start less w.chain;
         distinct = distinct_none;
         defined = λ x a. elim a [ ];
         marked = λ x a. elim a [ ];

@@ -3,10 +3,11 @@ use Rattle.std.proofs.Common.{◌≡◌, ℕ, suc, zero, List, [], ◌∷◌, �
 use Rattle.std.specs.Prelude.{Option, ℤ, pos}
 use Rattle.borsh_walks.specs.Container.{Shape, primitive, sequence, product, choice, IsListedVariant, tag, Member, Members, no_members, more_members}
 use Rattle.borsh_walks.proofs.Laws.{length-tag}
+use Rattle.borsh_values.specs.Cursor.{Begun}
 use Rattle.borsh_values.specs.Unambiguous.{UnambiguousShape}
 use Rattle.borsh_values.specs.Faults.{BeginsWith}
 use Rattle.borsh_values.specs.Free.{AreOnly}
-use Rattle.borsh_values.specs.Nodes.{packed_size, OpensElements, Opens, Reads, reads_none}
+use Rattle.borsh_values.specs.Nodes.{packed_size, OpensElements, Opens, reads_none}
 use Rattle.borsh_values.specs.Steps.{OnlyEmpty, OpensOnce}
 use Rattle.borsh_values.proofs.PrefixFree.{member_as, same_front}
 use Rattle.borsh_values.proofs.NodesLaws.{opens_one, opens_member}
@@ -44,14 +45,8 @@ module _ (C : List ℕ → Option Shape) where
       (t.0, t.1, o.4 ∙ ap (λ z. z ∷ []) (f o.0 o.1 o.2 (sym o.3 ∙ t.0)))
 
   -- ---- what was read of a member
-  -- a member of the root that begins as these bytes do is they and members of the names ps, whatever follows
-  pub record Begun (root done : List ℕ) (ps : List (List ℕ)) : Type 0 where
-    pub forth : (xs ys zs : List ℕ) → Member C root xs → xs ++ ys ≡ done ++ zs → (us : List ℕ) × Members C ps us × (zs ≡ us ++ ys)
-    pub back : (us : List ℕ) → Members C ps us → Member C root (done ++ us)
-    pub reads : Reads C (root ∷ []) done ps
-
   module _ {root : List ℕ} where
-    pub begun_start : Begun root [] (root ∷ [])
+    pub begun_start : Begun C root [] (root ∷ [])
     begun_start = record {
       forth = λ xs ys zs m e. (xs, whole C m, sym e);
       back = λ us ms. unwhole C ms;
@@ -59,7 +54,7 @@ module _ (C : List ℕ → Option Shape) where
     }
 
     -- copies of a name with the empty member alone are passed
-    pub begun_skip : {done p : List ℕ} {ps : List (List ℕ)} (k : ℕ) → OnlyEmpty C p → Begun root done (replicate k p ++ ps) → Begun root done ps
+    pub begun_skip : {done p : List ℕ} {ps : List (List ℕ)} (k : ℕ) → OnlyEmpty C p → Begun C root done (replicate k p ++ ps) → Begun C root done ps
     begun_skip k h f = record {
       forth = λ xs ys zs m e. let r = f.forth xs ys zs m e in (r.0, pass C k h r.1, r.2);
       back = λ us ms. f.back us (unpass C k h ms);
@@ -67,7 +62,7 @@ module _ (C : List ℕ → Option Shape) where
     }
 
     -- a name is opened
-    pub begun_on : {done p own : List ℕ} {ps ns : List (List ℕ)} (d : Shape) → C p ≡ Some d → Opens C d own ns → OpensOnce C d own ns → Begun root done (p ∷ ps) → Begun root (done ++ own) (ns ++ ps)
+    pub begun_on : {done p own : List ℕ} {ps ns : List (List ℕ)} (d : Shape) → C p ≡ Some d → Opens C d own ns → OpensOnce C d own ns → Begun C root done (p ∷ ps) → Begun C root (done ++ own) (ns ++ ps)
     begun_on {done} {p} {own} {ps} {ns} d c o unique f = record {
       forth = λ xs ys zs m e.
           let r = f.forth xs ys (own ++ zs) m (e ∙ append_assoc done own zs) in
@@ -85,7 +80,7 @@ module _ (C : List ℕ → Option Shape) where
     }
 
     -- names are passed with bytes that are their only members
-    pub begun_first : {done : List ℕ} (own : List ℕ) (qs ps : List (List ℕ)) → AreOnly C qs own → Begun root done (qs ++ ps) → Begun root (done ++ own) ps
+    pub begun_first : {done : List ℕ} (own : List ℕ) (qs ps : List (List ℕ)) → AreOnly C qs own → Begun C root done (qs ++ ps) → Begun C root (done ++ own) ps
     begun_first {done} own qs ps f w = record {
       forth = λ xs ys zs m e.
           let r = w.forth xs ys (own ++ zs) m (e ∙ append_assoc done own zs) in
@@ -98,7 +93,7 @@ module _ (C : List ℕ → Option Shape) where
     }
 
     -- nothing is left to read: these bytes are a member, and no other front is
-    pub begun_end : {done : List ℕ} → Begun root done [] → Member C root done × ((xs ys zs : List ℕ) → Member C root xs → xs ++ ys ≡ done ++ zs → xs ≡ done)
+    pub begun_end : {done : List ℕ} → Begun C root done [] → Member C root done × ((xs ys zs : List ℕ) → Member C root xs → xs ++ ys ≡ done ++ zs → xs ≡ done)
     begun_end {done} f = (
       subst (λ l. Member C root l) (append-nil done) (f.back [] no_members),
       λ xs ys zs m e.
@@ -108,7 +103,7 @@ module _ (C : List ℕ → Option Shape) where
     )
 
     -- where no member of the next name begins at the rest, none of the root begins at all bytes
-    pub begun_denied : {done p rest : List ℕ} {ps : List (List ℕ)} → Begun root done (p ∷ ps) → (BeginsWith C p rest → ⊥) → BeginsWith C root (done ++ rest) → ⊥
+    pub begun_denied : {done p rest : List ℕ} {ps : List (List ℕ)} → Begun C root done (p ∷ ps) → (BeginsWith C p rest → ⊥) → BeginsWith C root (done ++ rest) → ⊥
     begun_denied f deny m =
         let r = f.forth m.0 m.1 _ m.2 (sym m.3) in
         let s = members_head C r.1 in

@@ -14,13 +14,11 @@ pub mod KeyLaws
 pub mod DistinctLaws
 pub mod TableLaws
 pub mod NodesLaws
-pub mod LayoutLaws
-pub mod Building
 pub mod Places
 pub mod Going
-pub mod ZeroLaws
+pub mod Stepping
+pub mod Folding
 pub mod FreeLaws
-pub mod SizesLaws
 pub mod ReadsLaws
 pub mod FrontLaws
 pub mod NextLaws

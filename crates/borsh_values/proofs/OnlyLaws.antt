@@ -4,13 +4,13 @@ use Rattle.std.specs.Prelude.{Option, All, IfSome, MatchOption, slice_get, ℤ}
 use Rattle.std.proofs.lemmas.List.Elements.{All-take, All-drop}
 use Rattle.borsh_walks.specs.Container.{Shape, product, choice, Members, no_members}
 use Rattle.borsh_walks.specs.Container.{variant_names}
-use Rattle.borsh_values.specs.declared.layout.Named.{Named}
+use Rattle.borsh_plan.specs.declared.named.Named.{Named}
 use Rattle.borsh_values.specs.declared.frames.Rest.TheVariants.{Copies}
 use Rattle.borsh_values.specs.declared.tags.Found.TheVariants.{One}
 use Rattle.borsh_values.specs.Nodes.{Opens}
 use Rattle.borsh_values.specs.Steps.{OpensOnce, Takes, FoundAs, step_count}
 use Rattle.borsh_values.specs.Free.{FreeSize, FreeSizes, AreOnly, AreFirst, IsTagLength, IsRun, IsFreeFront, Passes}
-use Rattle.borsh_values.specs.Layouts.{name_at}
+use Rattle.borsh_plan.specs.Names.{name_at}
 use Rattle.borsh_values.specs.declared.free.Passed.{Passed}
 use Rattle.borsh_values.specs.declared.runs.Run.{Run}
 use Rattle.borsh_values.proofs.PrefixFree.{same_front}

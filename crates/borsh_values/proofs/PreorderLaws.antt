@@ -1,115 +1,129 @@
--- Places in a value, one after another.
-use Rattle.std.proofs.Common.{◌≡◌, ℕ, ◌<◌, List, [], ◌∷◌, ◌++◌, length, replicate, suc, zero, Some, None, sym, ◌∙◌, ap, subst, append_assoc, append-nil}
-use Rattle.std.specs.Prelude.{Option, MatchOption}
+-- Nodes of a value, one after another.
+use Rattle.std.proofs.Common.{◌≡◌, ℕ, suc, zero, ◌-◌, List, [], ◌∷◌, ◌++◌, length, replicate, reverse, Some, refl, sym, ◌∙◌, ap, subst, arith, append_assoc, append-nil, length-append, ◌⊎◌, inl, inr}
+use Rattle.std.specs.Prelude.{Option}
 use Rattle.std.specs.Borrow.{Bor}
+use Rattle.std.specs.BTreeMap.{get_by_text}
 use Rattle.borsh_walks.specs.Container.{Shape, IsZeroSize, Member, Members}
-use Rattle.borsh_walks.specs.Definitions.{definitions_in, shape_of}
-use Rattle.borsh_values.specs.declared.frames.Rest.{Rest}
-use Rattle.borsh_values.specs.declared.frames.Rest.TheVariants.{Copies}
-use Rattle.borsh_values.specs.declared.frames.Step.{Step}
-use Rattle.borsh_values.specs.declared.layout.Layout.{Layout}
-use Rattle.borsh_values.specs.declared.layout.Named.{Named}
+use Rattle.borsh_walks.specs.Definitions.{shape_of}
+use Rattle.borsh_values.specs.declared.cursor.Cursor.{Cursor}
+use Rattle.borsh_values.specs.declared.cursor.Event.{Event}
+use Rattle.borsh_values.specs.declared.cursor.Event.TheVariants.{Pass, Close, Fault, Undecided}
+use Rattle.borsh_values.specs.declared.faults.Reason.{Reason}
+use Rattle.borsh_plan.specs.declared.plan.Plan.{Plan}
 use Rattle.borsh_values.specs.declared.nodes.Node.{Node}
-use Rattle.borsh_values.specs.declared.preorder.Place.{Place}
-use Rattle.borsh_values.specs.declared.preorder.Places.{Places}
 use Rattle.borsh_values.specs.declared.preorder.Preorder.{Preorder}
-use Rattle.borsh_values.specs.declared.walker.Walker.{Walker}
-use Rattle.borsh_values.specs.Free.{KnowsSizes}
-use Rattle.borsh_values.specs.Layouts.{IsLaidOut, name_at, name_of}
+use Rattle.borsh_values.specs.Cursor.{Happens, IsBegun, IsCursor, IsStopped, PassesCopies, Stays, before, name_in, pending_names}
+use Rattle.borsh_plan.specs.Plan.{definitions_of, map_of, names_of, root_of}
+use Rattle.borsh_plan.proofs.Places.{name_there}
+use Rattle.borsh_plan.specs.Names.{name_at, name_of}
 use Rattle.borsh_values.specs.Membership.{IsUndecided}
 use Rattle.borsh_values.specs.Nodes.{Opens}
-use Rattle.borsh_values.specs.Steps.{Fits, GoesOn, remaining, past_copies}
-use Rattle.borsh_values.specs.Preorder.{outer_names, place_names, OuterFit, ArePlaces, AreZero, ComesNext, IsInValue}
-use Rattle.borsh_values.specs.Walks.{IsNodeOf, IsReadTo, IsWalker, TakesAt}
-use Rattle.borsh_values.proofs.Places.{Passes, passes, root_there}
-use Rattle.borsh_values.proofs.WalkedLaws.{read_start, read_zero}
-
-module _ (ns : List Named) where
-  -- the innermost place has the first names
-  pub names_last : (ps : List Place) (p : Place) → outer_names ns (ps ++ p ∷ []) ≡ remaining ns p.rest ++ outer_names ns ps
-  names_last [] p = sym (append-nil (remaining ns p.rest))
-  names_last (q ∷ ps) p = ap (λ l. l ++ remaining ns q.rest) (names_last ps p) ∙ append_assoc (remaining ns p.rest) (outer_names ns ps) (remaining ns q.rest)
-
-  pub fit_last : (ps : List Place) (p : Place) → OuterFit ns ps → Fits ns p.rest → OuterFit ns (ps ++ p ∷ [])
-  fit_last [] p h f = (f, tt)
-  fit_last (q ∷ ps) p h f = (h.0, fit_last ps p h.1 f)
-
-  pub last_fit : (ps : List Place) (p : Place) → OuterFit ns (ps ++ p ∷ []) → OuterFit ns ps × Fits ns p.rest
-  last_fit [] p h = (tt, h.0)
-  last_fit (q ∷ ps) p h = let t = last_fit ps p h.1 in ((h.0, t.0), t.1)
+use Rattle.borsh_values.specs.Preorder.{AreZero, GivesNode}
+use Rattle.borsh_values.specs.Steps.{pending}
+use Rattle.borsh_values.proofs.Answers.{before_whole}
+use Rattle.borsh_values.proofs.Packed.{no_more}
+use Rattle.borsh_values.proofs.Stepping.{members_left}
 
 module _ (C : List ℕ → Option Shape) where
-  pub zeros_more : (xs ys : List (List ℕ)) → AreZero C xs → AreZero C ys → AreZero C (xs ++ ys)
+  zeros_more : (xs ys : List (List ℕ)) → AreZero C xs → AreZero C ys → AreZero C (xs ++ ys)
   zeros_more [] ys h k = k
   zeros_more (x ∷ xs) ys h k = (h.0, zeros_more xs ys h.1 k)
 
-  pub zero_copies : (k : ℕ) (x : List ℕ) → IsZeroSize C x → AreZero C (replicate k x)
+  zero_copies : (k : ℕ) (x : List ℕ) → IsZeroSize C x → AreZero C (replicate k x)
   zero_copies zero x z = tt
   zero_copies (suc k) x z = (z, zero_copies k x z)
-
-  -- names of zero size are passed
-  pub read_zeros : (xs : List (List ℕ)) {root done left : List ℕ} {ps : List (List ℕ)} → AreZero C xs → IsReadTo C root done (xs ++ ps) left → IsReadTo C root done ps left
-  read_zeros [] h r = r
-  read_zeros (x ∷ xs) h r = read_zeros xs h.1 (read_zero C h.0 r)
 
   -- of the names all before these were passed
   abbrev pub PassedTo : List (List ℕ) → List (List ℕ) → Type 0
   PassedTo names now = (zeros : List (List ℕ)) × AreZero C zeros × (names ≡ zeros ++ now)
 
+  passed_copies : (names old new : List (List ℕ)) (k : ℕ) (x : List ℕ) → PassedTo names old → IsZeroSize C x → old ≡ replicate k x ++ new → PassedTo names new
+  passed_copies names old new k x h z e = (h.0 ++ replicate k x, zeros_more h.0 (replicate k x) h.1 (zero_copies k x z), h.2 ∙ ap (λ l. h.0 ++ l) e ∙ sym (append_assoc h.0 (replicate k x) new))
+
+-- so far no node is given: names of zero size are passed
+pub record NoneYet (old now : Cursor) : Type 0 where
+  pub cursor : IsCursor now
+  pub member : Member (definitions_of now.plan.now) (root_of now.plan.now) now.bytes.now
+  pub plan : now.plan ≡ old.plan
+  pub bytes : now.bytes ≡ old.bytes
+  pub left : now.left ≡ old.left
+  pub passed : PassedTo (definitions_of old.plan.now) (pending_names old) (pending_names now)
+
+pub none_yet : (c : Cursor) → IsCursor c → Member (definitions_of c.plan.now) (root_of c.plan.now) c.bytes.now → NoneYet c c
+none_yet c i m = record { cursor = i; member = m; plan = refl; bytes = refl; left = refl; passed = ([], tt, refl) }
+
+module _ (old now : Cursor) (h : NoneYet old now) (new : Cursor) (i : IsCursor new) (s : Stays now new) where
+  pub still_member : Member (definitions_of new.plan.now) (root_of new.plan.now) new.bytes.now
+  still_member = subst (λ (l : Bor Plan). Member (definitions_of l.now) (root_of l.now) new.bytes.now) (sym s.0) (subst (λ b. Member (definitions_of now.plan.now) (root_of now.plan.now) b.now) (sym s.1) h.member)
+
+  onward : new.left ≡ now.left → PassedTo (definitions_of old.plan.now) (pending_names old) (pending (names_of now.plan.now) (new.frame ∷ reverse new.stack.items)) → NoneYet old new
+  onward e p = record {
+    cursor = i;
+    member = still_member;
+    plan = s.0 ∙ h.plan;
+    bytes = s.1 ∙ h.bytes;
+    left = e ∙ h.left;
+    passed = subst (λ (l : Bor Plan). PassedTo (definitions_of old.plan.now) (pending_names old) (pending (names_of l.now) (new.frame ∷ reverse new.stack.items))) (sym s.0) p;
+  }
+
   -- copies of one more are passed
-  pub pass_copies : (ns : List Named) (names outer : List (List ℕ)) (r t : Rest) (s : Step) → PassedTo names (remaining ns r ++ outer) → GoesOn ns r s → IsZeroSize C (name_at ns s.at) → t ≡ past_copies r s → PassedTo names (remaining ns t ++ outer) × Fits ns t
-  pass_copies ns names outer r t s h g z e =
-      let p = subst (λ t. Passes ns r s t) (sym e) (passes ns r s g) in
-      let copies = replicate (suc p.0) (name_at ns s.at) in
-      let same : remaining ns r ++ outer ≡ copies ++ (remaining ns t ++ outer) = ap (λ l. l ++ outer) p.1 ∙ append_assoc copies (remaining ns t) outer in
-      ((h.0 ++ copies, zeros_more h.0 copies h.1 (zero_copies (suc p.0) (name_at ns s.at) z), h.2 ∙ ap (λ l. h.0 ++ l) same ∙ sym (append_assoc h.0 copies (remaining ns t ++ outer))), p.3)
+  pub passed_on : (x : List ℕ) → IsZeroSize (definitions_of now.plan.now) x → PassesCopies now new x → NoneYet old new
+  passed_on x z p =
+      let zero : IsZeroSize (definitions_of old.plan.now) x = subst (λ (l : Bor Plan). IsZeroSize (definitions_of l.now) x) h.plan z in
+      onward p.left (passed_copies (definitions_of old.plan.now) (pending_names old) (pending_names now) (pending (names_of now.plan.now) (new.frame ∷ reverse new.stack.items)) (suc p.others) x h.passed zero p.names)
 
-  -- the place around comes next
-  pub pass_up : (ns : List Named) (names : List (List ℕ)) (r : Rest) (old new : List Place) (p : Place) → PassedTo names (remaining ns r ++ outer_names ns old) → remaining ns r ≡ [] → old ≡ new ++ p ∷ [] → OuterFit ns old → PassedTo names (remaining ns p.rest ++ outer_names ns new) × Fits ns p.rest × OuterFit ns new
-  pass_up ns names r old new p h none e fit =
-      let f = last_fit ns new p (subst (λ l. OuterFit ns l) e fit) in
-      let same = ap (λ l. l ++ outer_names ns old) none ∙ ap (λ l. outer_names ns l) e ∙ names_last ns new p in
-      ((h.0, h.1, h.2 ∙ ap (λ l. h.0 ++ l) same), f.1, f.0)
+  -- a value ends
+  pub closed : new.left ≡ now.left → pending (names_of now.plan.now) (new.frame ∷ reverse new.stack.items) ≡ pending_names now → NoneYet old new
+  closed e p = onward e (subst (λ ps. PassedTo (definitions_of old.plan.now) (pending_names old) ps) (sym p) h.passed)
 
--- ---- the next name
-module _ (C : List ℕ → Option Shape) (ns : List Named) where
-  abbrev IsNext : Places → Step → Type 0
-  IsNext ps s = GoesOn ns ps.place.rest s × (IsZeroSize C (name_at ns s.at) → ⊥)
+module _ (old now : Cursor) (h : NoneYet old now) where
+  -- all values end
+  pub none_left : pending_names now ≡ [] → old.left.now ≡ []
+  none_left e = ap (λ b. b.now) (sym h.left) ∙ no_more (subst (λ ps. Members (definitions_of now.plan.now) ps now.left.now) e (members_left now h.cursor h.member))
 
-  pub read_next : (old new : Places) {found : Option Step} {root done left : List ℕ} → ComesNext C ns old new found → IsReadTo C root done (place_names ns old) left → IsReadTo C root done (place_names ns new) left
-  read_next old new {root = root} {done = done} {left = left} n r = read_zeros C n.zeros n.none (subst (λ l. IsReadTo C root done l left) n.names r)
+  -- a value of the next name begins in a member
+  pub not_stopped : (x : List ℕ) (r : Reason) → IsStopped (definitions_of now.plan.now) (root_of now.plan.now) (before now.bytes.now now.left.now) now.left.now x r → ⊥
+  not_stopped x r t = t.no [] (λ _. refl) (now.bytes.now, [], h.member, append-nil (before now.bytes.now now.left.now ++ now.left.now) ∙ before_whole now.bytes.now now.left.now h.cursor.suffix ∙ sym (append-nil now.bytes.now))
 
-  pub next_none : (old new : Places) (found : Option Step) → ComesNext C ns old new found → found ≡ None → place_names ns new ≡ []
-  next_none old new found n e = subst (λ o. MatchOption o (place_names ns new ≡ []) (λ s. IsNext new s)) e n.next
+-- an event of which no node comes
+module _ (old now : Cursor) (h : NoneYet old now) (new : Cursor) (s : Stays now new) (e : Event) (k : Happens now new e) where
+  pub goes_on : IsCursor new → ((x : ℕ) × (e ≡ Pass x)) ⊎ (e ≡ Close) → NoneYet old new
+  goes_on i (inl p) = let q = subst (λ e. Happens now new e) p.1 k in passed_on old now h new i s (name_in now p.0) q.0.1 q.1
+  goes_on i (inr p) = let q = subst (λ e. Happens now new e) p k in closed old now h new i s q.0 q.1
 
-  pub next_some : (old new : Places) (found : Option Step) (s : Step) → ComesNext C ns old new found → found ≡ Some s → GoesOn ns new.place.rest s × (IsZeroSize C (name_at ns s.at) → ⊥)
-  next_some old new found s n e = subst (λ o. MatchOption o (place_names ns new ≡ []) (λ s. IsNext new s)) e n.next
+  pub undecided : (at : ℕ) → ((r : Reason) × (e ≡ Fault at r)) ⊎ (e ≡ Undecided at) → (x : List ℕ) → x ≡ name_at (names_of new.plan.now) at → IsUndecided (definitions_of old.plan.now) (root_of old.plan.now) x
+  undecided at (inl p) x n = let q = subst (λ e. Happens now new e) p.1 k in absurd (not_stopped old now h (name_in now at) p.0 q.1)
+  undecided at (inr p) x n =
+      let q = subst (λ e. Happens now new e) p k in
+      let name : x ≡ name_in now at = n ∙ ap (λ l. name_at (names_of l.now) at) s.0 in
+      subst (λ (l : Bor Plan). IsUndecided (definitions_of l.now) (root_of l.now) x) h.plan (subst (λ y. IsUndecided (definitions_of now.plan.now) (root_of now.plan.now) y) (sym name) q.1)
 
--- ---- its node
-module _ (w v : Walker) (at : ℕ) (found : Option (Node × Rest)) (x : List ℕ) (there : name_of w.layout.now.names.items at ≡ Some x) (takes : TakesAt at w v found) where
-  pub taken : (t : Node × Rest) → found ≡ Some t → IsNodeOf w.layout.now.map.now x w v t.0 × Fits w.layout.now.names.items t.1 × Opens (definitions_in w.layout.now.map.now) (shape_of t.0.definition.now) t.0.bytes.now (remaining w.layout.now.names.items t.1)
-  taken t e = let k = subst (λ f. TakesAt at w v f) e takes in (k.0 x there, k.1.0, k.1.1)
-
-  pub not_taken : found ≡ None → (ps : List (List ℕ)) → Members (definitions_in w.layout.now.map.now) (x ∷ ps) w.left.now → IsUndecided (definitions_in w.layout.now.map.now) w.layout.now.root.now x
-  not_taken e = let k = subst (λ f. TakesAt at w v f) e takes in k.0 x there
-
--- ---- in a value, by a layout that was known before
-pub inside : (l : Bor Layout) (p : Preorder) → p.walker.layout ≡ l → IsWalker p.walker → KnowsSizes l.now → ArePlaces l.now.names.items p.places → (done : List ℕ) → IsReadTo (definitions_in l.now.map.now) l.now.root.now done (place_names l.now.names.items p.places) p.walker.left.now → IsInValue p
-inside l p e w sizes places done read = record {
-  walker = w;
-  sizes = subst (λ (l : Bor Layout). KnowsSizes l.now) (sym e) sizes;
-  places = subst (λ (l : Bor Layout). ArePlaces l.now.names.items p.places) (sym e) places;
-  done = done;
-  read = subst (λ (l : Bor Layout). IsReadTo (definitions_in l.now.map.now) l.now.root.now done (place_names l.now.names.items p.places) p.walker.left.now) (sym e) read;
-}
-
-module _ (l : Layout) (laid : IsLaidOut l) where
-  -- at the beginning
-  pub names_root : (outer : List Place) → outer ≡ [] → remaining l.names.items (Copies 0 1) ++ outer_names l.names.items outer ≡ l.root.now ∷ []
-  names_root outer none = ap (λ o. (name_at l.names.items 0 ∷ []) ++ outer_names l.names.items o) none ∙ ap (λ x. x ∷ []) (root_there l.map.now l.root.now l.names.items l.parts.items laid).1
-
-  pub read_root : (outer : List Place) (bytes : List ℕ) → Member (definitions_in l.map.now) l.root.now bytes → outer ≡ [] → IsReadTo (definitions_in l.map.now) l.root.now [] (remaining l.names.items (Copies 0 1) ++ outer_names l.names.items outer) bytes
-  read_root outer bytes m none = subst (λ ps. IsReadTo (definitions_in l.map.now) l.root.now [] ps bytes) (sym (names_root outer none)) (read_start (definitions_in l.map.now) m)
-
-  pub fit_root : (outer : List Place) → outer ≡ [] → (0 < length l.names.items) × OuterFit l.names.items outer
-  fit_root outer none = ((root_there l.map.now l.root.now l.names.items l.parts.items laid).0, subst (λ o. OuterFit l.names.items o) (sym none) tt)
+-- the next node
+module _ (old new : Preorder) (now : Cursor) (h : NoneYet old.cursor now) (s : Stays now new.cursor) where
+  pub given : (n : Node) → IsBegun now new.cursor n.at n.definition.now n.bytes.now → n.name.now ≡ name_in now n.at → n.offset ≡ length now.bytes.now - length now.left.now → (IsZeroSize (definitions_of now.plan.now) (name_in now n.at) → ⊥) → GivesNode old new n
+  given n b name offset some =
+      let ns = names_of now.plan.now in
+      let own = n.bytes.now in
+      let others : List (List ℕ) = b.others ++ pending ns (reverse now.stack.items) in
+      let back : IsZeroSize (definitions_of old.cursor.plan.now) n.name.now → IsZeroSize (definitions_of now.plan.now) (name_in now n.at) = λ z. subst (λ x. IsZeroSize (definitions_of now.plan.now) x) name (subst (λ (l : Bor Plan). IsZeroSize (definitions_of l.now) n.name.now) (sym h.plan) z) in
+      let all = ap (λ b. length b.now) h.bytes in
+      let left = ap (λ b. length b.now) h.left in
+      let all_new = ap (λ b. length b.now) s.1 in
+      let split = ap length b.bytes ∙ length-append own new.cursor.left.now in
+      let within = h.cursor.within in
+      let there = name_there ns n.at b.within in
+      record {
+        place = ap (λ (l : Bor Plan). name_of (names_of l.now) n.at) (sym h.plan) ∙ there ∙ ap (λ x. Some x) (sym name);
+        defined = subst (λ (l : Bor Plan). get_by_text (map_of l.now) n.name.now ≡ Some n.definition.now) h.plan (ap (λ x. get_by_text (map_of now.plan.now) x) name ∙ b.defined);
+        bytes = ap (λ b. b.now) (sym h.left) ∙ b.bytes;
+        offset = omega (arith, offset, all, left);
+        next = omega (arith, all, left, all_new, split, within);
+        zeros = h.passed.0;
+        parts = b.parts;
+        others = others;
+        none = h.passed.1;
+        some = λ z. some (back z);
+        before = h.passed.2 ∙ ap (λ l. h.passed.0 ++ (l ++ pending ns (reverse now.stack.items))) b.before ∙ ap (λ x. h.passed.0 ++ (x ∷ others)) (sym name);
+        opens = subst (λ (l : Bor Plan). Opens (definitions_of l.now) (shape_of n.definition.now) own b.parts) h.plan b.opened;
+        after = ap (λ (l : Bor Plan). pending (names_of l.now) (new.cursor.frame ∷ reverse new.cursor.stack.items)) s.0 ∙ b.behind;
+      }

@@ -1,5 +1,5 @@
 -- Tables of tags, made of one variant after another.
-use Rattle.std.proofs.Common.{◌≡◌, ℕ, suc, zero, ◌<◌, List, [], ◌∷◌, ◌++◌, length, refl, sym, ◌∙◌, ap, subst, arith, inl, inr}
+use Rattle.std.proofs.Common.{◌≡◌, ℕ, ◌<◌, List, [], ◌∷◌, ◌++◌, length, refl, sym, ◌∙◌, ap, subst, arith, inl, inr}
 use Rattle.std.specs.Prelude.{ℤ, slice_get, Option, Some, None}
 use Rattle.std.specs.BTreeMap.{BTreeMap}
 use Rattle.std.proofs.lemmas.Bool.{cases_eq}
@@ -7,6 +7,7 @@ use Rattle.borsh_walks.specs.Container.{Shape, choice, IsListedVariant, first_va
 use Rattle.borsh_walks.specs.Tables.{mark_of}
 use Rattle.borsh_walks.proofs.Names.{name_cases}
 use Rattle.borsh_walks.proofs.Tables.{Updated}
+use Rattle.borsh_plan.proofs.NameLaws.{get_left, get_more}
 use Rattle.borsh_values.specs.Unambiguous.{DistinctTags}
 use Rattle.borsh_values.specs.Keys.{IsTagKey, IsKeyOfTag}
 use Rattle.borsh_values.specs.Steps.{FoundAs}
@@ -14,32 +15,12 @@ use Rattle.borsh_values.specs.TagTables.{at_key, IsEntryFor, IsRightAt, IsTagTab
 use Rattle.borsh_values.specs.declared.tags.Found.TheVariants.{Nothing, One, Several}
 use Rattle.borsh_values.specs.declared.tag_tables.AtKey.{AtKey}
 use Rattle.borsh_values.specs.declared.tag_tables.AtKey.TheVariants.{One as AtOne, Several as AtSeveral}
-use Rattle.borsh_values.proofs.FoundLaws.{listed_append, only_last, twice, distinct_left}
+use Rattle.borsh_values.proofs.FoundLaws.{last_at, listed_append, listed_at, twice, distinct_left}
 use Rattle.borsh_values.proofs.KeyLaws.{key_tag, tag_key, key_of_tag}
-
-listed_at : {k : ℤ} {p : List ℕ} (vs : List (ℤ × List ℕ)) (i : ℕ) → slice_get vs i ≡ Some (k, p) → IsListedVariant k p vs
-listed_at [] i e = cc
-listed_at {k} {p} (v ∷ vs) zero e = let q : (k, p) ≡ v = cc in subst (λ u. IsListedVariant k p (u ∷ vs)) q first_variant
-listed_at (v ∷ vs) (suc i) e = later_variant (listed_at vs i e)
-
-get_left : {v : ℤ × List ℕ} (xs ys : List (ℤ × List ℕ)) (i : ℕ) → slice_get xs i ≡ Some v → slice_get (xs ++ ys) i ≡ Some v
-get_left [] ys i e = cc
-get_left (x ∷ xs) ys zero e = e
-get_left (x ∷ xs) ys (suc i) e = get_left xs ys i e
-
-get_last : (v : ℤ × List ℕ) (xs : List (ℤ × List ℕ)) (i : ℕ) → length xs ≡ i → slice_get (xs ++ v ∷ []) i ≡ Some v
-get_last v [] zero h = refl
-get_last v [] (suc i) h = absurd (omega arith)
-get_last v (x ∷ xs) zero h = absurd (omega arith)
-get_last v (x ∷ xs) (suc i) h = get_last v xs i (omega arith)
 
 -- ---- one variant more
 pub table_none : (w : ℕ) (T : ℕ → Option AtKey) → ((n : ℕ) → T n ≡ None) → IsTagTable w [] T
 table_none w T none = record { has = λ k p a. elim a [ ]; right = λ n a h. (let e = none n in cc) }
-
-last_key : {w m : ℕ} {j k : ℤ} {q p : List ℕ} → IsListedVariant j q ((k, p) ∷ []) → IsTagKey w j m → IsTagKey w k m
-last_key first_variant a = a
-last_key (later_variant c) a = elim c [ ]
 
 -- what the table has at another key
 right_other : (w : ℕ) (k : ℤ) (p : List ℕ) (m n : ℕ) (vs : List (ℤ × List ℕ)) (a : AtKey) → IsRightAt w vs m a → IsTagKey w k n → (m ≡ n → ⊥) → IsRightAt w (vs ++ (k, p) ∷ []) m a
@@ -48,26 +29,26 @@ right_other w k p m n vs (AtOne i) h key off = (
   h.1,
   get_left vs ((k, p) ∷ []) i h.2,
   h.3,
-  λ j q a b. elim (listed_append vs ((k, p) ∷ []) a) [
-    | inl c ↦ h.4 j q c b
-    | inr c ↦ absurd (off (tag_key w k k m n (last_key {w = w} {m = m} {q = q} {p = p} c b) key refl))
+  λ o j q a b. elim (get_more (k, p) vs o a) [
+    | inl c ↦ h.4 o j q c b
+    | inr c ↦ absurd (off (tag_key w k k m n (subst (λ (v : ℤ × List ℕ). IsTagKey w v.0 m) c.1 b) key refl))
   ],
 )
 right_other w k p m n vs AtSeveral h key off = λ d. h (distinct_left w vs ((k, p) ∷ []) d)
 
 -- a variant with a key that was there
 clash : (w : ℕ) (k : ℤ) (p : List ℕ) (n : ℕ) (vs : List (ℤ × List ℕ)) (a : AtKey) → IsRightAt w vs n a → IsTagKey w k n → DistinctTags w (vs ++ (k, p) ∷ []) → ⊥
-clash w k p n vs (AtOne i) h key d = twice w k p vs (tag w k) (listed_at vs i h.2) (key_tag w h.0 k n h.3 key) refl d
+clash w k p n vs (AtOne i) h key d = twice w k p vs (tag w k) (listed_at vs i h.0 h.1 h.2) (key_tag w h.0 k n h.3 key) refl d
 clash w k p n vs AtSeveral h key d = h (distinct_left w vs ((k, p) ∷ []) d)
 
 module _ {w : ℕ} {vs : List (ℤ × List ℕ)} {T : ℕ → Option AtKey} (s : IsTagTable w vs T) (k : ℤ) (p : List ℕ) (n : ℕ) (key : IsTagKey w k n) where
   right_here : (i : ℕ) (e : AtKey) (o : Option AtKey) → length vs ≡ i → T n ≡ o → IsEntryFor o i e → IsRightAt w (vs ++ (k, p) ∷ []) n e
   right_here i e None l t x =
-      let others : (j : ℤ) (q : List ℕ) → IsListedVariant j q (vs ++ (k, p) ∷ []) → IsTagKey w j n → q ≡ p = λ j q a b. elim (listed_append vs ((k, p) ∷ []) a) [
-        | inl c ↦ (let h = s.has j q c in absurd (h.2 (ap T (tag_key w j j h.0 n h.1 b refl) ∙ t)))
-        | inr c ↦ only_last c
+      let others : (m : ℕ) (j : ℤ) (q : List ℕ) → slice_get (vs ++ (k, p) ∷ []) m ≡ Some (j, q) → IsTagKey w j n → m ≡ i = λ m j q a b. elim (get_more (k, p) vs m a) [
+        | inl c ↦ (let h = s.has j q (listed_at vs m j q c) in absurd (h.2 (ap T (tag_key w j j h.0 n h.1 b refl) ∙ t)))
+        | inr c ↦ c.0 ∙ l
       ] in
-      subst (λ a. IsRightAt w (vs ++ (k, p) ∷ []) n a) (sym x) (k, p, get_last (k, p) vs i l, key, others)
+      subst (λ a. IsRightAt w (vs ++ (k, p) ∷ []) n a) (sym x) (k, p, last_at (k, p) vs i l, key, others)
   right_here i e (Some a) l t x = subst (λ a. IsRightAt w (vs ++ (k, p) ∷ []) n a) (sym x) (λ d. clash w k p n vs a (s.right n a t) key d)
 
   pub table_more : (i : ℕ) (e : AtKey) {U : ℕ → Option AtKey} → length vs ≡ i → IsEntryFor (T n) i e → U n ≡ Some e → ((m : ℕ) → (m ≡ n → ⊥) → U m ≡ T m) → IsTagTable w (vs ++ (k, p) ∷ []) U
@@ -95,10 +76,6 @@ abbrev first_at : ℤ → Option (ℤ × List ℕ) → ℤ
 first_at z None = z
 first_at z (Some v) = v.0
 
-abbrev second_at : Option (ℤ × List ℕ) → List ℕ
-second_at None = []
-second_at (Some v) = v.1
-
 some_byte : (t : List ℕ) → 0 < length t → t ≡ [] → ⊥
 some_byte t h z = let l = ap (λ l. length l) z in omega (arith, h, l)
 
@@ -123,8 +100,7 @@ module _ {vs : List (ℤ × List ℕ)} (t : List ℕ) {T : ℕ → Option AtKey}
     pub table_one : (k : ℤ) (p : List ℕ) → slice_get vs i ≡ Some (k, p) → tag (length t) k ≡ t → FoundAs vs t (One i)
     table_one k p e g =
         let r = s.right n (AtOne i) at in
-        let same : r.1 ≡ p = ap second_at (sym r.2 ∙ e) in
-        (k, p, e, g, (λ j q a b. r.4 j q a (key_there j q a b) ∙ same), λ z. absurd (some_byte t some z))
+        (k, p, e, g, (λ m j q a b. r.4 m j q a (key_there j q (listed_at vs m j q a) b)), λ z. absurd (some_byte t some z))
 
     pub table_other : (k : ℤ) (p : List ℕ) → slice_get vs i ≡ Some (k, p) → (tag (length t) k ≡ t → ⊥) → FoundAs vs t Nothing
     table_other k p e off =

@@ -8,15 +8,15 @@ use Rattle.borsh_walks.proofs.Names.{among_one}
 use Rattle.borsh_walks.proofs.Laws.{length-tag, among-replicate, variant-listed}
 use Rattle.borsh_values.specs.Unambiguous.{DistinctTags}
 use Rattle.borsh_values.specs.declared.tags.Found.TheVariants.{Nothing, One}
-use Rattle.borsh_values.specs.Layouts.{name_at, shape_at, parts_in, IsPlaceOf}
+use Rattle.borsh_plan.specs.Names.{name_at, shape_at, parts_in, IsPlaceOf}
 use Rattle.borsh_values.specs.declared.frames.Rest.TheVariants.{Copies, Parts}
-use Rattle.borsh_values.specs.declared.layout.Named.{Named}
+use Rattle.borsh_plan.specs.declared.named.Named.{Named}
 use Rattle.borsh_values.specs.declared.frames.Opened.{Opened}
 use Rattle.borsh_values.specs.declared.frames.Opened.TheVariants.{Undecided, Refused, Taken}
 use Rattle.borsh_values.specs.Nodes.{packed_size, OpensElements, Opens}
 use Rattle.borsh_values.specs.Faults.{BeginsWith, Refuses, HasOtherCount, HasOtherTag}
 use Rattle.borsh_values.specs.Steps.{remaining, required_by, OnlyEmpty, AllOnlyEmpty, OpensOnce, NoneBegins, Takes, FoundAs, TakesElements, OpensAs}
-use Rattle.borsh_values.proofs.FoundLaws.{listed_at}
+use Rattle.borsh_values.proofs.FoundLaws.{listed_at, only_name}
 use Rattle.borsh_values.proofs.Packed.{packed_is, copies_are}
 use Rattle.borsh_values.proofs.PrefixFree.{same_front, one_count, member_as}
 use Rattle.borsh_values.proofs.Required.{only_empty_members}
@@ -297,7 +297,7 @@ OneVariant vs t k p = IsListedVariant k p vs × (tag (length t) k ≡ t) × ((j 
 pub found_choice : (C : List ℕ → Option Shape) (w size i : ℕ) (p bytes : List ℕ) (vs : List (ℤ × List ℕ)) → size ≡ w → size ≤ length bytes → FoundAs vs (take size bytes) (One i) → slice_get (variant_names vs) i ≡ Some p → Takes C (choice w vs) bytes size (p ∷ [])
 found_choice C w size i p bytes vs z within g at =
     let same : g.1 ≡ p = (let n = names_at vs i g.0 g.1 g.2 in cc) in
-    let f : OneVariant vs (take size bytes) g.0 p = subst (λ q. OneVariant vs (take size bytes) g.0 q) same (listed_at vs i g.0 g.1 g.2, g.3, g.4, g.5) in
+    let f : OneVariant vs (take size bytes) g.0 p = subst (λ q. OneVariant vs (take size bytes) g.0 q) same (listed_at vs i g.0 g.1 g.2, g.3, only_name vs (take size bytes) i g, g.5) in
     let k0 = g.0 in
     let l : length (take size bytes) ≡ w = length_take size bytes within ∙ z in
     let t : take size bytes ≡ take w bytes = ap (λ i. take i bytes) z in

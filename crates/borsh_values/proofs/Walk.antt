@@ -1,69 +1,43 @@
 -- What the loop keeps, and each of its steps.
-use Rattle.std.proofs.Common.{◌≡◌, ℕ, suc, ◌≤◌, ◌<◌, List, [], ◌∷◌, ◌++◌, length, take, drop, replicate, Some, None, sym, ◌∙◌, ap, subst, arith, append_assoc, append-nil, length-drop, ◌⊎◌, inl, inr}
-use Rattle.std.specs.Prelude.{Option, ⊤}
-use Rattle.borsh_walks.specs.Container.{Shape, IsIn, IsDefined, first, later, Member, of_primitive, of_sequence, of_parts, of_choice, references, Reached, Reaches, IsOnCycle, stays, onward}
-use Rattle.borsh_walks.specs.SizeAnswer.{Distinct, distinct_none, distinct_more}
+use Rattle.std.proofs.Common.{◌≡◌, ℕ, suc, ◌<◌, List, [], ◌∷◌, ◌++◌, length, take, drop, replicate, Some, None, sym, ◌∙◌, ap, subst, arith, append_assoc, append-nil, length-drop, ◌⊎◌, inl, inr}
+use Rattle.std.specs.Prelude.{Option}
+use Rattle.borsh_walks.specs.Container.{Shape, IsIn, first, later, Member, of_primitive, of_sequence, of_parts, of_choice, references, Reached, Reaches, IsOnCycle, stays, onward}
+use Rattle.borsh_walks.specs.SizeAnswer.{distinct_none, distinct_more}
 use Rattle.borsh_values.specs.Faults.{BeginsWith, LeadsTo}
 use Rattle.borsh_values.specs.Nodes.{Opens, Reads, reads_none}
 use Rattle.borsh_values.specs.Steps.{remaining, pending, required_by, OnlyEmpty, AllOnlyEmpty, Takes}
-use Rattle.borsh_values.specs.Layouts.{name_at}
-use Rattle.borsh_values.specs.declared.layout.Named.{Named}
+use Rattle.borsh_plan.specs.Names.{name_at}
+use Rattle.borsh_plan.specs.declared.named.Named.{Named}
 use Rattle.borsh_values.specs.declared.frames.Frame.{Frame}
 use Rattle.borsh_values.specs.declared.frames.Rest.{Rest}
-use Rattle.borsh_values.specs.declared.members.Mark.{Mark}
-use Rattle.borsh_values.specs.declared.members.Mark.TheVariants.{Empty, Open}
+use Rattle.borsh_values.specs.declared.frames.Mark.{Mark}
+use Rattle.borsh_values.specs.declared.frames.Mark.TheVariants.{Empty, Open}
 use Rattle.borsh_walks.proofs.Names.{name_cases, also_defined, among_one, among_append}
 use Rattle.borsh_walks.proofs.Tables.{Updated}
-use Rattle.borsh_values.proofs.FrontLaws.{Begun, begun_start, begun_skip, begun_on, begun_denied}
+use Rattle.borsh_values.specs.Cursor.{Begun, On, Top, Link, Chain, Walk}
+use Rattle.borsh_values.proofs.FrontLaws.{begun_start, begun_skip, begun_on, begun_denied}
 use Rattle.borsh_values.proofs.ReadsLaws.{reads_on, reads_member, reads_skip, leads_on}
 use Rattle.borsh_values.proofs.Required.{only_empty_copies}
 
 abbrev pub with_rest : Frame → Rest → Frame
 with_rest f r = record { at = f.at; start = f.start; rest = r }
 
--- the name is open since o bytes were left
-abbrev pub On : List Named → List ℕ → ℕ → List Frame → Type 0
-On ns x o [] = ⊥
-On ns x o (f ∷ fs) = ((name_at ns f.at ≡ x) × (f.start ≡ o)) ⊎ On ns x o fs
-
 module _ (C : List ℕ → Option Shape) (ns : List Named) where
-  -- of a frame that has taken no byte
-  pub record Top (o : ℕ) (f : Frame) : Type 0 where
-    pub low : o ≤ f.start
-    pub only_empty : f.start ≡ o → AllOnlyEmpty C (remaining ns f.rest) → OnlyEmpty C (name_at ns f.at)
-    pub needs : f.start ≡ o → (d : Shape) × (C (name_at ns f.at) ≡ Some d) × ((p : List ℕ) → IsIn p (remaining ns f.rest) → IsIn p (required_by d)) × (qs : List (List ℕ)) × Opens C d [] qs × Reads C qs [] (remaining ns f.rest)
+  -- frames that were begun before some bytes were taken
+  pub far_link : {o : ℕ} (f : Frame) (y : List ℕ) (s : ℕ) → o < f.start → Link C ns o f y s
+  far_link f y s h = record { low = omega arith; same = λ e. absurd (omega arith); only_empty = λ e. absurd (omega arith); needs = λ e. absurd (omega arith) }
 
-  -- the same, above the open name y, that was opened with s bytes left
-  pub record Link (o : ℕ) (f : Frame) (y : List ℕ) (s : ℕ) : Type 0 where
-    pub low : o ≤ f.start
-    pub same : f.start ≡ o → s ≡ o
-    pub only_empty : f.start ≡ o → OnlyEmpty C y → AllOnlyEmpty C (remaining ns f.rest) → OnlyEmpty C (name_at ns f.at)
-    pub needs : f.start ≡ o → (d : Shape) × (C (name_at ns f.at) ≡ Some d) × IsIn y (required_by d) × ((p : List ℕ) → IsIn p (remaining ns f.rest) → IsIn p (required_by d)) × (qs : List (List ℕ)) × Opens C d [] qs × Reads C qs [] (y ∷ remaining ns f.rest)
+  pub far_chain : {o u : ℕ} (fs : List Frame) (y : List ℕ) (s : ℕ) → u < o → Chain C ns o fs y s → Chain C ns u fs y s
+  far_chain [] y s h c = tt
+  far_chain (f ∷ fs) y s h c = (far_link f y s (let k = c.0.low in omega (arith, k)), far_chain fs (name_at ns f.at) f.start h c.1)
 
-  abbrev pub Chain : ℕ → List Frame → List ℕ → ℕ → Type 0
-  Chain o [] y s = ⊤
-  Chain o (f ∷ fs) y s = Link o f y s × Chain o fs (name_at ns f.at) f.start
-
-  -- of the bytes those in done are read, and rest is left
-  pub record Walk (root done : List ℕ) (T : List ℕ → Option Mark) (fs : List Frame) (f : Frame) (rest : List ℕ) (L : List (List ℕ)) : Type 0 where
-    pub begun : Begun C root done (pending ns (f ∷ fs))
-    pub reached : (x : List ℕ) → IsIn x (pending ns (f ∷ fs)) → Reached C root x
-    pub empty : (x : List ℕ) → T x ≡ Some Empty → OnlyEmpty C x
-    pub here : (x : List ℕ) → T x ≡ Some (Open (length rest)) → On ns x (length rest) (f ∷ fs)
-    pub past : (x : List ℕ) (n : ℕ) → T x ≡ Some (Open n) → length rest ≤ n
-    pub top : Top (length rest) f
-    pub chain : Chain (length rest) fs (name_at ns f.at) f.start
-    pub distinct : Distinct L
-    pub defined : (x : List ℕ) → IsIn x L → IsDefined C x
-    pub marked : (x : List ℕ) → IsIn x L → (T x ≡ Some Empty) ⊎ (T x ≡ Some (Open (length rest)))
-
-  start_top : (o : ℕ) (f : Frame) → o < f.start → Top o f
+  pub start_top : (o : ℕ) (f : Frame) → o < f.start → Top C ns o f
   start_top o f h = record { low = omega arith; only_empty = λ e. absurd (omega arith); needs = λ e. absurd (omega arith) }
 
   from_root : {root x : List ℕ} (ps : List (List ℕ)) → ps ≡ root ∷ [] → IsIn x (ps ++ []) → Reached C root x
   from_root {root} {x} ps e a = subst (λ y. Reached C root y) (sym (among_one (subst (λ l. IsIn x (l ++ [])) e a))) stays
 
-  pub walk_start : {root bytes : List ℕ} {T : List ℕ → Option Mark} (f : Frame) → ((x : List ℕ) → T x ≡ None) → length bytes < f.start → remaining ns f.rest ≡ root ∷ [] → Walk root [] T [] f bytes []
+  pub walk_start : {root bytes : List ℕ} {T : List ℕ → Option Mark} (f : Frame) → ((x : List ℕ) → T x ≡ None) → length bytes < f.start → remaining ns f.rest ≡ root ∷ [] → Walk C ns root [] T [] f bytes []
   walk_start {root} {bytes} f none low e = record {
     begun = subst (λ l. Begun C root [] (l ++ [])) (sym e) (begun_start C);
     reached = λ x a. from_root (remaining ns f.rest) e a;
@@ -77,10 +51,9 @@ module _ (C : List ℕ → Option Shape) (ns : List Named) where
     marked = λ x a. elim a [ ];
   }
 
-  -- copies of a name that is known to be empty are passed over
-  pub walk_skip : {root done rest p : List ℕ} {T : List ℕ → Option Mark} {fs : List Frame} {f : Frame} {L : List (List ℕ)} (k : ℕ) (r : Rest) → Walk root done T fs f rest L → T p ≡ Some Empty → remaining ns f.rest ≡ replicate (suc k) p ++ remaining ns r → Walk root done T fs (with_rest f r) rest L
-  walk_skip {root} {done} {rest} {p} {T} {fs} {f} {L} k r w t e =
-      let h = w.empty p t in
+  -- copies of a name that has the empty member alone are passed
+  pub walk_skip : {root done rest p : List ℕ} {T : List ℕ → Option Mark} {fs : List Frame} {f : Frame} {L : List (List ℕ)} (k : ℕ) (r : Rest) → Walk C ns root done T fs f rest L → OnlyEmpty C p → remaining ns f.rest ≡ replicate (suc k) p ++ remaining ns r → Walk C ns root done T fs (with_rest f r) rest L
+  walk_skip {root} {done} {rest} {p} {T} {fs} {f} {L} k r w h e =
       let same : pending ns (f ∷ fs) ≡ replicate (suc k) p ++ (remaining ns r ++ pending ns fs) = ap (λ l. l ++ pending ns fs) e ∙ append_assoc (replicate (suc k) p) (remaining ns r) (pending ns fs) in
       record {
         begun = begun_skip C (suc k) h (subst (λ l. Begun C root done l) same w.begun);
@@ -114,7 +87,7 @@ module _ (C : List ℕ → Option Shape) (ns : List Named) where
   undefined_none e (of_choice p listed m) = cc
 
   -- the last name is passed: a frame above follows
-  pub walk_up : {root done rest : List ℕ} {T : List ℕ → Option Mark} {fs : List Frame} {f h : Frame} {L : List (List ℕ)} → Walk root done T (h ∷ fs) f rest L → remaining ns f.rest ≡ [] → (f.start ≡ length rest → ⊥) → Walk root done T fs h rest L
+  pub walk_up : {root done rest : List ℕ} {T : List ℕ → Option Mark} {fs : List Frame} {f h : Frame} {L : List (List ℕ)} → Walk C ns root done T (h ∷ fs) f rest L → remaining ns f.rest ≡ [] → (f.start ≡ length rest → ⊥) → Walk C ns root done T fs h rest L
   walk_up {root} {done} {rest} {T} {fs} {f} {h} {L} w e far =
       let same : pending ns (f ∷ h ∷ fs) ≡ pending ns (h ∷ fs) = ap (λ l. l ++ pending ns (h ∷ fs)) e in
       record {
@@ -131,7 +104,7 @@ module _ (C : List ℕ → Option Shape) (ns : List Named) where
       }
 
   -- and has turned out to be empty
-  pub walk_up_empty : {root done rest : List ℕ} {T U : List ℕ → Option Mark} {fs : List Frame} {f h : Frame} {L : List (List ℕ)} → Walk root done T (h ∷ fs) f rest L → remaining ns f.rest ≡ [] → f.start ≡ length rest → Updated T U (name_at ns f.at) Empty → Walk root done U fs h rest L
+  pub walk_up_empty : {root done rest : List ℕ} {T U : List ℕ → Option Mark} {fs : List Frame} {f h : Frame} {L : List (List ℕ)} → Walk C ns root done T (h ∷ fs) f rest L → remaining ns f.rest ≡ [] → f.start ≡ length rest → Updated T U (name_at ns f.at) Empty → Walk C ns root done U fs h rest L
   walk_up_empty {root} {done} {rest} {T} {U} {fs} {f} {h} {L} w e at u =
       let same : pending ns (f ∷ h ∷ fs) ≡ pending ns (h ∷ fs) = ap (λ l. l ++ pending ns (h ∷ fs)) e in
       let is : OnlyEmpty C (name_at ns f.at) = w.top.only_empty at (subst (λ l. AllOnlyEmpty C l) (sym e) tt) in
@@ -165,11 +138,11 @@ module _ (C : List ℕ → Option Shape) (ns : List Named) where
           go (name_cases x p)
 
   -- the next name is opened: what is kept of the members
-  module _ {root done rest p : List ℕ} {T : List ℕ → Option Mark} {fs : List Frame} {f : Frame} {L : List (List ℕ)} (w : Walk root done T fs f rest L) (r : Rest) (e : remaining ns f.rest ≡ p ∷ remaining ns r) where
+  module _ {root done rest p : List ℕ} {T : List ℕ → Option Mark} {fs : List Frame} {f : Frame} {L : List (List ℕ)} (w : Walk C ns root done T fs f rest L) (r : Rest) (e : remaining ns f.rest ≡ p ∷ remaining ns r) where
     next_is : pending ns (f ∷ fs) ≡ p ∷ (remaining ns r ++ pending ns fs)
     next_is = ap (λ l. l ++ pending ns fs) e
 
-    above : {o s : ℕ} → (f.start ≡ o → s ≡ o) → Top o f → Link o (with_rest f r) p s
+    above : {o s : ℕ} → (f.start ≡ o → s ≡ o) → Top C ns o f → Link C ns o (with_rest f r) p s
     above same t = record {
       low = t.low;
       same = same;
@@ -195,7 +168,7 @@ module _ (C : List ℕ → Option Shape) (ns : List Named) where
     part_reached = next_reached
 
     -- without a byte
-    pub walk_still : {U : List ℕ → Option Mark} {d : Shape} {n : ℕ} (g : Frame) → n ≡ 0 → C p ≡ Some d → Takes C d rest n (remaining ns g.rest) → (T p ≡ Some Empty → ⊥) → (T p ≡ Some (Open (length rest)) → ⊥) → Updated T U p (Open (length rest)) → name_at ns g.at ≡ p → g.start ≡ length rest → Walk root done U (with_rest f r ∷ fs) g rest (p ∷ L)
+    pub walk_still : {U : List ℕ → Option Mark} {d : Shape} {n : ℕ} (g : Frame) → n ≡ 0 → C p ≡ Some d → Takes C d rest n (remaining ns g.rest) → (T p ≡ Some Empty → ⊥) → (T p ≡ Some (Open (length rest)) → ⊥) → Updated T U p (Open (length rest)) → name_at ns g.at ≡ p → g.start ≡ length rest → Walk C ns root done U (with_rest f r ∷ fs) g rest (p ∷ L)
     walk_still {U} {d} {n} g zero_is c t not_empty not_open u name start =
         record {
           begun = subst (λ l. Begun C root l (remaining ns g.rest ++ (remaining ns r ++ pending ns fs))) (none n zero_is rest) (on_next g c t);
@@ -208,7 +181,7 @@ module _ (C : List ℕ → Option Shape) (ns : List Named) where
             only_empty = λ _ a. subst (λ y. OnlyEmpty C y) (sym name) (t.only_empty zero_is p c a);
             needs = λ _. (d, ap C name ∙ c, t.needs zero_is, remaining ns g.rest, subst (λ i. Opens C d (take i rest) (remaining ns g.rest)) zero_is t.opens, reads_none);
           };
-          chain = (subst (λ y. Link (length rest) (with_rest f r) y g.start) (sym name) (above (λ _. start) w.top), w.chain);
+          chain = (subst (λ y. Link C ns (length rest) (with_rest f r) y g.start) (sym name) (above (λ _. start) w.top), w.chain);
           distinct = distinct_more (λ a. elim (w.marked p a) [ inl h ↦ not_empty h | inr h ↦ not_open h ]) w.distinct;
           defined = λ x a. also_defined C d c w.defined x a;
           marked = λ x a. also_marked u w.marked x a;
@@ -232,7 +205,7 @@ module _ (C : List ℕ → Option Shape) (ns : List Named) where
             go (f x a) (name_cases x p)
 
     -- with some bytes: no frame has taken none since
-    pub walk_on : {d : Shape} {n : ℕ} (g : Frame) → 0 < n → C p ≡ Some d → Takes C d rest n (remaining ns g.rest) → name_at ns g.at ≡ p → g.start ≡ length rest → Walk root (done ++ take n rest) T (with_rest f r ∷ fs) g (drop n rest) []
+    pub walk_on : {d : Shape} {n : ℕ} (g : Frame) → 0 < n → C p ≡ Some d → Takes C d rest n (remaining ns g.rest) → name_at ns g.at ≡ p → g.start ≡ length rest → Walk C ns root (done ++ take n rest) T (with_rest f r ∷ fs) g (drop n rest) []
     walk_on {d} {n} g more c t name start =
         let less : length (drop n rest) < length rest = (let i = t.within in let k = length-drop n rest in omega (arith, i, k)) in
         record {
@@ -247,13 +220,6 @@ module _ (C : List ℕ → Option Shape) (ns : List Named) where
           defined = λ x a. elim a [ ];
           marked = λ x a. elim a [ ];
         }
-      where
-        far_link : {o : ℕ} (f : Frame) (y : List ℕ) (s : ℕ) → o < f.start → Link o f y s
-        far_link f y s h = record { low = omega arith; same = λ e. absurd (omega arith); only_empty = λ e. absurd (omega arith); needs = λ e. absurd (omega arith) }
-
-        far_chain : {o u : ℕ} (fs : List Frame) (y : List ℕ) (s : ℕ) → u < o → Chain o fs y s → Chain u fs y s
-        far_chain [] y s h c = tt
-        far_chain (f ∷ fs) y s h c = (far_link f y s (let k = c.0.low in omega (arith, k)), far_chain fs (name_at ns f.at) f.start h c.1)
 
     -- ---- answers
     -- where no member of the next name begins with some bytes, none of the root does behind those that are read
@@ -268,7 +234,7 @@ module _ (C : List ℕ → Option Shape) (ns : List Named) where
           leads_on C n.0 l.2 n.1 n.4 (subst (λ l. Reads C n.3 [] l) e n.5),
         )
       where
-        on_leads : {x : List ℕ} (o : ℕ) (fs : List Frame) (f : Frame) → Chain o fs (name_at ns f.at) f.start → On ns x o (f ∷ fs) → (f.start ≡ o) × Reaches C required_by x (name_at ns f.at) × ((x ≡ name_at ns f.at) ⊎ LeadsTo C x (name_at ns f.at))
+        on_leads : {x : List ℕ} (o : ℕ) (fs : List Frame) (f : Frame) → Chain C ns o fs (name_at ns f.at) f.start → On ns x o (f ∷ fs) → (f.start ≡ o) × Reaches C required_by x (name_at ns f.at) × ((x ≡ name_at ns f.at) ⊎ LeadsTo C x (name_at ns f.at))
         on_leads o fs f c (inl h) = (h.1, subst (λ y. Reaches C required_by y (name_at ns f.at)) h.0 stays, inl (sym h.0))
         on_leads o [] f c (inr h) = absurd h
         on_leads o (g ∷ fs) f c (inr h) =

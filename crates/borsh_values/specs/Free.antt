@@ -1,18 +1,13 @@
 -- Names whose members are all bytes of one length.
-use Rattle.std.specs.Prelude.{◌≡◌, ◌<◌, ◌≤◌, ◌-◌, ℕ, suc, List, [], ◌∷◌, ◌++◌, length, take, replicate, All, IfSome, Option, get_or}
+use Rattle.std.specs.Prelude.{◌≡◌, ◌<◌, ◌≤◌, ◌-◌, ℕ, suc, List, [], ◌∷◌, ◌++◌, length, take, replicate, All, IfSome, Option}
 use Rattle.borsh_walks.specs.Container.{Shape, Member, Members}
-use Rattle.borsh_walks.specs.Definitions.{definitions_in}
-use Rattle.borsh_values.specs.declared.layout.Layout.{Layout}
-use Rattle.borsh_values.specs.declared.layout.Named.{Named}
+use Rattle.borsh_plan.specs.declared.named.Named.{Named}
 use Rattle.borsh_values.specs.declared.frames.Rest.{Rest}
 use Rattle.borsh_values.specs.declared.frames.Rest.TheVariants.{Copies}
 use Rattle.borsh_values.specs.declared.runs.Run.{Run}
 use Rattle.borsh_values.specs.declared.runs.TagLength.{TagLength}
 use Rattle.borsh_values.specs.declared.free.Passed.{Passed}
-use Rattle.borsh_values.specs.Layouts.{name_at}
 use Rattle.borsh_values.specs.Steps.{remaining, step_count, Fits}
-use Rattle.borsh_values.specs.Zeros.{AreZeros}
-use Rattle.borsh_values.specs.Sizes.{AreSizes, known_size}
 
 module _ (C : List ℕ → Option Shape) where
   -- each n bytes are a member of the name, and it has no others
@@ -22,10 +17,6 @@ module _ (C : List ℕ → Option Shape) where
   -- and of several names, one after another
   abbrev pub FreeSizes : List (List ℕ) → ℕ → Type 0
   FreeSizes ps n = (bs : List ℕ) → (Members C ps bs → length bs ≡ n) × (length bs ≡ n → All (λ b. b < 256) bs → Members C ps bs)
-
-  -- a free size, or 0 where none is known
-  abbrev pub IsFree : List ℕ → ℕ → Type 0
-  IsFree x n = 0 < n → FreeSize x n
 
   -- the bytes are members of the names, one after another, and no others of these begin what begins so
   pub record AreOnly (ps : List (List ℕ)) (own : List ℕ) : Type 0 where
@@ -47,10 +38,6 @@ module _ (C : List ℕ → Option Shape) where
   abbrev pub IsRun : List ℕ → List ℕ → ℕ → Run → Type 0
   IsRun x bytes count r = (r.values ≤ count) × AreFirst (replicate r.values x) bytes r.taken
 
-  -- those of the names of a layout
-  abbrev pub AreFree : List Named → List ℕ → Type 0
-  AreFree ns sizes = (i : ℕ) → i < length ns → IsFree (name_at ns i) (get_or sizes i 0)
-
   -- members of the next names are the first bytes of those that are left, and at least one byte
   pub record IsFreeFront (ns : List Named) (r : Rest) (left : List ℕ) (p : Passed) : Type 0 where
     pub names : List (List ℕ)
@@ -63,9 +50,3 @@ module _ (C : List ℕ → Option Shape) where
 -- what is passed of copies of the name at a place: a run of some bytes
 abbrev pub Passes : ℕ → ℕ → Run → Passed → Type 0
 Passes at count r p = (0 < r.taken) × (p ≡ record { taken = r.taken; rest = Copies at (count - r.values) })
-
--- what a layout says of sizes is right: which are free, and which names have values without bytes
-pub record KnowsSizes (l : Layout) : Type 0 where
-  pub free : AreFree (definitions_in l.map.now) l.names.items l.sizes.items
-  pub known : AreSizes (λ x. known_size (definitions_in l.map.now) x) l.names.items l.sizes.items
-  pub zeros : AreZeros (definitions_in l.map.now) l.names.items l.zeros.items

@@ -3,16 +3,13 @@ pub mod Membership
 pub mod Numbers
 pub mod Tags
 pub mod Keys
-pub mod Sizes
 pub mod Nodes
 pub mod Faults
 pub mod Steps
 pub mod TagTables
-pub mod Layouts
-pub mod Zeros
 pub mod Free
-pub mod Passing
 pub mod Fronts
+pub mod Cursor
 pub mod Next
 pub mod Records
 pub mod Walks

@@ -12,7 +12,7 @@ use Rattle.borsh_values.specs.Membership.{IsUndecided}
 use Rattle.borsh_values.specs.Next.{IsFirst}
 use Rattle.borsh_values.specs.declared.buffered.Buffered.{Buffered}
 use Rattle.std.specs.Borrow.{Bor}
-use Rattle.borsh_values.specs.declared.layout.Layout.{Layout}
+use Rattle.borsh_plan.specs.declared.plan.Plan.{Plan}
 use Rattle.borsh_values.specs.declared.records.Records.{Records}
 use Rattle.borsh_values.specs.declared.records.RecordError.{RecordError}
 use Rattle.borsh_values.specs.declared.records.RecordError.TheVariants.{NoMember, CutShort, TooLong, EmptyValue, Ambiguous, Reader, OutOfMemory}
@@ -90,13 +90,13 @@ turns_left state r = most_at_once * (state (source_of r)).reads_left + length (a
 abbrev pub Falls : {R : Type 0} → (R → ReaderState) → Records R → Records R → Result Bool RecordError → Type 0
 Falls state old new result = result ≡ Ok true → turns_left state new < turns_left state old
 
--- the layout, by which the values are known
-abbrev pub layout_of : {R : Type 0} → Records R → Bor Layout
-layout_of r = r.layout
+-- the plan, by which the values are known
+abbrev pub plan_of : {R : Type 0} → Records R → Bor Plan
+plan_of r = r.plan
 
 -- the root, its definitions and the limit stay
 abbrev pub SameRoot : {R : Type 0} → Records R → Records R → Type 0
-SameRoot old new = (new.layout ≡ old.layout) × (new.limit ≡ old.limit)
+SameRoot old new = (new.plan ≡ old.plan) × (new.limit ≡ old.limit)
 
 -- the first n bytes are the first value, whatever follows the bytes
 pub record IsFirstOf (C : List ℕ → Option Shape) (root : List ℕ) (n : ℕ) (bytes : List ℕ) : Type 0 where

@@ -7,8 +7,8 @@ use Rattle.borsh_values.specs.Nodes.{Opens}
 use Rattle.borsh_values.specs.Faults.{BeginsWith, Refuses}
 use Rattle.borsh_values.specs.declared.faults.Reason.{Reason}
 use Rattle.borsh_values.specs.declared.faults.Reason.TheVariants.{TooShort}
-use Rattle.borsh_values.specs.Layouts.{name_at, shape_at, parts_in}
-use Rattle.borsh_values.specs.declared.layout.Named.{Named}
+use Rattle.borsh_plan.specs.Names.{name_at, shape_at, parts_in}
+use Rattle.borsh_plan.specs.declared.named.Named.{Named}
 use Rattle.borsh_values.specs.declared.frames.Step.{Step}
 use Rattle.borsh_values.specs.declared.frames.Rest.{Rest}
 use Rattle.borsh_values.specs.declared.frames.Rest.TheVariants.{Copies, Parts}
@@ -17,12 +17,12 @@ use Rattle.borsh_values.specs.declared.frames.Opened.{Opened}
 use Rattle.borsh_values.specs.declared.frames.Opened.TheVariants.{Undecided, Refused, Taken}
 use Rattle.borsh_values.specs.declared.tags.Found.{Found}
 use Rattle.borsh_values.specs.declared.tags.Found.TheVariants.{Nothing, One, Several}
-use Rattle.borsh_values.specs.declared.members.Mark.{Mark}
-use Rattle.borsh_values.specs.declared.members.Mark.TheVariants.{Empty as MarkedEmpty, Open as MarkedOpen}
-use Rattle.borsh_values.specs.declared.members.Known.{Known}
-use Rattle.borsh_values.specs.declared.members.Known.TheVariants.{Empty, Recursive, New}
+use Rattle.borsh_values.specs.declared.frames.Mark.{Mark}
+use Rattle.borsh_values.specs.declared.frames.Mark.TheVariants.{Empty as MarkedEmpty, Open as MarkedOpen}
+use Rattle.borsh_values.specs.declared.frames.Known.{Known}
+use Rattle.borsh_values.specs.declared.frames.Known.TheVariants.{Empty, Recursive, New}
 
--- the names that are still to be read, of those of a layout
+-- the names that are still to be read, of those of a plan
 abbrev pub remaining : List Named → Rest → List (List ℕ)
 remaining ns (Copies at k) = replicate k (name_at ns at)
 remaining ns (Parts at i) = drop i (parts_in (shape_at ns at))
@@ -38,7 +38,7 @@ abbrev pub StepsOn : List Named → Rest → Rest → Type 0
 StepsOn ns (Copies at k) r = ⊤
 StepsOn ns (Parts at i) r = step_count ns r < step_count ns (Parts at i)
 
--- the place is one of the layout
+-- the place is one of the plan
 abbrev pub Fits : List Named → Rest → Type 0
 Fits ns (Copies at k) = at < length ns
 Fits ns (Parts at i) = at < length ns
@@ -61,7 +61,7 @@ abbrev pub pending : List Named → List Frame → List (List ℕ)
 pending ns [] = []
 pending ns (f ∷ fs) = remaining ns f.rest ++ pending ns fs
 
--- each frame has places of the layout
+-- each frame has places of the plan
 abbrev pub AllFit : List Named → List Frame → Type 0
 AllFit ns [] = ⊤
 AllFit ns (f ∷ fs) = (f.at < length ns) × Fits ns f.rest × AllFit ns fs
@@ -119,7 +119,7 @@ OpensAs C ns d bytes Undecided = UnambiguousShape d → KeepsWidths d → ⊥
 OpensAs C ns d bytes (Refused r) = ((x : List ℕ) → C x ≡ Some d → NoneBegins C r x bytes) × Refuses C r d bytes
 OpensAs C ns d bytes (Taken n r) = Takes C d bytes n (remaining ns r) × (step_count ns r ≤ 2 + length (references d)) × Fits ns r
 
--- what k elements at a place of the layout take behind w bytes of all, where each has m bytes that are listed with their sequence
+-- what k elements at a place of the plan take behind w bytes of all, where each has m bytes that are listed with their sequence
 abbrev pub TakesElements : List Named → ℕ → ℕ → ℕ → ℕ → ℕ → Opened → Type 0
 TakesElements ns m e k w all Undecided = ⊥
 TakesElements ns m e k w all (Refused r) = (r ≡ TooShort) × (all < w + k * m)
@@ -132,10 +132,10 @@ more_found Nothing i = One i
 more_found (One j) i = Several
 more_found Several i = Several
 
--- of the variants those are found whose tags are these bytes; where there is no byte, that is all of them
+-- of the variants those are found whose tags are these bytes: none, the one at an index and no other, or several; where there is no byte, that is all of them
 abbrev pub FoundAs : List (ℤ × List ℕ) → List ℕ → Found → Type 0
 FoundAs vs t Nothing = ((j : ℤ) (q : List ℕ) → IsListedVariant j q vs → tag (length t) j ≡ t → ⊥) × (t ≡ [] → vs ≡ [])
-FoundAs vs t (One i) = (k : ℤ) × (p : List ℕ) × (slice_get vs i ≡ Some (k, p)) × (tag (length t) k ≡ t) × ((j : ℤ) (q : List ℕ) → IsListedVariant j q vs → tag (length t) j ≡ t → q ≡ p) × (t ≡ [] → vs ≡ (k, p) ∷ [])
+FoundAs vs t (One i) = (k : ℤ) × (p : List ℕ) × (slice_get vs i ≡ Some (k, p)) × (tag (length t) k ≡ t) × ((m : ℕ) (j : ℤ) (q : List ℕ) → slice_get vs m ≡ Some (j, q) → tag (length t) j ≡ t → m ≡ i) × (t ≡ [] → vs ≡ (k, p) ∷ [])
 FoundAs vs t Several = DistinctTags (length t) vs → ⊥
 
 -- what the mark of a name says where n bytes are left

@@ -19,9 +19,9 @@ abbrev pub IsEntryFor : Option AtKey → ℕ → AtKey → Type 0
 IsEntryFor None i e = e ≡ One i
 IsEntryFor (Some a) i e = e ≡ Several
 
--- what the table has at the key n is right: the variant at the index has the key and any other with it has the same name, or two variants have one tag
+-- what the table has at the key n is right: the variant at the index has the key and no other has it, or two variants have one tag
 abbrev pub IsRightAt : ℕ → List (ℤ × List ℕ) → ℕ → AtKey → Type 0
-IsRightAt width vs n (One i) = (k : ℤ) × (p : List ℕ) × (slice_get vs i ≡ Some (k, p)) × IsTagKey width k n × ((j : ℤ) (q : List ℕ) → IsListedVariant j q vs → IsTagKey width j n → q ≡ p)
+IsRightAt width vs n (One i) = (k : ℤ) × (p : List ℕ) × (slice_get vs i ≡ Some (k, p)) × IsTagKey width k n × ((m : ℕ) (j : ℤ) (q : List ℕ) → slice_get vs m ≡ Some (j, q) → IsTagKey width j n → m ≡ i)
 IsRightAt width vs n Several = DistinctTags width vs → ⊥
 
 -- T is the table of these variants, as a function of the key

@@ -4,12 +4,13 @@ use Rattle.std.specs.BTreeMap.{BTreeMap, get_by_text}
 use Rattle.borsh_walks.specs.declared.definition.Definition.{Definition}
 use Rattle.borsh_walks.specs.Container.{Shape, primitive, sequence, product, choice, Members}
 use Rattle.borsh_walks.specs.Definitions.{definitions_in, shape_of}
+use Rattle.borsh_plan.specs.Plan.{definitions_of, map_of, names_of, root_of}
 use Rattle.borsh_values.specs.declared.frames.Opened.{Opened}
 use Rattle.borsh_values.specs.declared.frames.Opened.TheVariants.{Undecided, Refused, Taken}
 use Rattle.borsh_values.specs.declared.frames.Rest.{Rest}
 use Rattle.borsh_values.specs.declared.nodes.Node.{Node}
 use Rattle.borsh_values.specs.declared.walker.Walker.{Walker}
-use Rattle.borsh_values.specs.Layouts.{IsLaidOut, name_of}
+use Rattle.borsh_plan.specs.Names.{name_of}
 use Rattle.borsh_values.specs.Membership.{IsUndecided}
 use Rattle.borsh_values.specs.Nodes.{Opens, Reads}
 use Rattle.borsh_values.specs.Steps.{Fits, remaining}
@@ -32,10 +33,9 @@ CountsIfTaken d Undecided = ⊤
 CountsIfTaken d (Refused r) = ⊤
 CountsIfTaken d (Taken n r) = IsCounted d
 
--- the layout is one, the tables are those of its enums, and the offset of each byte that is left is a `usize`
+-- the plan is one, the tables are those of its enums, and the offset of each byte that is left is a `usize`
 pub record IsWalker (w : Walker) : Type 0 where
-  pub laid : IsLaidOut w.layout.now
-  pub tables : AreTagTables (definitions_in w.layout.now.map.now) w.tables
+  pub tables : AreTagTables (definitions_of w.plan.now) w.tables
   pub small : w.offset + length w.left.now < 2 ^ 64
 
 module _ {A : Type 0} (m : BTreeMap (String A) Definition) where
@@ -62,8 +62,8 @@ module _ {A : Type 0} (m : BTreeMap (String A) Definition) where
 
 -- so it is of the name at the place
 abbrev pub FindsAt : ℕ → Walker → Walker → Option Node → Type 0
-FindsAt at old new found = (x : List ℕ) → name_of old.layout.now.names.items at ≡ Some x → FindsNode old.layout.now.map.now old.layout.now.root.now x old new found
+FindsAt at old new found = (x : List ℕ) → name_of (names_of old.plan.now) at ≡ Some x → FindsNode (map_of old.plan.now) (root_of old.plan.now) x old new found
 
 -- and with the names that are to be read of its value
 abbrev pub TakesAt : ℕ → Walker → Walker → Option (Node × Rest) → Type 0
-TakesAt at old new found = FindsAt at old new (option_map (λ t. t.0) found) × IfSome found (λ t. Fits old.layout.now.names.items t.1 × Opens (definitions_in old.layout.now.map.now) (shape_of t.0.definition.now) t.0.bytes.now (remaining old.layout.now.names.items t.1))
+TakesAt at old new found = FindsAt at old new (option_map (λ t. t.0) found) × IfSome found (λ t. Fits (names_of old.plan.now) t.1 × Opens (definitions_of old.plan.now) (shape_of t.0.definition.now) t.0.bytes.now (remaining (names_of old.plan.now) t.1))

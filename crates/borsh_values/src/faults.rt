@@ -1,14 +1,9 @@
 // Where bytes stop being a member, and why.
-ghost use Rattle.borsh_values.specs.Fronts.{StopsAt};
-ghost use Rattle.borsh_values.specs.Layouts.{name_at};
-ghost use Rattle.std.specs.Prelude.{IfOk, ◌≤◌, length};
 
-use crate::frames::{Frame, Rest, Step};
-use crate::fronts::Front;
-use crate::layout::{Layout, name_of};
+use crate::frames::{Frame, Rest};
 use crate::numbers::number;
-use crate::opening::definition_at;
 use crate::tags::variant_at;
+use borsh_plan::Plan;
 use borsh_walks::{Definition, Fields};
 use std::alloc::{AllocError, Global};
 use std::fmt;
@@ -145,57 +140,46 @@ fn part_step<'a>(
     }
 }
 
-// The step from the value of a frame to the part that was last taken from it.
-fn frame_step<'a>(layout: &Layout<'a>, bytes: &[u8], frame: &Frame) -> Option<PathStep<'a>> {
-    let place = bytes.len().checked_sub(frame.start)?;
-    let definition = definition_at(&layout.names, frame.at)?;
+/// The step from the value of a frame to the part that comes next.
+pub fn next_step<'a>(plan: &Plan<'a>, bytes: &[u8], frame: Frame) -> Option<PathStep<'a>> {
+    let definition = plan.definition(frame.at)?;
     match frame.rest {
-        Rest::Copies(_, others) => part_step(definition, bytes, place, others),
-        Rest::Parts(_, next) => Some(field_step(definition, next.checked_sub(1)?)),
+        Rest::Copies(_, count) => {
+            let place = bytes.len().checked_sub(frame.start)?;
+            part_step(definition, bytes, place, count.checked_sub(1)?)
+        }
+        Rest::Parts(_, next) => Some(field_step(definition, next)),
     }
 }
 
-/// That no member of the next name begins where the bytes `left` are left; `frame` is the last of the open frames, and
-/// `step` leads on from it.
-pub fn no_member<'a>(
+// The same to the part that was last taken.
+fn last_step<'a>(plan: &Plan<'a>, bytes: &[u8], frame: Frame) -> Option<PathStep<'a>> {
+    let rest = match frame.rest {
+        Rest::Copies(at, others) => Rest::Copies(at, others.checked_add(1)?),
+        Rest::Parts(at, next) => Rest::Parts(at, next.checked_sub(1)?),
+    };
+    next_step(plan, bytes, Frame { rest, ..frame })
+}
+
+/// The path of the part that comes next in the value of `frame`, which is in those of the open frames.
+pub fn path_to<'a>(
     alloc: Global,
-    layout: &Layout<'a>,
+    plan: &Plan<'a>,
     bytes: &[u8],
     open: &Vec<Frame>,
     frame: Frame,
-    step: Step,
-    left: &[u8],
-    reason: Reason,
-) -> Result<Front<'a>, AllocError>
-    requires { length left.now ≤ length bytes.now }
-    ensures { let all = length bytes.now in
-        let name = name_at layout.now.names.items step.at in
-        IfOk result (λ a. StopsAt all (length left.now) name reason a) }
-{
+) -> Result<Path<'a>, AllocError> {
     let mut steps: Vec<PathStep<'a>> = Vec::new(alloc);
     for frame in open.as_slice() {
-        if let Some(step) = frame_step(layout, bytes, frame) {
+        if let Some(step) = last_step(plan, bytes, *frame) {
             steps.push(step)?;
         }
     }
-    let last = Frame {
-        rest: step.others,
-        ..frame
-    };
-    if let Some(step) = frame_step(layout, bytes, &last) {
+    if let Some(step) = next_step(plan, bytes, frame) {
         steps.push(step)?;
     }
-    let root = layout.root;
-    let fault = Fault {
-        offset: bytes.len() - left.len(),
-        name: name_of(&layout.names, step.at),
-        reason,
-        path: Path { root, steps },
-    };
-    match reason {
-        Reason::TooShort => Ok(Front::TooShort(fault)),
-        _ => Ok(Front::NoMember(fault)),
-    }
+    let root = plan.root();
+    Ok(Path { root, steps })
 }
 
 /// The step to the part at `index` of a struct or tuple.

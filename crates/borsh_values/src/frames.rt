@@ -1,10 +1,11 @@
 // What is still to be read of a value.
-ghost use Rattle.borsh_values.specs.Layouts.{IsLaidOut, IsPlaceOf, name_at, places_in};
+ghost use Rattle.borsh_plan.specs.Names.{IsPlaceOf, name_at, places_in};
+ghost use Rattle.borsh_plan.specs.Plan.{names_of};
 ghost use Rattle.borsh_values.specs.Steps.{Fits, GoesOn, past_copies, remaining};
 ghost use Rattle.std.specs.Prelude.{false, length, true, ◌≡◌, ◌<◌, [], MatchOption, OnSome, slice_get};
 
 use crate::faults::Reason;
-use crate::layout::Layout;
+use borsh_plan::Plan;
 
 /// The names that are still to be read, by their places: copies of one, or the parts of a definition from an index on.
 #[derive(Clone, Copy)]
@@ -19,6 +20,26 @@ pub struct Frame {
     pub at: usize,
     pub start: usize,
     pub rest: Rest,
+}
+
+/// What is known of a name.
+#[derive(Clone, Copy)]
+pub enum Mark {
+    /// Its only member is the empty one.
+    Empty,
+    /// It is being read since so many bytes were left, or no member of it begins there any more.
+    Open(usize),
+}
+
+/// What the marks say of a name that is next.
+#[derive(Clone, Copy)]
+pub enum Known {
+    /// Its only member is the empty one.
+    Empty,
+    /// It is being read, and no byte was taken since it was begun.
+    Recursive,
+    /// It has to be read.
+    New,
 }
 
 /// What a definition takes from the bytes.
@@ -39,29 +60,10 @@ pub struct Step {
     pub others: Rest,
 }
 
-// The place that is listed at an index.
-fn listed_at(parts: &[Vec<usize>], at: usize, index: usize) -> Option<usize>
-    ensures place { result ≡ slice_get (places_in (slice_get parts.now at)) index }
-    ensures small { OnSome result (index < 18446744073709551615) }
-{
-    parts.get(at)?.get(index).copied()
-}
-
-/// The place of a part of the definition at a place.
-pub fn part_at(layout: &Layout<'_>, at: usize, index: usize) -> Option<usize>
-    requires laid_out { IsLaidOut layout.now }
-    requires within { at < length layout.now.names.items }
-    ensures place { IsPlaceOf layout.now.names.items at index result }
-    ensures small { OnSome result (index < 18446744073709551615) }
-{
-    listed_at(layout.parts.as_slice(), at, index)
-}
-
 /// The next name that is to be read, if there is one.
-pub fn next_part(layout: &Layout<'_>, rest: Rest) -> Option<Step>
-    requires laid_out { IsLaidOut layout.now }
-    requires fits { Fits layout.now.names.items rest }
-    ensures { let names = layout.now.names.items in
+pub fn next_part(plan: &Plan<'_>, rest: Rest) -> Option<Step>
+    requires fits { Fits (names_of plan.now) rest }
+    ensures { let names = names_of plan.now in
         MatchOption result (remaining names rest ≡ []) (λ s. GoesOn names rest s) }
 {
     match rest {
@@ -75,7 +77,7 @@ pub fn next_part(layout: &Layout<'_>, rest: Rest) -> Option<Step>
                 })
             }
         }
-        Rest::Parts(at, next) => match part_at(layout, at, next) {
+        Rest::Parts(at, next) => match plan.part(at, next) {
             Some(part) => Some(Step {
                 at: part,
                 others: Rest::Parts(at, next + 1),
@@ -96,11 +98,10 @@ pub fn after_copies(rest: Rest, step: Step) -> Rest
 }
 
 /// Whether names are still to be read.
-pub fn has_parts(layout: &Layout<'_>, rest: Rest) -> bool
-    requires laid_out { IsLaidOut layout.now }
-    requires fits { Fits layout.now.names.items rest }
-    ensures none { result ≡ false → remaining layout.now.names.items rest ≡ [] }
-    ensures some { result ≡ true → 0 < length (remaining layout.now.names.items rest) }
+pub fn has_parts(plan: &Plan<'_>, rest: Rest) -> bool
+    requires fits { Fits (names_of plan.now) rest }
+    ensures none { result ≡ false → remaining (names_of plan.now) rest ≡ [] }
+    ensures some { result ≡ true → 0 < length (remaining (names_of plan.now) rest) }
 {
-    next_part(layout, rest).is_some()
+    next_part(plan, rest).is_some()
 }

@@ -1,17 +1,14 @@
 // Names whose members are all bytes of one length: these bytes are passed at once.
-ghost use Rattle.borsh_values.specs.Free.{AreFree, IsFreeFront, KnowsSizes};
-ghost use Rattle.borsh_values.specs.Layouts.{IsLaidOut, parts_in, shape_at};
-ghost use Rattle.borsh_values.specs.Sizes.{AreSizes, AreSizesBy, fitting, known_by, known_size, together};
+ghost use Rattle.borsh_plan.specs.Plan.{definitions_of, names_of};
+ghost use Rattle.borsh_values.specs.Free.{IsFreeFront};
+ghost use Rattle.borsh_plan.specs.Names.{parts_in, shape_at};
+ghost use Rattle.borsh_plan.specs.Sizes.{AreSizes, AreSizesBy, fitting, known_by, known_size, together};
 ghost use Rattle.borsh_values.specs.Steps.{Fits};
-ghost use Rattle.borsh_walks.specs.Definitions.{definitions_in};
 ghost use Rattle.std.specs.Prelude.{IfOk, IfSome, List, Some, cond, drop, eqb, map, ℕ, ◌*◌, ◌≡◌, ◌<◌, get_or, length, replicate, slice_get};
 
-use crate::frames::{Rest, part_at};
-use crate::layout::Layout;
-use crate::opening::definition_at;
+use crate::frames::Rest;
 use crate::runs::pass_run;
-use borsh_walks::Definition;
-use std::alloc::{AllocError, Global};
+use borsh_plan::Plan;
 
 /// So many bytes that are passed, and the names that follow.
 #[derive(Clone, Copy)]
@@ -20,17 +17,9 @@ pub struct Passed {
     pub rest: Rest,
 }
 
-/// The size at a place; 0 where none is known.
-pub fn size_at(sizes: &Vec<u64>, at: usize) -> u64
-    ensures { result ≡ get_or sizes.now.items at 0 }
-{
-    sizes.as_slice().get(at).copied().unwrap_or(0)
-}
-
 // The product, or 0 where it has more than 64 bits.
 fn product(count: u64, size: u64) -> u64
-    ensures some { 0 < result → result ≡ count * size }
-    ensures fitting { result ≡ fitting (count * size) }
+    ensures { 0 < result → result ≡ count * size }
 {
     match count.checked_mul(size) {
         Some(all) => all,
@@ -38,139 +27,28 @@ fn product(count: u64, size: u64) -> u64
     }
 }
 
-// The size of the parts of the definition at a place together, from an index on, by the sizes of names.
-fn size_of_parts(layout: &Layout<'_>, sizes: &Vec<u64>, at: usize, next: usize) -> u64
-    requires laid_out { IsLaidOut layout.now }
-    requires within { at < length layout.now.names.items }
-    ensures { let parts = drop next (parts_in (shape_at layout.now.names.items at)) in
-        (P : List ℕ → ℕ) → AreSizes P layout.now.names.items sizes.now.items →
-        result ≡ together (map P parts) }
-{
-    let mut total: u64 = 0;
-    let mut index = next;
-    while let Some(part) = part_at(layout, at, index) {
-        let size = size_at(sizes, part);
-        if size == 0 {
-            return 0;
-        }
-        match total.checked_add(size) {
-            Some(sum) => total = sum,
-            None => return 0,
-        }
-        index += 1;
-    }
-    total
-}
-
-// The size of the sequence at a place, of `start` to `end` elements that no count precedes, by the sizes of names.
-fn size_of_array(layout: &Layout<'_>, sizes: &Vec<u64>, at: usize, start: u64, end: u64) -> u64
-    requires laid_out { IsLaidOut layout.now }
-    requires within { at < length layout.now.names.items }
-    ensures { let parts = parts_in (shape_at layout.now.names.items at) in
-        (P : List ℕ → ℕ) (e : List ℕ) → AreSizes P layout.now.names.items sizes.now.items →
-        slice_get parts 0 ≡ Some e → result ≡ cond (eqb start end) (fitting (start * P e)) 0 }
-{
-    if start != end {
-        return 0;
-    }
-    match part_at(layout, at, 0) {
-        Some(part) => product(start, size_at(sizes, part)),
-        None => 0,
-    }
-}
-
-// The size of the name at a place, by the sizes of names; 0 where it isn't known.
-fn size_of_name(layout: &Layout<'_>, sizes: &Vec<u64>, at: usize) -> u64
-    requires laid_out { IsLaidOut layout.now }
-    requires within { at < length layout.now.names.items }
-    ensures { (P : List ℕ → ℕ) → AreSizes P layout.now.names.items sizes.now.items →
-        result ≡ known_by P (shape_at layout.now.names.items at) }
-{
-    let Some(definition) = definition_at(&layout.names, at) else {
-        return 0;
-    };
-    match definition {
-        Definition::Primitive(size) => u64::from(*size),
-        Definition::Tuple { .. } => size_of_parts(layout, sizes, at, 0),
-        Definition::Struct { .. } => size_of_parts(layout, sizes, at, 0),
-        Definition::Sequence {
-            length_width,
-            length_range,
-            ..
-        } => {
-            if *length_width != 0 {
-                return 0;
-            }
-            size_of_array(layout, sizes, at, length_range.start, length_range.end)
-        }
-        Definition::Enum { .. } => 0,
-    }
-}
-
-// No size is known of so many names.
-fn no_sizes(alloc: Global, count: usize) -> Result<Vec<u64>, AllocError>
-    ensures { IfOk result (λ v. v.items ≡ replicate count 0) }
-{
-    vec![in alloc; 0; count]
-}
-
-// The sizes of all names, by those that are known.
-fn next_sizes(alloc: Global, layout: &Layout<'_>, sizes: &Vec<u64>) -> Result<Vec<u64>, AllocError>
-    requires { IsLaidOut layout.now }
-    ensures { let ns = layout.now.names.items in
-        IfOk result (λ v. (P : List ℕ → ℕ) → AreSizes P ns sizes.now.items → AreSizesBy P ns v.items) }
-{
-    let count = layout.names.len();
-    let mut found: Vec<u64> = Vec::with_capacity(alloc, count)?;
-    let mut at: usize = 0;
-    while at < count {
-        let size = size_of_name(layout, sizes, at);
-        found.push(size)?;
-        at += 1;
-    }
-    Ok(found)
-}
-
-/// The sizes that are known of the names of a layout.
-pub fn free_sizes(alloc: Global, layout: &Layout<'_>) -> Result<Vec<u64>, AllocError>
-    requires { IsLaidOut layout.now }
-    ensures free { let C = definitions_in layout.now.map.now in
-        IfOk result (λ v. AreFree C layout.now.names.items v.items) }
-    ensures known { let C = definitions_in layout.now.map.now in
-        IfOk result (λ v. AreSizes (λ x. known_size C x) layout.now.names.items v.items) }
-{
-    let mut sizes = no_sizes(alloc, layout.names.len())?;
-    let mut depth: usize = 0;
-    while depth < 8 {
-        sizes = next_sizes(alloc, layout, &sizes)?;
-        depth += 1;
-    }
-    Ok(sizes)
-}
-
-/// The next names, as many as are passed at once: those of a free size, or a run of values.
-pub fn free_front(layout: &Layout<'_>, rest: Rest, left: &[u8]) -> Option<Passed>
-    requires laid_out { IsLaidOut layout.now }
-    requires free { KnowsSizes layout.now }
-    requires fits { Fits layout.now.names.items rest }
-    ensures { let C = definitions_in layout.now.map.now in
-        IfSome result (λ p. IsFreeFront C layout.now.names.items rest left.now p) }
+/// The next names, as many as are passed at once: those of a free size, which pays in bench row `Vec<(u64, u64, u64)>`, or a run of
+/// values.
+pub fn free_front(plan: &Plan<'_>, rest: Rest, left: &[u8]) -> Option<Passed>
+    requires fits { Fits (names_of plan.now) rest }
+    ensures { let C = definitions_of plan.now in
+        IfSome result (λ p. IsFreeFront C (names_of plan.now) rest left.now p) }
 {
     match rest {
         Rest::Copies(at, count) => {
-            let all = product(count, size_at(&layout.sizes, at));
+            let all = product(count, plan.size(at));
             if all > 0 && all <= left.len() as u64 {
                 Some(Passed {
                     taken: all as usize,
                     rest: Rest::Copies(at, 0),
                 })
             } else {
-                pass_run(layout, at, count, left)
+                pass_run(plan, at, count, left)
             }
         }
-        Rest::Parts(at, next) => match part_at(layout, at, next) {
+        Rest::Parts(at, next) => match plan.part(at, next) {
             Some(part) => {
-                let size = size_at(&layout.sizes, part);
+                let size = plan.size(part);
                 if size > 0 && size <= left.len() as u64 {
                     Some(Passed {
                         taken: size as usize,

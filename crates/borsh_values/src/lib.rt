@@ -8,12 +8,12 @@
 #![tactic(auto)]
 
 mod buffered;
+mod cursor;
 mod faults;
 mod frames;
 mod free;
 mod fronts;
 mod keys;
-mod layout;
 mod members;
 mod nodes;
 mod numbers;
@@ -25,13 +25,12 @@ mod tag_tables;
 mod tags;
 mod unambiguous;
 mod walker;
-mod zeros;
 
+pub use borsh_plan::{Named, Plan};
 pub use buffered::Buffered;
 pub use faults::{Fault, Path, PathStep, Reason};
-pub use fronts::Front;
-pub use layout::{Layout, Named};
-pub use members::{Membership, is_member};
+pub use fronts::{Front, front_of};
+pub use members::{Membership, is_member, is_member_of};
 pub use nodes::{Node, count_of, elements_of, variant_of};
 pub use preorder::{Preorder, PreorderError};
 pub use records::{MOST_BYTES, RecordError, Records};

@@ -15,6 +15,8 @@ use borsh_walks::Definition;
 /// bytes where these are in its node.
 #[derive(Clone, Copy)]
 pub struct Node<'a, 'b> {
+    /// The place of its name in the plan.
+    pub at: usize,
     pub name: &'a str,
     pub definition: &'a Definition,
     pub bytes: &'b [u8],

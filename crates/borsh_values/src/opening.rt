@@ -1,20 +1,21 @@
 // What the definition of a name takes from the bytes.
-ghost use Rattle.borsh_values.specs.Layouts.{IsLaidOut, name_at, named_definition, shape_at};
+ghost use Rattle.borsh_plan.specs.Names.{name_at, named_definition, shape_at};
+ghost use Rattle.borsh_plan.specs.Plan.{definitions_of, names_of};
 ghost use Rattle.borsh_values.specs.Nodes.{packed_size};
 ghost use Rattle.borsh_values.specs.Steps.{FitsWidth, OpensAs, TakesElements};
 ghost use Rattle.borsh_values.specs.TagTables.{AreTagTables, KeepsTables, TableFits};
 ghost use Rattle.borsh_values.specs.Walks.{CountsIfTaken};
 ghost use Rattle.borsh_walks.specs.Container.{choice, sequence};
-ghost use Rattle.borsh_walks.specs.Definitions.{definitions_in, shape_of};
+ghost use Rattle.borsh_walks.specs.Definitions.{shape_of};
 ghost use Rattle.borsh_walks.specs.Tables.{mark_of};
 ghost use Rattle.std.specs.Prelude.{◌≡◌, ◌≤◌, ◌<◌, IfOk, OnOk, Some, length, map, option_map, slice_get, string_bytes};
 
 use crate::faults::Reason;
-use crate::frames::{Opened, Rest, part_at};
-use crate::layout::{Layout, Named, named_at};
+use crate::frames::{Opened, Rest};
 use crate::numbers::number;
 use crate::tag_tables::{AtKey, find_variant_of};
 use crate::tags::Found;
+use borsh_plan::Plan;
 use borsh_walks::{Declaration, Definition, DiscriminantValue, VariantName};
 use std::alloc::{AllocError, Global};
 use std::collections::BTreeMap;
@@ -32,39 +33,24 @@ fn fits_width(width: u8, end: u64) -> bool
     }
 }
 
-/// The definition of the name at a place, if it has one.
-pub fn definition_at<'a>(names: &Vec<Named<'a>>, at: usize) -> Option<&'a Definition>
-    ensures shape { option_map (λ d. shape_of d.now) result ≡ shape_at names.now.items at }
-    ensures definition { let named = slice_get names.now.items at in
-        option_map (λ d. d.now) result ≡ named_definition named }
-{
-    named_at(names, at)?.definition
-}
-
 // How many bytes each element has, if they are listed with their sequence: primitives of some bytes; 0 for others.
-fn size_of_element(names: &Vec<Named<'_>>, element: usize) -> u64
-    ensures { result ≡ packed_size (shape_at names.now.items element) }
+fn size_of_element(plan: &Plan<'_>, element: usize) -> u64
+    ensures { result ≡ packed_size (shape_at (names_of plan.now) element) }
 {
-    match definition_at(names, element) {
+    match plan.definition(element) {
         Some(Definition::Primitive(size)) => u64::from(*size),
         _ => 0,
     }
 }
 
 // What a sequence of so many elements takes, of which `taken` bytes are the count.
-fn open_elements(
-    names: &Vec<Named<'_>>,
-    element: usize,
-    count: u64,
-    taken: usize,
-    bytes: &[u8],
-) -> Opened
-    requires within { element < length names.now.items }
+fn open_elements(plan: &Plan<'_>, element: usize, count: u64, taken: usize, bytes: &[u8]) -> Opened
+    requires within { element < length (names_of plan.now) }
     requires taken { taken ≤ length bytes.now }
-    ensures { let size = packed_size (shape_at names.now.items element) in
-        TakesElements names.now.items size element count taken (length bytes.now) result }
+    ensures { let size = packed_size (shape_at (names_of plan.now) element) in
+        TakesElements (names_of plan.now) size element count taken (length bytes.now) result }
 {
-    let size = size_of_element(names, element);
+    let size = size_of_element(plan, element);
     if size == 0 {
         return Opened::Taken(taken, Rest::Copies(element, count));
     }
@@ -81,19 +67,18 @@ fn open_elements(
 }
 
 pub fn open_sequence(
-    layout: &Layout<'_>,
+    plan: &Plan<'_>,
     width: u8,
     start: u64,
     end: u64,
     element: usize,
     bytes: &[u8],
 ) -> Opened
-    requires laid_out { IsLaidOut layout.now }
-    requires within { element < length layout.now.names.items }
-    ensures opened { let names = layout.now.names.items in
+    requires within { element < length (names_of plan.now) }
+    ensures opened { let names = names_of plan.now in
         let d = sequence width start end (name_at names element) in
-        OpensAs (definitions_in layout.now.map.now) names d bytes.now result }
-    ensures counted { let e = name_at layout.now.names.items element in
+        OpensAs (definitions_of plan.now) names d bytes.now result }
+    ensures counted { let e = name_at (names_of plan.now) element in
         CountsIfTaken (sequence width start end e) result }
 {
     if width == 0 {
@@ -103,7 +88,7 @@ pub fn open_sequence(
         if start < end {
             return Opened::Undecided;
         }
-        return open_elements(&layout.names, element, start, 0, bytes);
+        return open_elements(plan, element, start, 0, bytes);
     }
     if !fits_width(width, end) {
         return Opened::Undecided;
@@ -116,12 +101,12 @@ pub fn open_sequence(
     if count < start || end < count {
         return Opened::Refused(Reason::Count);
     }
-    open_elements(&layout.names, element, count, size, bytes)
+    open_elements(plan, element, count, size, bytes)
 }
 
 fn open_enum<'a>(
     alloc: Global,
-    layout: &Layout<'a>,
+    plan: &Plan<'a>,
     tables: &mut BTreeMap<&'a str, BTreeMap<u64, AtKey>>,
     name: &'a str,
     at: usize,
@@ -129,15 +114,14 @@ fn open_enum<'a>(
     variants: &Vec<(DiscriminantValue, VariantName, Declaration)>,
     bytes: &[u8],
 ) -> Result<Opened, AllocError>
-    requires laid_out { IsLaidOut layout.now }
-    requires within { at < length layout.now.names.items }
+    requires within { at < length (names_of plan.now) }
     requires shape { let vs = map (λ v. (v.0, string_bytes v.2)) variants.now.items in
-        shape_at layout.now.names.items at ≡ Some (choice width vs) }
+        shape_at (names_of plan.now) at ≡ Some (choice width vs) }
     requires table { let vs = map (λ v. (v.0, string_bytes v.2)) variants.now.items in
         TableFits width vs (mark_of tables.old name.now) }
     ensures opened { let vs = map (λ v. (v.0, string_bytes v.2)) variants.now.items in
-        let C = definitions_in layout.now.map.now in
-        IfOk result (λ o. OpensAs C layout.now.names.items (choice width vs) bytes.now o) }
+        let C = definitions_of plan.now in
+        IfOk result (λ o. OpensAs C (names_of plan.now) (choice width vs) bytes.now o) }
     ensures kept { let vs = map (λ v. (v.0, string_bytes v.2)) variants.now.items in
         OnOk result (KeepsTables name.now width vs tables.old tables.new) }
 {
@@ -147,7 +131,7 @@ fn open_enum<'a>(
     }
     match find_variant_of(alloc, tables, name, width, variants, &bytes[..size])? {
         Found::Nothing => Ok(Opened::Refused(Reason::Tag)),
-        Found::One(index) => match part_at(layout, at, index) {
+        Found::One(index) => match plan.part(at, index) {
             Some(part) => Ok(Opened::Taken(size, Rest::Copies(part, 1))),
             None => Ok(Opened::Undecided),
         },
@@ -159,23 +143,22 @@ fn open_enum<'a>(
 /// and its elements if these are primitives of some bytes, an enum its tag, a struct and a tuple none.
 pub fn open_definition<'a>(
     alloc: Global,
-    layout: &Layout<'a>,
+    plan: &Plan<'a>,
     tables: &mut BTreeMap<&'a str, BTreeMap<u64, AtKey>>,
     name: &'a str,
     at: usize,
     definition: &Definition,
     bytes: &[u8],
 ) -> Result<Opened, AllocError>
-    requires laid_out { IsLaidOut layout.now }
-    requires within { at < length layout.now.names.items }
-    requires shape { shape_at layout.now.names.items at ≡ Some (shape_of definition.now) }
-    requires name { name_at layout.now.names.items at ≡ name.now }
-    requires tables { AreTagTables (definitions_in layout.now.map.now) tables.old }
-    ensures opened { let C = definitions_in layout.now.map.now in
+    requires within { at < length (names_of plan.now) }
+    requires shape { shape_at (names_of plan.now) at ≡ Some (shape_of definition.now) }
+    requires name { name_at (names_of plan.now) at ≡ name.now }
+    requires tables { AreTagTables (definitions_of plan.now) tables.old }
+    ensures opened { let C = definitions_of plan.now in
         let d = shape_of definition.now in
-        IfOk result (λ o. OpensAs C layout.now.names.items d bytes.now o) }
+        IfOk result (λ o. OpensAs C (names_of plan.now) d bytes.now o) }
     ensures counted { IfOk result (λ o. CountsIfTaken (shape_of definition.now) o) }
-    ensures tables { OnOk result (AreTagTables (definitions_in layout.now.map.now) tables.new) }
+    ensures tables { OnOk result (AreTagTables (definitions_of plan.now) tables.new) }
 {
     match definition {
         Definition::Primitive(size) => {
@@ -193,9 +176,9 @@ pub fn open_definition<'a>(
             length_width,
             length_range,
             ..
-        } => match part_at(layout, at, 0) {
+        } => match plan.part(at, 0) {
             Some(element) => Ok(open_sequence(
-                layout,
+                plan,
                 *length_width,
                 length_range.start,
                 length_range.end,
@@ -207,6 +190,6 @@ pub fn open_definition<'a>(
         Definition::Enum {
             tag_width,
             variants,
-        } => open_enum(alloc, layout, tables, name, at, *tag_width, variants, bytes),
+        } => open_enum(alloc, plan, tables, name, at, *tag_width, variants, bytes),
     }
 }

@@ -1,39 +1,37 @@
 // Values of a root, one after another, from a reader.
-ghost use Rattle.borsh_values.specs.Free.{KnowsSizes};
-ghost use Rattle.borsh_values.specs.Layouts.{IsLaidOut};
-ghost use Rattle.borsh_values.specs.Records.{Advances, AdvancesHeld, Falls, IsFirstOf, IsRecordError, IsRootError, SameRoot, ahead, layout_of, limit_of, next_offset, source_of, value_of};
+ghost use Rattle.borsh_plan.specs.Plan.{definitions_of, root_of};
+ghost use Rattle.borsh_values.specs.Records.{Advances, AdvancesHeld, Falls, IsFirstOf, IsRecordError, IsRootError, SameRoot, ahead, plan_of, limit_of, next_offset, source_of, value_of};
 ghost use Rattle.borsh_values.specs.declared.records.RecordError.TheVariants.{OutOfMemory};
 ghost use Rattle.borsh_walks.specs.Container.{Member};
-ghost use Rattle.borsh_walks.specs.Definitions.{definitions_in};
 ghost use Rattle.std.specs.Prelude.{IfErr, IfOk, IfSome, None, OnOk, [], ⊤, ◌-◌, ◌≡◌, ◌≤◌, length, take, true};
 
 use crate::buffered::Buffered;
 use crate::faults::Fault;
-use crate::fronts::Front;
-use crate::layout::Layout;
+use crate::fronts::{Front, front_of};
 use borsh_io::{Error, Read};
+use borsh_plan::Plan;
 use std::alloc::{AllocError, Global};
 use std::fmt;
 
 /// How many bytes a value has at most, unless another limit is set.
 pub const MOST_BYTES: usize = 67108864;
 
-/// Values of the root of a layout, one after another, as a reader gives them: each call of [`Records::advance`] goes on to the
+/// Values of the root of a plan, one after another, as a reader gives them: each call of [`Records::advance`] goes on to the
 /// next one.
 ///
 /// However many there are, the memory is that of the longest one, and at least 64 KiB. Each value is read from its beginning at
 /// most about twice.
 ///
 /// ```
-/// let layout = Layout::new(alloc, "Vec<u8>", &definitions)?;
-/// let mut records = Records::new(alloc, &layout, StdReader::new(file, 1000), MOST_BYTES)?;
+/// let plan = Plan::new(alloc, "Vec<u8>", &definitions)?;
+/// let mut records = Records::new(alloc, &plan, StdReader::new(file, 1000), MOST_BYTES)?;
 /// while records.advance(alloc)? {
-///     let nodes = Preorder::new(alloc, &layout, records.value());
+///     let nodes = Preorder::new(alloc, &plan, records.value());
 /// }
 /// ```
 #[derive(Drop)]
 pub struct Records<'a, 'l, R> {
-    layout: &'l Layout<'a>,
+    plan: &'l Plan<'a>,
     input: Buffered<R>,
     // Where the next value begins.
     next: u64,
@@ -98,34 +96,32 @@ impl<'a> fmt::Display for RecordError<'a> {
 impl<'a, 'l, R: Read + Drop> Records<'a, 'l, R> {
     /// The values of the root, from the reader's next byte on. A value has at most `limit` bytes.
     ///
-    /// Returns `EmptyValue` if the root has the empty value, `Ambiguous` as [`Layout::front`], and `OutOfMemory` if an allocation
+    /// Returns `EmptyValue` if the root has the empty value, `Ambiguous` as [`crate::front_of`], and `OutOfMemory` if an allocation
     /// fails. Nothing is read. Left open: memory; `Ambiguous` as there.
     ///
     /// ```
-    /// let mut records = Records::new(alloc, &layout, b"\x01\x02".as_slice(), MOST_BYTES)?;
+    /// let mut records = Records::new(alloc, &plan, b"\x01\x02".as_slice(), MOST_BYTES)?;
     /// ```
     pub fn new(
         alloc: Global,
-        layout: &'l Layout<'a>,
+        plan: &'l Plan<'a>,
         reader: R,
         limit: usize,
     ) -> Result<Records<'a, 'l, R>, RecordError<'a>>
-        requires laid_out { IsLaidOut layout.now }
-        requires sizes { KnowsSizes layout.now }
         ensures first { IfOk result (λ r. (source_of r ≡ reader) × (ahead r ≡ []) × (next_offset r ≡ 0)) }
-        ensures same { IfOk result (λ r. (layout_of r ≡ layout.entry) × (limit_of r ≡ limit)) }
-        ensures nonempty { let C = definitions_in layout.now.map.now in
-            OnOk result (Member C layout.now.root.now [] → ⊥) }
-        ensures err { let C = definitions_in layout.now.map.now in
-            IfErr result (λ e. IsRootError C layout.now.root.now e) }
+        ensures same { IfOk result (λ r. (plan_of r ≡ plan.entry) × (limit_of r ≡ limit)) }
+        ensures nonempty { let C = definitions_of plan.now in
+            OnOk result (Member C (root_of plan.now) [] → ⊥) }
+        ensures err { let C = definitions_of plan.now in
+            IfErr result (λ e. IsRootError C (root_of plan.now) e) }
     {
-        match layout.front(alloc, b"")? {
+        match front_of(alloc, plan, b"")? {
             Front::Value(_) => return Err(RecordError::EmptyValue),
             Front::Ambiguous(name) => return Err(RecordError::Ambiguous(name)),
             Front::TooShort(_) | Front::NoMember(_) => (),
         }
         Ok(Records {
-            layout,
+            plan,
             input: Buffered::new(alloc, reader),
             next: 0,
             limit,
@@ -161,7 +157,7 @@ impl<'a, 'l, R: Read + Drop> Records<'a, 'l, R> {
     ///
     /// `false` means that the reader is at its end, and all its bytes were values. After an error all bytes are kept, and a later
     /// call begins at the same value. The reader's bytes are lost to it as they are read, and it may have lost bytes of values that
-    /// are still to come. Left open: memory; how much is read; as of [`Layout::front`].
+    /// are still to come. Left open: memory; how much is read; as of [`crate::front_of`].
     ///
     /// ```
     /// let mut count = 0;
@@ -170,12 +166,10 @@ impl<'a, 'l, R: Read + Drop> Records<'a, 'l, R> {
     /// }
     /// ```
     pub fn advance(&mut self, alloc: Global) -> Result<bool, RecordError<'a>>
-        requires laid_out { IsLaidOut (layout_of self.old).now }
-        requires sizes { KnowsSizes (layout_of self.old).now }
         ensures same { SameRoot self.old self.new }
         ensures falls { Falls R.stream self.old self.new result }
-        ensures advances { let layout = (layout_of self.old).now in
-            Advances (definitions_in layout.map.now) layout.root.now R.stream self.old self.new result }
+        ensures advances { let plan = (plan_of self.old).now in
+            Advances (definitions_of plan) (root_of plan) R.stream self.old self.new result }
     {
         let mut at_end = false;
         loop {
@@ -201,11 +195,9 @@ impl<'a, 'l, R: Read + Drop> Records<'a, 'l, R> {
     /// }
     /// ```
     pub fn advance_held(&mut self, alloc: Global) -> Result<bool, RecordError<'a>>
-        requires laid_out { IsLaidOut (layout_of self.old).now }
-        requires sizes { KnowsSizes (layout_of self.old).now }
         ensures same { SameRoot self.old self.new }
-        ensures advances { let layout = (layout_of self.old).now in
-            AdvancesHeld (definitions_in layout.map.now) layout.root.now self.old self.new ⊤ ⊥ result }
+        ensures advances { let plan = (plan_of self.old).now in
+            AdvancesHeld (definitions_of plan) (root_of plan) self.old self.new ⊤ ⊥ result }
         ensures falls { Falls R.stream self.old self.new result }
     {
         self.find(alloc, false)
@@ -213,11 +205,9 @@ impl<'a, 'l, R: Read + Drop> Records<'a, 'l, R> {
 
     // Goes on to the next value among the bytes that were read; `at_end` says that no others follow.
     fn find(&mut self, alloc: Global, at_end: bool) -> Result<bool, RecordError<'a>>
-        requires laid_out { IsLaidOut (layout_of self.old).now }
-        requires sizes { KnowsSizes (layout_of self.old).now }
         ensures same { SameRoot self.old self.new }
-        ensures advances { let layout = (layout_of self.old).now in
-            AdvancesHeld (definitions_in layout.map.now) layout.root.now self.old self.new
+        ensures advances { let plan = (plan_of self.old).now in
+            AdvancesHeld (definitions_of plan) (root_of plan) self.old self.new
             (at_end ≡ true → ahead self.old ≡ []) (at_end ≡ true) result }
     {
         let held = self.input.held().len();
@@ -240,18 +230,16 @@ impl<'a, 'l, R: Read + Drop> Records<'a, 'l, R> {
 
     // How many bytes the next value has; none if more bytes have to be read.
     fn look(&self, alloc: Global, at_end: bool) -> Result<Option<usize>, RecordError<'a>>
-        requires laid_out { IsLaidOut self.now.layout.now }
-        requires sizes { KnowsSizes self.now.layout.now }
         requires some { ahead self.now ≡ [] → ⊥ }
-        ensures found { let layout = self.now.layout.now in let limit = limit_of self.now in
-            IfOk result (λ o. IfSome o (λ n. (n ≤ limit) × IsFirstOf (definitions_in layout.map.now) layout.root.now n (ahead self.now))) }
+        ensures found { let plan = self.now.plan.now in let limit = limit_of self.now in
+            IfOk result (λ o. IfSome o (λ n. (n ≤ limit) × IsFirstOf (definitions_of plan) (root_of plan) n (ahead self.now))) }
         ensures none { IfOk result (λ o. o ≡ None → at_end ≡ true → ⊥) }
-        ensures error { let layout = self.now.layout.now in
-            IfErr result (λ e. IsRecordError (definitions_in layout.map.now) layout.root.now (ahead self.now)
+        ensures error { let plan = self.now.plan.now in
+            IfErr result (λ e. IsRecordError (definitions_of plan) (root_of plan) (ahead self.now)
             (next_offset self.now) (limit_of self.now) (at_end ≡ true) (λ _. ⊥) e) }
     {
         let tried = self.tried();
-        match self.layout.front(alloc, tried)? {
+        match front_of(alloc, self.plan, tried)? {
             Front::Value(0) => Err(RecordError::EmptyValue),
             Front::Value(length) => Ok(Some(length)),
             Front::TooShort(_) if self.limit <= tried.len() => Err(RecordError::TooLong(self.next)),

@@ -1,17 +1,18 @@
 // Values one after another that are passed without a frame for each.
-ghost use Rattle.borsh_values.specs.Free.{AreFirst, FreeSize, IsFreeFront, IsRight, IsRun, IsTagLength, KnowsSizes, Passes};
-ghost use Rattle.borsh_values.specs.Layouts.{IsLaidOut, name_at, parts_in, shape_at};
+ghost use Rattle.borsh_plan.specs.Plan.{definitions_of, names_of};
+ghost use Rattle.borsh_values.specs.Free.{AreFirst, FreeSize, IsFreeFront, IsRight, IsRun, IsTagLength, Passes};
+ghost use Rattle.borsh_plan.specs.Names.{name_at, parts_in, shape_at};
 ghost use Rattle.borsh_values.specs.declared.frames.Rest.TheVariants.{Copies};
 ghost use Rattle.borsh_walks.specs.Container.{choice, product};
-ghost use Rattle.borsh_walks.specs.Definitions.{definitions_in, shape_of};
+ghost use Rattle.borsh_walks.specs.Definitions.{shape_of};
 ghost use Rattle.std.specs.Prelude.{IfSome, MatchOption, Some, [], ◌∷◌, ◌≡◌, ◌<◌, ◌≤◌, ◌⊎◌, length, map, string_bytes};
 
-use crate::frames::{Opened, Rest, part_at};
-use crate::free::{Passed, size_at};
-use crate::layout::Layout;
-use crate::members::after;
-use crate::opening::{definition_at, open_sequence};
+use crate::cursor::after;
+use crate::frames::{Opened, Rest};
+use crate::free::Passed;
+use crate::opening::open_sequence;
 use crate::tags::{Found, find_variant};
+use borsh_plan::Plan;
 use borsh_walks::{Declaration, Definition, DiscriminantValue, VariantName};
 
 type Variants = Vec<(DiscriminantValue, VariantName, Declaration)>;
@@ -31,20 +32,18 @@ pub struct Run {
 }
 
 // The free size of what a variant has, which may be 0.
-fn payload_size(layout: &Layout<'_>, part: usize) -> Option<u64>
-    requires laid_out { IsLaidOut layout.now }
-    requires sizes { KnowsSizes layout.now }
-    requires within { part < length layout.now.names.items }
-    ensures { let name = name_at layout.now.names.items part in
-        IfSome result (λ n. FreeSize (definitions_in layout.now.map.now) name n) }
+fn payload_size(plan: &Plan<'_>, part: usize) -> Option<u64>
+    requires within { part < length (names_of plan.now) }
+    ensures { let name = name_at (names_of plan.now) part in
+        IfSome result (λ n. FreeSize (definitions_of plan.now) name n) }
 {
-    let size = size_at(&layout.sizes, part);
+    let size = plan.size(part);
     if size > 0 {
         return Some(size);
     }
-    match definition_at(&layout.names, part) {
+    match plan.definition(part) {
         Some(Definition::Primitive(0)) => Some(0),
-        Some(Definition::Struct { .. }) => match part_at(layout, part, 0) {
+        Some(Definition::Struct { .. }) => match plan.part(part, 0) {
             Some(_) => None,
             None => Some(0),
         },
@@ -53,45 +52,41 @@ fn payload_size(layout: &Layout<'_>, part: usize) -> Option<u64>
 }
 
 // How long each value of the enum at a place is that begins with this byte.
-fn length_by_tag(layout: &Layout<'_>, at: usize, variants: &Variants, tag: u8) -> Option<u64>
-    requires laid_out { IsLaidOut layout.now }
-    requires sizes { KnowsSizes layout.now }
-    requires within { at < length layout.now.names.items }
+fn length_by_tag(plan: &Plan<'_>, at: usize, variants: &Variants, tag: u8) -> Option<u64>
+    requires within { at < length (names_of plan.now) }
     requires shape { let vs = map (λ v. (v.0, string_bytes v.2)) variants.now.items in
-        shape_at layout.now.names.items at ≡ Some (choice 1 vs) }
-    ensures { let name = name_at layout.now.names.items at in
-        IfSome result (λ n. IsTagLength (definitions_in layout.now.map.now) name tag n) }
+        shape_at (names_of plan.now) at ≡ Some (choice 1 vs) }
+    ensures { let name = name_at (names_of plan.now) at in
+        IfSome result (λ n. IsTagLength (definitions_of plan.now) name tag n) }
 {
     let bytes = [tag];
     let Found::One(index) = find_variant(variants, bytes.as_slice()) else {
         return None;
     };
-    let part = part_at(layout, at, index)?;
-    let size = payload_size(layout, part)?;
+    let part = plan.part(at, index)?;
+    let size = payload_size(plan, part)?;
     let length = size.checked_add(1)?;
     Some(length)
 }
 
 // The same, by what was found before where the byte is the same.
 fn length_of(
-    layout: &Layout<'_>,
+    plan: &Plan<'_>,
     at: usize,
     variants: &Variants,
     tag: u8,
     last: TagLength,
     other: TagLength,
 ) -> TagLength
-    requires laid_out { IsLaidOut layout.now }
-    requires sizes { KnowsSizes layout.now }
-    requires within { at < length layout.now.names.items }
+    requires within { at < length (names_of plan.now) }
     requires shape { let vs = map (λ v. (v.0, string_bytes v.2)) variants.now.items in
-        shape_at layout.now.names.items at ≡ Some (choice 1 vs) }
-    requires last { let name = name_at layout.now.names.items at in
-        IsRight (definitions_in layout.now.map.now) name last }
-    requires other { let name = name_at layout.now.names.items at in
-        IsRight (definitions_in layout.now.map.now) name other }
-    ensures right { let name = name_at layout.now.names.items at in
-        IsRight (definitions_in layout.now.map.now) name result }
+        shape_at (names_of plan.now) at ≡ Some (choice 1 vs) }
+    requires last { let name = name_at (names_of plan.now) at in
+        IsRight (definitions_of plan.now) name last }
+    requires other { let name = name_at (names_of plan.now) at in
+        IsRight (definitions_of plan.now) name other }
+    ensures right { let name = name_at (names_of plan.now) at in
+        IsRight (definitions_of plan.now) name result }
     ensures same { result.tag ≡ tag }
 {
     if last.tag == tag {
@@ -100,7 +95,7 @@ fn length_of(
     if other.tag == tag {
         return other;
     }
-    let length = length_by_tag(layout, at, variants, tag);
+    let length = length_by_tag(plan, at, variants, tag);
     TagLength { tag, length }
 }
 
@@ -112,16 +107,14 @@ fn kept(known: TagLength, last: TagLength, other: TagLength) -> TagLength
 }
 
 // Passes values of the enum at a place, at most so many.
-fn run_of_enums(layout: &Layout<'_>, at: usize, variants: &Variants, count: u64, left: &[u8]) -> Run
-    requires laid_out { IsLaidOut layout.now }
-    requires sizes { KnowsSizes layout.now }
-    requires within { at < length layout.now.names.items }
+fn run_of_enums(plan: &Plan<'_>, at: usize, variants: &Variants, count: u64, left: &[u8]) -> Run
+    requires within { at < length (names_of plan.now) }
     requires shape { let vs = map (λ v. (v.0, string_bytes v.2)) variants.now.items in
-        shape_at layout.now.names.items at ≡ Some (choice 1 vs) }
-    ensures { let name = name_at layout.now.names.items at in
-        IsRun (definitions_in layout.now.map.now) name left.now count result }
+        shape_at (names_of plan.now) at ≡ Some (choice 1 vs) }
+    ensures { let name = name_at (names_of plan.now) at in
+        IsRun (definitions_of plan.now) name left.now count result }
 {
-    let length = length_by_tag(layout, at, variants, 0);
+    let length = length_by_tag(plan, at, variants, 0);
     let mut last = TagLength { tag: 0, length };
     let mut other = last;
     let mut taken: usize = 0;
@@ -131,7 +124,7 @@ fn run_of_enums(layout: &Layout<'_>, at: usize, variants: &Variants, count: u64,
         let Some(tag) = next.first() else {
             return Run { taken, values };
         };
-        let known = length_of(layout, at, variants, *tag, last, other);
+        let known = length_of(plan, at, variants, *tag, last, other);
         other = kept(known, last, other);
         last = known;
         let Some(length) = known.length else {
@@ -147,31 +140,28 @@ fn run_of_enums(layout: &Layout<'_>, at: usize, variants: &Variants, count: u64,
 }
 
 // How many of the first bytes are a value of the name at a place, where its size or count tells that.
-fn value_length(layout: &Layout<'_>, at: usize, left: &[u8]) -> Option<usize>
-    requires laid_out { IsLaidOut layout.now }
-    requires sizes { KnowsSizes layout.now }
-    requires within { at < length layout.now.names.items }
-    ensures { let name = name_at layout.now.names.items at in
-        IfSome result (λ n. AreFirst (definitions_in layout.now.map.now) (name ∷ []) left.now n) }
+fn value_length(plan: &Plan<'_>, at: usize, left: &[u8]) -> Option<usize>
+    requires within { at < length (names_of plan.now) }
+    ensures { let name = name_at (names_of plan.now) at in
+        IfSome result (λ n. AreFirst (definitions_of plan.now) (name ∷ []) left.now n) }
 {
-    let size = size_at(&layout.sizes, at);
+    let size = plan.size(at);
     if size > 0 {
         if size <= left.len() as u64 {
             return Some(size as usize);
         }
         return None;
     }
-    let definition = definition_at(&layout.names, at)?;
-    own_length(layout, at, definition, left)
+    let definition = plan.definition(at)?;
+    own_length(plan, at, definition, left)
 }
 
 // The same where its definition tells that: a primitive, or a list of primitives or of nothing.
-fn own_length(layout: &Layout<'_>, at: usize, definition: &Definition, left: &[u8]) -> Option<usize>
-    requires laid_out { IsLaidOut layout.now }
-    requires within { at < length layout.now.names.items }
-    requires shape { shape_at layout.now.names.items at ≡ Some (shape_of definition.now) }
-    ensures { let name = name_at layout.now.names.items at in
-        IfSome result (λ n. AreFirst (definitions_in layout.now.map.now) (name ∷ []) left.now n) }
+fn own_length(plan: &Plan<'_>, at: usize, definition: &Definition, left: &[u8]) -> Option<usize>
+    requires within { at < length (names_of plan.now) }
+    requires shape { shape_at (names_of plan.now) at ≡ Some (shape_of definition.now) }
+    ensures { let name = name_at (names_of plan.now) at in
+        IfSome result (λ n. AreFirst (definitions_of plan.now) (name ∷ []) left.now n) }
 {
     match definition {
         Definition::Primitive(size) => {
@@ -182,11 +172,11 @@ fn own_length(layout: &Layout<'_>, at: usize, definition: &Definition, left: &[u
             length_width,
             length_range,
             ..
-        } => match part_at(layout, at, 0) {
+        } => match plan.part(at, 0) {
             Some(element) => {
                 let start = length_range.start;
                 let end = length_range.end;
-                match open_sequence(layout, *length_width, start, end, element, left) {
+                match open_sequence(plan, *length_width, start, end, element, left) {
                     Opened::Taken(taken, Rest::Copies(_, 0)) => Some(taken),
                     _ => None,
                 }
@@ -198,17 +188,15 @@ fn own_length(layout: &Layout<'_>, at: usize, definition: &Definition, left: &[u
 }
 
 // How many of the first bytes are the parts of a value of the struct or tuple at a place, where those of each are told.
-fn parts_length(layout: &Layout<'_>, at: usize, left: &[u8]) -> Option<usize>
-    requires laid_out { IsLaidOut layout.now }
-    requires sizes { KnowsSizes layout.now }
-    requires within { at < length layout.now.names.items }
-    ensures { let parts = parts_in (shape_at layout.now.names.items at) in
-        IfSome result (λ n. AreFirst (definitions_in layout.now.map.now) parts left.now n) }
+fn parts_length(plan: &Plan<'_>, at: usize, left: &[u8]) -> Option<usize>
+    requires within { at < length (names_of plan.now) }
+    ensures { let parts = parts_in (shape_at (names_of plan.now) at) in
+        IfSome result (λ n. AreFirst (definitions_of plan.now) parts left.now n) }
 {
     let mut taken: usize = 0;
     let mut index: usize = 0;
-    while let Some(part) = part_at(layout, at, index) {
-        let length = value_length(layout, part, after(left, taken))?;
+    while let Some(part) = plan.part(at, index) {
+        let length = value_length(plan, part, after(left, taken))?;
         taken += length;
         index += 1;
     }
@@ -216,18 +204,16 @@ fn parts_length(layout: &Layout<'_>, at: usize, left: &[u8]) -> Option<usize>
 }
 
 // Passes values of the struct or tuple at a place, at most so many.
-fn run_of_products(layout: &Layout<'_>, at: usize, count: u64, left: &[u8]) -> Run
-    requires laid_out { IsLaidOut layout.now }
-    requires sizes { KnowsSizes layout.now }
-    requires within { at < length layout.now.names.items }
-    requires shape { let s = shape_at layout.now.names.items at in s ≡ Some (product (parts_in s)) }
-    ensures { let name = name_at layout.now.names.items at in
-        IsRun (definitions_in layout.now.map.now) name left.now count result }
+fn run_of_products(plan: &Plan<'_>, at: usize, count: u64, left: &[u8]) -> Run
+    requires within { at < length (names_of plan.now) }
+    requires shape { let s = shape_at (names_of plan.now) at in s ≡ Some (product (parts_in s)) }
+    ensures { let name = name_at (names_of plan.now) at in
+        IsRun (definitions_of plan.now) name left.now count result }
 {
     let mut taken: usize = 0;
     let mut values: u64 = 0;
     while values < count {
-        let Some(length) = parts_length(layout, at, after(left, taken)) else {
+        let Some(length) = parts_length(plan, at, after(left, taken)) else {
             return Run { taken, values };
         };
         if length == 0 {
@@ -240,27 +226,23 @@ fn run_of_products(layout: &Layout<'_>, at: usize, count: u64, left: &[u8]) -> R
 }
 
 // Whether each part of the definition at a place is of a free size, or may be a list of primitives or, in an enum, has no bytes.
-fn has_short_parts(layout: &Layout<'_>, at: usize, in_enum: bool) -> bool {
-    match layout.parts.as_slice().get(at) {
-        Some(parts) => parts.as_slice().iter().all(|part| {
-            let definition = definition_at(&layout.names, *part);
-            size_at(&layout.sizes, *part) > 0
-                || in_enum && layout.zeros.as_slice().get(*part).copied() == Some(true)
-                || !in_enum && matches!(definition, Some(Definition::Sequence { .. }))
-        }),
-        None => false,
-    }
+fn has_short_parts(plan: &Plan<'_>, at: usize, in_enum: bool) -> bool {
+    plan.parts(at).iter().all(|part| {
+        let definition = plan.definition(*part);
+        plan.size(*part) > 0
+            || in_enum && plan.is_zero(*part)
+            || !in_enum && matches!(definition, Some(Definition::Sequence { .. }))
+    })
 }
 
-/// The next of so many values of the name at a place, as many as are passed.
-pub fn pass_run(layout: &Layout<'_>, at: usize, count: u64, left: &[u8]) -> Option<Passed>
-    requires laid_out { IsLaidOut layout.now }
-    requires sizes { KnowsSizes layout.now }
-    requires within { at < length layout.now.names.items }
-    ensures { let C = definitions_in layout.now.map.now in
-        IfSome result (λ p. IsFreeFront C layout.now.names.items (Copies at count) left.now p) }
+/// The next of so many values of the name at a place, as many as are passed. Runs of enums pay in bench row `Vec<Option<u64>>`, those
+/// of structs and tuples in the row of records.
+pub fn pass_run(plan: &Plan<'_>, at: usize, count: u64, left: &[u8]) -> Option<Passed>
+    requires within { at < length (names_of plan.now) }
+    ensures { let C = definitions_of plan.now in
+        IfSome result (λ p. IsFreeFront C (names_of plan.now) (Copies at count) left.now p) }
 {
-    let Some(definition) = definition_at(&layout.names, at) else {
+    let Some(definition) = plan.definition(at) else {
         return None;
     };
     match definition {
@@ -268,15 +250,15 @@ pub fn pass_run(layout: &Layout<'_>, at: usize, count: u64, left: &[u8]) -> Opti
             tag_width,
             variants,
         } => {
-            if *tag_width == 1 && has_short_parts(layout, at, true) {
-                passed(at, count, run_of_enums(layout, at, variants, count, left))
+            if *tag_width == 1 && has_short_parts(plan, at, true) {
+                passed(at, count, run_of_enums(plan, at, variants, count, left))
             } else {
                 None
             }
         }
         Definition::Struct { .. } | Definition::Tuple { .. } => {
-            if has_short_parts(layout, at, false) {
-                passed(at, count, run_of_products(layout, at, count, left))
+            if has_short_parts(plan, at, false) {
+                passed(at, count, run_of_products(plan, at, count, left))
             } else {
                 None
             }

@@ -57,7 +57,7 @@ pub fn is_tag(discriminant: &i64, bytes: &[u8]) -> bool
 #[derive(Clone, Copy)]
 pub enum Found {
     Nothing,
-    /// The one at this index, or several of one name.
+    /// The one at this index.
     One(usize),
     Several,
 }

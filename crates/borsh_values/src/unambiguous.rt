@@ -5,7 +5,7 @@ ghost use Rattle.borsh_walks.specs.Definitions.{definitions_in, shape_of};
 ghost use Rattle.std.specs.Prelude.{Decides, IfOk, MatchOption, ◌+◌, ◌^◌, ◌<◌, map, string_bytes};
 
 use crate::keys::{numbers_in, tag_key};
-use crate::layout::{Layout, named_at};
+use borsh_plan::Plan;
 use borsh_walks::{Declaration, Definition, DiscriminantValue, VariantName};
 use std::alloc::{AllocError, Global};
 use std::collections::{BTreeMap, BTreeSet};
@@ -78,13 +78,13 @@ pub fn find_ambiguous<'a>(
     ensures { IfOk result (λ found. MatchOption found (IsUnambiguous (definitions_in map.now) root.now)
         (λ name. IsAmbiguousName (definitions_in map.now) root.now name.now)) }
 {
-    let layout = Layout::new(alloc, root, map)?;
+    let plan = Plan::new(alloc, root, map)?;
     let mut at: usize = 0;
-    while let Some(named) = named_at(&layout.names, at) {
-        if let Some(definition) = named.definition
+    while at < plan.len() {
+        if let Some(definition) = plan.definition(at)
             && !is_unambiguous_definition(alloc, definition)?
         {
-            return Ok(Some(named.name));
+            return Ok(Some(plan.name(at)));
         }
         at += 1;
     }

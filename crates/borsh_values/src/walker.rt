@@ -1,14 +1,13 @@
 // A value that is walked part by part.
-ghost use Rattle.borsh_values.specs.Layouts.{IsLaidOut};
 ghost use Rattle.borsh_values.specs.Walks.{FindsAt, IsWalker, TakesAt};
 ghost use Rattle.std.specs.Prelude.{IfOk, IfSome, OnOk, ◌≡◌};
 
+use crate::cursor::{after, front};
 use crate::frames::{Opened, Rest};
-use crate::layout::{Layout, name_of};
-use crate::members::{after, front};
 use crate::nodes::Node;
-use crate::opening::{definition_at, open_definition};
+use crate::opening::open_definition;
 use crate::tag_tables::AtKey;
+use borsh_plan::Plan;
 use std::alloc::{AllocError, Global};
 use std::collections::BTreeMap;
 
@@ -17,15 +16,15 @@ use std::collections::BTreeMap;
 /// The caller keeps the places of the parts that are open. A struct or a tuple has no bytes of its own, and needs no call.
 ///
 /// ```
-/// // the parts of `(u8, u16)`, whose layout has `u8` at 1 and `u16` at 2
-/// let mut walk = Walker::new(alloc, &layout, b"\x07\x01\x00");
+/// // the parts of `(u8, u16)`, whose plan has `u8` at 1 and `u16` at 2
+/// let mut walk = Walker::new(alloc, &plan, b"\x07\x01\x00");
 /// let first = walk.open(1, 1)?; // the node of `u8`, of the byte 07
 /// let second = walk.open(2, 1)?; // that of `u16`, of 01 00
 /// ```
 #[derive(Drop)]
 pub struct Walker<'a, 'l, 'b> {
     alloc: Global,
-    pub layout: &'l Layout<'a>,
+    pub plan: &'l Plan<'a>,
     tables: BTreeMap<&'a str, BTreeMap<u64, AtKey>>,
     /// The bytes that are left.
     pub left: &'b [u8],
@@ -35,16 +34,15 @@ pub struct Walker<'a, 'l, 'b> {
 
 impl<'a, 'l, 'b> Walker<'a, 'l, 'b> {
     /// At the beginning of the bytes of a value. Nothing is allocated. Left open: none.
-    pub fn new(alloc: Global, layout: &'l Layout<'a>, bytes: &'b [u8]) -> Walker<'a, 'l, 'b>
-        requires { IsLaidOut layout.now }
+    pub fn new(alloc: Global, plan: &'l Plan<'a>, bytes: &'b [u8]) -> Walker<'a, 'l, 'b>
         ensures walk { IsWalker result }
-        ensures layout { result.layout ≡ layout.entry }
+        ensures plan { result.plan ≡ plan.entry }
         ensures left { result.left.now ≡ bytes.now }
         ensures offset { result.offset ≡ 0 }
     {
         Walker {
             alloc,
-            layout,
+            plan,
             tables: BTreeMap::new(alloc),
             left: bytes,
             offset: 0,
@@ -66,7 +64,7 @@ impl<'a, 'l, 'b> Walker<'a, 'l, 'b> {
         requires { IsWalker self.old }
         ensures finds { IfOk result (λ found. FindsAt at self.old self.new found) }
         ensures walk { OnOk result (IsWalker self.new) }
-        ensures layout { self.new.layout ≡ self.old.layout }
+        ensures plan { self.new.plan ≡ self.old.plan }
         ensures depth { IfOk result (λ found. IfSome found (λ n. n.depth ≡ depth)) }
     {
         match self.take(at, depth)? {
@@ -84,17 +82,18 @@ impl<'a, 'l, 'b> Walker<'a, 'l, 'b> {
         requires { IsWalker self.old }
         ensures finds { IfOk result (λ found. TakesAt at self.old self.new found) }
         ensures walk { OnOk result (IsWalker self.new) }
-        ensures layout { self.new.layout ≡ self.old.layout }
+        ensures plan { self.new.plan ≡ self.old.plan }
+        ensures at { IfOk result (λ found. IfSome found (λ t. t.0.at ≡ at)) }
         ensures depth { IfOk result (λ found. IfSome found (λ t. t.0.depth ≡ depth)) }
     {
-        let layout = self.layout;
-        let Some(definition) = definition_at(&layout.names, at) else {
+        let plan = self.plan;
+        let Some(definition) = plan.definition(at) else {
             return Ok(None);
         };
-        let name = name_of(&layout.names, at);
+        let name = plan.name(at);
         match open_definition(
             self.alloc,
-            layout,
+            plan,
             &mut self.tables,
             name,
             at,
@@ -103,6 +102,7 @@ impl<'a, 'l, 'b> Walker<'a, 'l, 'b> {
         )? {
             Opened::Taken(taken, rest) => {
                 let node = Node {
+                    at,
                     name,
                     definition,
                     bytes: front(self.left, taken),

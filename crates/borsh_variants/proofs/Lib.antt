@@ -1,2 +1,3 @@
 pub mod DescribedCases
+pub mod DescribedGroups
 mod Steps

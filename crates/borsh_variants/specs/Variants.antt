@@ -35,14 +35,25 @@ pub record VariantsRead : Type 0 where
 abbrev pub ReadsVariants : Type 0
 ReadsVariants = List ℕ → List VariantNames → VariantsRead
 
--- one variant, whose fields have these types
-abbrev pub read_case : ℕ → List (List ℕ) → DefinitionTree → ReadsVariants
-read_case tag types parts enum [] = record { rows = []; parts = none; rest = [] }
-read_case tag types parts enum (v ∷ vs) = record {
-  rows = (pos tag, v.0, variant_type enum v.0) ∷ [];
-  parts = defined (variant_type enum v.0) (variant_fields v.1 types) parts;
+-- the name of a type with the names of its parameters
+abbrev pub name_with : List ℕ → List ℕ → List (List ℕ) → List ℕ
+name_with name first others = name ++ (codes "<" ++ (first ++ (following others ++ codes ">")))
+
+-- one variant, whose fields have these types; `whole` makes its definition's name of the variant's
+abbrev pub read_case_as : (List ℕ → List ℕ) → ℕ → List (List ℕ) → DefinitionTree → ReadsVariants
+read_case_as whole tag types parts enum [] = record { rows = []; parts = none; rest = [] }
+read_case_as whole tag types parts enum (v ∷ vs) = record {
+  rows = (pos tag, v.0, whole (variant_type enum v.0)) ∷ [];
+  parts = defined (whole (variant_type enum v.0)) (variant_fields v.1 types) parts;
   rest = vs;
 }
+
+abbrev pub read_case : ℕ → List (List ℕ) → DefinitionTree → ReadsVariants
+read_case = read_case_as (λ name. name)
+
+-- with the names of the parameters that its fields name
+abbrev pub read_case_with : List ℕ → List (List ℕ) → ℕ → List (List ℕ) → DefinitionTree → ReadsVariants
+read_case_with first others = read_case_as (λ name. name_with name first others)
 
 -- some variants, and then others
 abbrev pub read_fork : ReadsVariants → ReadsVariants → ReadsVariants
@@ -52,10 +63,9 @@ read_fork first second enum vs = record {
   rest = (second enum (first enum vs).rest).rest;
 }
 
--- an enum of this name, with a tag of one byte, whose variants have these names
-abbrev pub enum_definitions : List ℕ → List VariantNames → ReadsVariants → DefinitionTree
-enum_definitions name vs read = defined name (variants 1 (read name vs).rows) (read name vs).parts
+-- an enum of this name, with a tag of one byte, whose variants have these names; `whole` is its name with parameters
+abbrev pub enum_definitions_as : List ℕ → List ℕ → List VariantNames → ReadsVariants → DefinitionTree
+enum_definitions_as whole name vs read = defined whole (variants 1 (read name vs).rows) (read name vs).parts
 
--- the name of a type with the names of its parameters
-abbrev pub name_with : List ℕ → List ℕ → List (List ℕ) → List ℕ
-name_with name first others = name ++ (codes "<" ++ (first ++ (following others ++ codes ">")))
+abbrev pub enum_definitions : List ℕ → List VariantNames → ReadsVariants → DefinitionTree
+enum_definitions name = enum_definitions_as name name

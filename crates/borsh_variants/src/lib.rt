@@ -5,4 +5,4 @@ pub mod parameters;
 pub mod variants;
 
 pub use parameters::{add_named_with, add_unnamed_with, declared_with};
-pub use variants::{VariantTypes, add_enum};
+pub use variants::{CaseWith, VariantTypes, add_enum, add_enum_with};

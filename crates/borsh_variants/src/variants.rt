@@ -5,11 +5,12 @@ ghost use Rattle.borsh_schema.specs.declared.definitions.SchemaBuildError.TheVar
 ghost use Rattle.borsh_definitions.specs.Described.{defined, named_fields, variant_bytes};
 ghost use Rattle.borsh_schema.specs.Joined.{AddsDefinitions};
 ghost use Rattle.borsh_definitions.specs.Names.{texts};
-ghost use Rattle.borsh_variants.specs.Variants.{ReadsVariants, enum_definitions, read_case, read_fork, variant_fields, variant_names, variant_type};
+ghost use Rattle.borsh_variants.specs.Variants.{ReadsVariants, enum_definitions, enum_definitions_as, name_with, read_case, read_case_with, read_fork, variant_fields, variant_names, variant_type};
 
-use borsh_enums::{Case, Fork};
+use super::parameters::declared_with;
+use borsh_enums::{Case, Fork, TagOf};
 use borsh_schema::{
-    DefinitionMap, FieldTypes, SchemaResult, add_definition, add_with_parts, declared,
+    BorshSchema, DefinitionMap, FieldTypes, SchemaResult, add_definition, add_with_parts, declared,
 };
 use borsh_walks::{Declaration, Definition, DiscriminantValue, Fields, VariantName};
 use std::alloc::Global;
@@ -81,6 +82,43 @@ impl<const TAG: u8, P: FieldTypes> VariantTypes for Case<TAG, P> {
     }
 }
 
+/// A variant of a type with parameters: the name of its definition has those that its fields name, `T` and those of `R`.
+pub type CaseWith<const TAG: u8, T, R, P> = (TagOf<TAG>, (T, R), P);
+
+impl<const TAG: u8, T: BorshSchema, R: FieldTypes, P: FieldTypes> VariantTypes
+    for CaseWith<TAG, T, R, P> {
+    ghost read = { read_case_with T.name R.described.names TAG
+        P.described.names P.described.parts };
+
+    fn push_variants(
+        alloc: Global,
+        name: &str,
+        names: &mut Iter<'_, (&str, &[&str])>,
+        list: &mut Vec<(DiscriminantValue, VariantName, Declaration)>,
+    ) -> SchemaResult<()> {
+        if let Some(first) = names.next() {
+            let variant = declared(alloc, first.0)?;
+            let declaration = type_with::<T, R>(alloc, name, first.0)?;
+            list.push((i64::from(TAG), variant, declaration))?;
+        }
+        Ok(())
+    }
+
+    fn add_variants(
+        alloc: Global,
+        name: &str,
+        names: &mut Iter<'_, (&str, &[&str])>,
+        definitions: &mut DefinitionMap,
+    ) -> SchemaResult<()> {
+        match names.next() {
+            Some(first) => {
+                add_variant_with::<T, R, P>(alloc, name, first.0, first.1, definitions)
+            }
+            None => Ok(()),
+        }
+    }
+}
+
 impl<A: VariantTypes, B: VariantTypes> VariantTypes for Fork<A, B> {
     ghost read = { read_fork A.read B.read };
 
@@ -131,6 +169,20 @@ fn type_of(alloc: Global, name: &str, variant: &str) -> SchemaResult<Declaration
     Ok(format!(in alloc; "{name}__{variant}")?)
 }
 
+// The same with parameters.
+fn type_with<T: BorshSchema, R: FieldTypes>(
+    alloc: Global,
+    name: &str,
+    variant: &str,
+) -> SchemaResult<Declaration>
+    ensures ok { IfOk result (λ d. string_bytes d
+        ≡ name_with (variant_type name.now variant.now) T.name R.described.names) }
+    ensures err { IfErr result (λ e. e ≡ OutOfMemory) }
+{
+    let own = type_of(alloc, name, variant)?;
+    declared_with::<T, R>(alloc, own.as_str())
+}
+
 // Adds the definition of a variant's fields, and those of their types.
 fn add_variant<P: FieldTypes>(
     alloc: Global,
@@ -153,6 +205,50 @@ fn add_variant<P: FieldTypes>(
     )
 }
 
+// The same with parameters.
+fn add_variant_with<T: BorshSchema, R: FieldTypes, P: FieldTypes>(
+    alloc: Global,
+    name: &str,
+    variant: &str,
+    fields: &[&str],
+    definitions: &mut DefinitionMap,
+) -> SchemaResult<()>
+    ensures { AddsDefinitions definitions.old definitions.new
+        (defined (name_with (variant_type name.now variant.now) T.name R.described.names)
+        (variant_fields (texts fields.now) P.described.names) P.described.parts) result }
+{
+    let fields = fields_of::<P>(alloc, fields)?;
+    let declaration = type_with::<T, R>(alloc, name, variant)?;
+    add_with_parts::<P>(
+        alloc,
+        declaration,
+        Definition::Struct { fields },
+        definitions,
+    )
+}
+
+// Adds an enum under a name, with the definitions of its variants' fields, which have the name of the enum itself.
+fn add_enum_as<V: VariantTypes>(
+    alloc: Global,
+    declaration: Declaration,
+    name: &str,
+    names: &[(&str, &[&str])],
+    definitions: &mut DefinitionMap,
+) -> SchemaResult<()>
+    ensures { AddsDefinitions definitions.old definitions.new
+        (enum_definitions_as (string_bytes declaration) name.now
+        (variant_names names.now) V.read) result }
+{
+    let mut variants = Vec::with_capacity(alloc, names.len())?;
+    V::push_variants(alloc, name, &mut names.iter(), &mut variants)?;
+    let definition = Definition::Enum {
+        tag_width: 1,
+        variants,
+    };
+    add_definition(declaration, definition, definitions)?;
+    V::add_variants(alloc, name, &mut names.iter(), definitions)
+}
+
 /// Adds an enum with the variants `V`, whose names and names of fields are given, and the definitions of
 /// their fields. The answers are those of
 /// [`BorshSchema::add_definitions_recursively`](borsh_schema::BorshSchema::add_definitions_recursively).
@@ -171,12 +267,27 @@ pub fn add_enum<V: VariantTypes>(
     ensures { AddsDefinitions definitions.old definitions.new
         (enum_definitions name.now (variant_names names.now) V.read) result }
 {
-    let mut variants = Vec::with_capacity(alloc, names.len())?;
-    V::push_variants(alloc, name, &mut names.iter(), &mut variants)?;
-    let definition = Definition::Enum {
-        tag_width: 1,
-        variants,
-    };
-    add_definition(declared(alloc, name)?, definition, definitions)?;
-    V::add_variants(alloc, name, &mut names.iter(), definitions)
+    let declaration = declared(alloc, name)?;
+    add_enum_as::<V>(alloc, declaration, name, names, definitions)
+}
+
+/// [`add_enum`] for an enum whose parameters are `T` and those of `R`.
+///
+/// ```
+/// // enum Either<A, B> { Left(A), Right(B) }, as Either<u8, String>
+/// type Variants = Fork<CaseWith<0, u8, (), (u8, ())>, CaseWith<1, String, (), (String, ())>>;
+/// add_enum_with::<u8, (String, ()), Variants>(alloc, "Either", &[("Left", &[]), ("Right", &[])], definitions)?;
+/// ```
+pub fn add_enum_with<T: BorshSchema, R: FieldTypes, V: VariantTypes>(
+    alloc: Global,
+    name: &str,
+    names: &[(&str, &[&str])],
+    definitions: &mut DefinitionMap,
+) -> SchemaResult<()>
+    ensures { AddsDefinitions definitions.old definitions.new
+        (enum_definitions_as (name_with name.now T.name R.described.names) name.now
+        (variant_names names.now) V.read) result }
+{
+    let declaration = declared_with::<T, R>(alloc, name)?;
+    add_enum_as::<V>(alloc, declaration, name, names, definitions)
 }

@@ -12,8 +12,8 @@ use crate::stack::Spot;
 use std::alloc::{AllocError, Global};
 use std::collections::BTreeMap;
 
-// Whether the definition is never of zero size.
-fn never_zero(definition: &Definition) -> bool
+/// Whether the definition says without its parts that it is not of zero size.
+pub fn never_zero(definition: &Definition) -> bool
     ensures { result ≡ is_none (zero_size_references (shape_of definition.now)) }
 {
     match definition {

@@ -60,3 +60,12 @@ pub enum XY {
 pub enum Markers<T, U> {
     Both(PhantomData<T>, PhantomData<U>),
 }
+
+/// Two parameters, each by itself. In the schema a variant's name has the parameters that its fields name.
+// derive: borsh, schema
+#[derive(Drop)]
+pub enum Either<A, B> {
+    Neither,
+    Left(A),
+    Right { of: B, with: Option<A> },
+}

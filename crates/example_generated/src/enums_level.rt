@@ -27,9 +27,9 @@ impl FromCases for Level {
         ensures { ⊤ → ⟦<Level as FromCases>⟧.view result ≡ cases }
     {
         match cases {
-            Fork::Left(Fork::Left(Case(()))) => Level::Low,
-            Fork::Left(Fork::Right(Case(()))) => Level::High,
-            Fork::Right(Case(())) => Level::Top,
+            Fork::Left(Fork::Left((_, ()))) => Level::Low,
+            Fork::Left(Fork::Right((_, ()))) => Level::High,
+            Fork::Right((_, ())) => Level::Top,
         }
     }
 

@@ -20,7 +20,7 @@ impl<T, U> FromCases for Markers<T, U> {
         ensures { ⊤ → ⟦<Markers<T, U> as FromCases>⟧.view result ≡ cases }
     {
         match cases {
-            Case(fields) => {
+            (_, fields) => {
                 let (part0, part1) = fields;
                 Markers::Both(part0, part1)
             }

@@ -33,29 +33,29 @@ impl FromCases for Message {
         ensures { ⊤ → ⟦<Message as FromCases>⟧.view result ≡ cases }
     {
         match cases {
-            Fork::Left(Fork::Left(Fork::Left(Case(())))) => Message::Ping,
-            Fork::Left(Fork::Left(Fork::Right(Case(part0)))) => Message::Text(part0),
-            Fork::Left(Fork::Right(Fork::Left(Case(fields)))) => {
+            Fork::Left(Fork::Left(Fork::Left((_, ())))) => Message::Ping,
+            Fork::Left(Fork::Left(Fork::Right((_, part0)))) => Message::Text(part0),
+            Fork::Left(Fork::Right(Fork::Left((_, fields)))) => {
                 let (x, y) = fields;
                 Message::Move { x, y }
             }
-            Fork::Left(Fork::Right(Fork::Right(Case(fields)))) => {
+            Fork::Left(Fork::Right(Fork::Right((_, fields)))) => {
                 let (part0, part1) = fields;
                 Message::Open(part0, part1)
             }
             Fork::Right(Fork::Left(Fork::Left(case))) => {
-                let part0 = case.0;
+                let part0 = case.1;
                 Message::Tagged(part0)
             }
-            Fork::Right(Fork::Left(Fork::Right(Case(id)))) => Message::Run {
+            Fork::Right(Fork::Left(Fork::Right((_, id)))) => Message::Run {
                 id,
                 attempts: Default::default(),
             },
-            Fork::Right(Fork::Right(Fork::Left(Case(part0)))) => Message::Wait(
+            Fork::Right(Fork::Right(Fork::Left((_, part0)))) => Message::Wait(
                 part0,
                 Default::default(),
             ),
-            Fork::Right(Fork::Right(Fork::Right(Case(())))) => Message::Stop {
+            Fork::Right(Fork::Right(Fork::Right((_, ())))) => Message::Stop {
                 reason: Default::default(),
             },
         }

@@ -30,15 +30,15 @@ impl FromCases for XY {
         ensures { ⊤ → ⟦<XY as FromCases>⟧.view result ≡ cases }
     {
         match cases {
-            Fork::Left(Fork::Left(Fork::Left(Case(())))) => XY::A,
-            Fork::Left(Fork::Left(Fork::Right(Case(())))) => XY::B,
-            Fork::Left(Fork::Right(Case(()))) => XY::C,
-            Fork::Right(Fork::Left(Fork::Left(Case(fields)))) => {
+            Fork::Left(Fork::Left(Fork::Left((_, ())))) => XY::A,
+            Fork::Left(Fork::Left(Fork::Right((_, ())))) => XY::B,
+            Fork::Left(Fork::Right((_, ()))) => XY::C,
+            Fork::Right(Fork::Left(Fork::Left((_, fields)))) => {
                 let (part0, part1) = fields;
                 XY::D(part0, part1)
             }
-            Fork::Right(Fork::Left(Fork::Right(Case(())))) => XY::E,
-            Fork::Right(Fork::Right(Case(part0))) => XY::F(part0),
+            Fork::Right(Fork::Left(Fork::Right((_, ())))) => XY::E,
+            Fork::Right(Fork::Right((_, part0))) => XY::F(part0),
         }
     }
 

@@ -18,8 +18,8 @@ impl<W: BorshType, G: BorshType> FromCases for Boxed<W, G> {
         ensures { ⊤ → ⟦<Boxed<W, G> as FromCases>⟧.view result ≡ cases }
     {
         match cases {
-            Fork::Left(Case(f)) => Boxed::X { f },
-            Fork::Right(Case(part0)) => Boxed::Y(part0),
+            Fork::Left((_, f)) => Boxed::X { f },
+            Fork::Right((_, part0)) => Boxed::Y(part0),
         }
     }
 

@@ -3,6 +3,7 @@
 #![tactic(auto)]
 
 pub mod enums;
+mod enums_either;
 mod enums_level;
 mod enums_markers;
 mod enums_message;

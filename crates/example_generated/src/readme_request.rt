@@ -24,8 +24,8 @@ impl FromCases for Request {
         ensures { ⊤ → ⟦<Request as FromCases>⟧.view result ≡ cases }
     {
         match cases {
-            Fork::Left(Fork::Left(Case(()))) => Request::List,
-            Fork::Left(Fork::Right(Case(fields))) => {
+            Fork::Left(Fork::Left((_, ()))) => Request::List,
+            Fork::Left(Fork::Right((_, fields))) => {
                 let (name, pieces, price) = fields;
                 Request::Buy {
                     name,
@@ -33,7 +33,7 @@ impl FromCases for Request {
                     price,
                 }
             }
-            Fork::Right(Case(number)) => Request::Cancel { number },
+            Fork::Right((_, number)) => Request::Cancel { number },
         }
     }
 

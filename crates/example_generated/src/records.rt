@@ -30,8 +30,8 @@ pub struct Block {
     pub origin: Option<(Code, Marker)>,
 }
 
-/// As many fields as a struct may have: the last ones are encoded as one part.
-// derive: borsh
+/// More fields than a tuple has places: they are encoded in two groups.
+// derive: borsh, schema
 #[derive(Drop)]
 pub struct Panel(
     pub u8,

@@ -1,4 +1,4 @@
-// Elements of arrays that hold memory are dropped once, however far the array was decoded. The heap of `.ci/heap.c` counts
+// Elements of arrays that hold memory are dropped once, however far the array was decoded. The heap of `tools/heap.c` counts
 // their blocks; any other one has nothing to say.
 ghost use Rattle.borsh.specs.Laws.OfParts.{contramap, contramap-lawful, from, key_facts};
 

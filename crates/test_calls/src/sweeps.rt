@@ -1,7 +1,7 @@
 // A call is made again and again, and each time another one of its requests for memory is refused.
 //
 // `rt ci` runs these tests over an ordinary heap, which refuses none, so that each call is made with ample memory.
-// `.ci/refused` runs them over the heap of `.ci/heap.c`, which does as it is told.
+// `tools/refused` runs them over the heap of `tools/heap.c`, which does as it is told.
 use super::support::is_kind_alone;
 use borsh::io::{ErrorKind, Result as IoResult};
 use borsh::{BorshSerialize, to_vec};

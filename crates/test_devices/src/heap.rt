@@ -1,4 +1,4 @@
-// Orders to the heap: requests for more bytes than any heap grants, which `.ci/heap.c` reads.
+// Orders to the heap: requests for more bytes than any heap grants, which `tools/heap.c` reads.
 use std::alloc::Global;
 
 const REFUSE_ONE: usize = 1 << 60;

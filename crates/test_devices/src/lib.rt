@@ -1,7 +1,7 @@
 //! Readers, writers and a heap for tests, and what is checked of a row of the suite with them.
 //!
 //! The reader and the writer handle bytes in pieces, are interrupted, fail at a chosen call, and the writer is full after a
-//! number of bytes. The heap of `.ci/heap.c` refuses a chosen request for memory; an ordinary heap refuses none. What is proved
+//! number of bytes. The heap of `tools/heap.c` refuses a chosen request for memory; an ordinary heap refuses none. What is proved
 //! for every reader and writer holds for these too; with them a row shows what the proofs leave open, as the text of an error.
 #![tactic(auto)]
 

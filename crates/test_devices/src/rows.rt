@@ -15,7 +15,7 @@ const UNORDERED: [How; 2] = [How::FromSliceUnordered, How::FromUnorderedReader];
 pub enum Heap {
     /// An ordinary one.
     Ordinary,
-    /// One that refuses the requests that it is told to refuse: that of `.ci/heap.c`.
+    /// One that refuses the requests that it is told to refuse: that of `tools/heap.c`.
     TakesOrders,
 }
 

@@ -1,6 +1,6 @@
 //! Judges the rows of the suite: encodings, what is refused, schemas, containers, and lines of the program.
 //!
-//! The rows stand in the files of `data/`. With the argument `--refuse`, over the heap of `.ci/heap.c`, each request for memory is
+//! The rows stand in the files of `data/`. With the argument `--refuse`, over the heap of `tools/heap.c`, each request for memory is
 //! refused in turn too, and each block of memory is freed once.
 #![tactic(auto)]
 

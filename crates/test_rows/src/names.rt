@@ -2,7 +2,7 @@
 use borsh::schema::{BorshSchemaContainer, Definition, Fields, LengthRange};
 use borsh_samples::{A, B, LongA, MyEnum, MyStruct, One, OneOrZero, ShortA};
 use bytes::{Bytes, BytesMut};
-use example_generated::enums::{Level, Markers, Message, XY};
+use example_generated::enums::{Either, Level, Markers, Message, XY};
 use example_generated::generics::{Boxed, Generic, Grid, Hashed, Held};
 use example_generated::keys::{Place, Visits};
 use example_generated::library::{Library, Offer, Others};
@@ -160,7 +160,8 @@ fn types(alloc: Global, name: &str, call: &Call<'_>) -> Result<Report, Fault> {
 
 fn more_types(alloc: Global, name: &str, call: &Call<'_>) -> Result<Report, Fault> {
     at_one_of!(call_with_schema, alloc, name, call, maps_without_schema;
-        Pair<u8, Option<bool>>, Pair<Stock, Request>, Message, Level, XY, Request, Stock)
+        Pair<u8, Option<bool>>, Pair<Stock, Request>, Message, Level, XY, Request, Stock,
+        Either<u8, String>, Panel)
 }
 
 fn maps_without_schema(alloc: Global, name: &str, call: &Call<'_>) -> Result<Report, Fault> {
@@ -178,7 +179,7 @@ fn others_without_schema(alloc: Global, name: &str, call: &Call<'_>) -> Result<R
 
 fn types_without_schema(alloc: Global, name: &str, call: &Call<'_>) -> Result<Report, Fault> {
     at_one_of!(call_at, alloc, name, call, lists_of_types;
-        Panel, Route, Home, Known, Others, Offer, Grid<3>, Generic<String, u64, String>, [Code; 3])
+        Route, Home, Known, Others, Offer, Grid<3>, Generic<String, u64, String>, [Code; 3])
 }
 
 fn lists_of_types(alloc: Global, name: &str, call: &Call<'_>) -> Result<Report, Fault> {

@@ -1,13 +1,10 @@
 // What is checked of a value by its definitions.
-ghost use Rattle.borsh_values.specs.Free.{KnowsSizes};
-ghost use Rattle.borsh_values.specs.Layouts.{IsLaidOut};
-
 use super::definitions::{Definitions, text};
 use super::wrong::{Wrong, check, expect};
 use borsh_json::{JsonError, LongNumbers, Rows, Style, check_strict, from_json, to_json, value_of};
 use borsh_values::{
-    Front, Layout, Membership, Node, Preorder, RecordError, Records, count_of, elements_of,
-    is_member, variant_of,
+    Front, Membership, Node, Plan, Preorder, RecordError, Records, count_of, elements_of, front_of,
+    is_member, is_member_of, variant_of,
 };
 use std::alloc::Global;
 use test_devices::{Course, TestReader, courses};
@@ -45,8 +42,8 @@ impl<'a> Root<'a> {
         let is_front = wanted.ends_with("too few bytes are left") == (front.as_str() == "short");
         check(alloc, is_front, "front", front.as_str())?;
         self.expect_answers(bytes, wanted, wanted)?;
-        let layout = Layout::new(alloc, self.name, self.map)?;
-        match Rows::new(alloc, &layout, bytes) {
+        let plan = Plan::new(alloc, self.name, self.map)?;
+        match Rows::new(alloc, &plan, bytes) {
             Ok(_) => check(alloc, false, "rows", "rows"),
             Err(error) => expect(alloc, "rows", told(alloc, &error)?.as_str(), wanted),
         }
@@ -120,11 +117,11 @@ impl<'a> Root<'a> {
     fn joined_nodes(&self, bytes: &[u8]) -> Result<Vec<u8>, Wrong> {
         let alloc = self.alloc;
         let mut joined = Vec::new(alloc);
-        let layout = Layout::new(alloc, self.name, self.map)?;
-        let Membership::Member = layout.is_member(alloc, bytes)? else {
+        let plan = Plan::new(alloc, self.name, self.map)?;
+        let Membership::Member = is_member_of(alloc, &plan, bytes)? else {
             return Ok(joined);
         };
-        let mut nodes = Preorder::new(alloc, &layout, bytes);
+        let mut nodes = Preorder::new(alloc, &plan, bytes)?;
         for _ in 0..u64::MAX {
             let Ok(Some(node)) = nodes.next() else {
                 break;
@@ -188,10 +185,10 @@ impl<'a> Root<'a> {
     }
 
     fn records(&self, bytes: &[u8], course: Course) -> Result<String, Wrong> {
-        let layout = Layout::new(self.alloc, self.name, self.map)?;
+        let plan = Plan::new(self.alloc, self.name, self.map)?;
         let mut told = String::new(self.alloc);
         let reader = TestReader::new(bytes, course);
-        let outcome = list_records(self.alloc, &layout, reader, &mut told);
+        let outcome = list_records(self.alloc, &plan, reader, &mut told);
         match outcome {
             Ok(()) => told.push_str("end")?,
             Err(error) => told.push_str(format!(in self.alloc; "! {error}")?.as_str())?,
@@ -219,8 +216,8 @@ impl<'a> Root<'a> {
 
     /// The bytes of all rows.
     fn joined_rows(&self, bytes: &[u8]) -> Result<Vec<u8>, JsonError<'a>> {
-        let layout = Layout::new(self.alloc, self.name, self.map)?;
-        let mut rows = Rows::new(self.alloc, &layout, bytes)?;
+        let plan = Plan::new(self.alloc, self.name, self.map)?;
+        let mut rows = Rows::new(self.alloc, &plan, bytes)?;
         let mut joined = Vec::new(self.alloc);
         for _ in 0..u64::MAX {
             let Some(row) = rows.next()? else {
@@ -254,11 +251,11 @@ impl<'a> Root<'a> {
     pub fn judge_nodes(&self, bytes: &[u8], wanted: &[&str]) -> Result<(), Wrong> {
         let alloc = self.alloc;
         self.judge_member(bytes)?;
-        let layout = Layout::new(alloc, self.name, self.map)?;
-        let Membership::Member = layout.is_member(alloc, bytes)? else {
+        let plan = Plan::new(alloc, self.name, self.map)?;
+        let Membership::Member = is_member_of(alloc, &plan, bytes)? else {
             return check(alloc, false, "is_member", "no member");
         };
-        let mut nodes = Preorder::new(alloc, &layout, bytes);
+        let mut nodes = Preorder::new(alloc, &plan, bytes)?;
         for wanted in wanted {
             let Ok(Some(node)) = nodes.next() else {
                 return check(alloc, false, "nodes", "too few");
@@ -277,14 +274,11 @@ impl<'a> Root<'a> {
 /// Adds where each of the values of at most 1000 bytes begins.
 fn list_records<'a>(
     alloc: Global,
-    layout: &Layout<'a>,
+    plan: &Plan<'a>,
     reader: TestReader<'_>,
     told: &mut String,
-) -> Result<(), RecordError<'a>>
-    requires laid_out { IsLaidOut layout.now }
-    requires sizes { KnowsSizes layout.now }
-{
-    let mut records = Records::new(alloc, layout, reader, 1000)?;
+) -> Result<(), RecordError<'a>> {
+    let mut records = Records::new(alloc, plan, reader, 1000)?;
     'values: for _ in 0..u64::MAX {
         if !records.advance(alloc)? {
             break;
@@ -301,8 +295,8 @@ fn front<'a>(
     map: &'a Definitions,
     bytes: &[u8],
 ) -> Result<String, Wrong> {
-    let layout = Layout::new(alloc, name, map)?;
-    match layout.front(alloc, bytes)? {
+    let plan = Plan::new(alloc, name, map)?;
+    match front_of(alloc, &plan, bytes)? {
         Front::Value(taken) => Ok(format!(in alloc; "{taken}")?),
         Front::TooShort(_) => text(alloc, "short"),
         Front::NoMember(fault) => told(alloc, &JsonError::NoMember(fault)),

@@ -3,6 +3,7 @@
 //! Definitions hold to the end of their file.
 #![tactic(auto)]
 
+mod compared;
 mod definitions;
 mod generated;
 mod judge;
@@ -19,13 +20,14 @@ use std::{fs, io};
 use test_devices::{Section, sections_of};
 
 /// The files of `data/`.
-const FILES: [&str; 6] = [
+const FILES: [&str; 7] = [
     "json.tsv",
     "formats.tsv",
     "names.tsv",
     "members.tsv",
     "nodes.tsv",
     "types.tsv",
+    "compared.tsv",
 ];
 
 /// Prints the rows that aren't as they say, with why, and how many there are and are as they say.

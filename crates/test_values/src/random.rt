@@ -11,7 +11,7 @@ const MOST_PARTS: usize = 10000;
 const TEXTS: [&str; 8] = ["", "a", "é", "\"\\\n", "\u{1F4A9}", "\0", "text", "{}[]"];
 
 /// The next of a row of numbers that look random (xorshift).
-fn next_number(state: &mut u64) -> u64 {
+pub fn next_number(state: &mut u64) -> u64 {
     let mut number = *state;
     number ^= number << 13;
     number ^= number >> 7;

@@ -1,4 +1,5 @@
 // The kinds of rows.
+use super::compared::{judge_changed, judge_compared};
 use super::definitions::{Definitions, column, define};
 use super::judge::Root;
 use super::pieces::{bytes_of, text_of};
@@ -18,6 +19,8 @@ use std::alloc::Global;
 /// - `text` ROOT HEX JSON..: another JSON text of a value; or after `! ` why the text is none
 /// - `nodes` ROOT HEX NODE..: the nodes of a value
 /// - `ambiguous` ROOT NAME: which definition is ambiguous, `-` for none
+/// - `compare` ROOT NEW ANSWER..: the answer to whether values of the root are values of another name, and what changed
+/// - `changed` COUNT: so many random containers are compared with changed ones
 /// - `random` COUNT ROOT..: random values come back from their JSON
 /// - `type` WORD [untold]: the definitions of the type of a word of `borsh_check` or of this name, in place of those before, and
 ///   random values; with `untold` where names don't tell the order of its keys
@@ -31,6 +34,7 @@ pub fn judge_row(alloc: Global, map: &mut Definitions, row: &str) -> Result<(), 
     }
     match kind {
         "type" => *map = judge_type(alloc, name, columns)?,
+        "changed" => judge_changed(alloc, name.parse::<u64>()?)?,
         "random" => {
             let count = name.parse::<u64>()?;
             for &name in columns {
@@ -53,6 +57,13 @@ fn judge_root(root: &Root<'_>, kind: &str, columns: &[&str]) -> Result<(), Wrong
         "ambiguous" => {
             let found = find_ambiguous(alloc, root.name, root.map)?.unwrap_or("-");
             return expect(alloc, "find_ambiguous", found, first);
+        }
+        "compare" => {
+            let new = Root {
+                name: first,
+                ..*root
+            };
+            return judge_compared(root, &new, text);
         }
         _ => {}
     }

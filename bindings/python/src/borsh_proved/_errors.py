@@ -3,7 +3,7 @@
 from __future__ import annotations
 
 import enum
-from typing import Optional
+from typing import Any, Tuple, Type, Optional
 
 
 class Kind(enum.Enum):
@@ -52,7 +52,7 @@ class Error(ValueError):
         super().__init__(text)
         self.kind, self.path, self.offset, self.record = kind, path, offset, record
 
-    def __reduce__(self):  # an exception is pickled by its arguments
+    def __reduce__(self) -> Tuple[Type["Error"], Tuple[Any, ...]]:  # an exception is pickled by its arguments
         return (Error, (str(self), self.kind, self.path, self.offset, self.record))
 
 

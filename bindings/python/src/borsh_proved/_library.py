@@ -36,19 +36,22 @@ def _load() -> ctypes.CDLL:
 
 
 _library = _load()
-_IN = [ctypes.c_char_p, ctypes.c_size_t]
+_BYTES = [ctypes.c_char_p, ctypes.c_size_t]
+_NUMBERS = [ctypes.POINTER(ctypes.c_size_t), ctypes.c_size_t]
+_NUMBER = [ctypes.POINTER(ctypes.c_size_t)]
 _OUT = [ctypes.POINTER(_Buffer)]
-_SIZES = [ctypes.POINTER(ctypes.c_size_t), ctypes.c_size_t]
-_COUNT = [ctypes.POINTER(ctypes.c_size_t)]
-for _name, _arguments in {
-    "valid": _IN + _OUT,
-    "size": _IN + _COUNT + _OUT,
-    "member": _IN + _IN + _OUT,
-    "to_json": _IN + _IN + [ctypes.c_bool, ctypes.c_bool] + _OUT,
-    "from_json": _IN + _IN + _OUT,
-    "records": _IN + _IN + _SIZES + _COUNT + _OUT,
-    "json_lines": _IN + _IN + _SIZES + [ctypes.c_bool] + _COUNT + _OUT,
-}.items():
+# tools/calls.py writes: arguments
+_ARGUMENTS = {
+    "valid": _BYTES + _OUT,
+    "size": _BYTES + _NUMBER + _OUT,
+    "member": _BYTES + _BYTES + _OUT,
+    "to_json": _BYTES + _BYTES + [ctypes.c_bool] + [ctypes.c_bool] + _OUT,
+    "from_json": _BYTES + _BYTES + _OUT,
+    "records": _BYTES + _BYTES + _NUMBERS + _NUMBER + _OUT,
+    "json_lines": _BYTES + _BYTES + _NUMBERS + [ctypes.c_bool] + _NUMBER + _OUT,
+}
+# tools/calls.py: end
+for _name, _arguments in _ARGUMENTS.items():
     getattr(_library, "borsh_" + _name).argtypes = _arguments
     getattr(_library, "borsh_" + _name).restype = ctypes.c_uint32
 _library.borsh_free.argtypes = _OUT
@@ -87,17 +90,19 @@ def bytes_of(value: Bytes) -> bytes:
     return value if type(value) is bytes else memoryview(value).tobytes()
 
 
-def check_rules(schema: bytes) -> None:
+# Those of `borsh.h`, which says what they answer. `records` raises `Short` where the data ends within the first value.
+# tools/calls.py writes: calls
+def valid(schema: bytes) -> None:
     _ask("valid", schema, len(schema))
 
 
-def max_size(schema: bytes) -> int:
-    size = ctypes.c_size_t()
-    _ask("size", schema, len(schema), ctypes.byref(size))
-    return size.value
+def size(schema: bytes) -> int:
+    number = ctypes.c_size_t()
+    _ask("size", schema, len(schema), ctypes.byref(number))
+    return number.value
 
 
-def check_member(schema: bytes, value: bytes) -> None:
+def member(schema: bytes, value: bytes) -> None:
     _ask("member", schema, len(schema), value, len(value))
 
 
@@ -109,15 +114,14 @@ def from_json(schema: bytes, json: bytes) -> bytes:
     return _ask("from_json", schema, len(schema), json, len(json))
 
 
-def record_lengths(schema: bytes, data: bytes, lengths: ctypes.Array) -> int:
-    """How many values the data begins with, whose lengths are written to the array; raises `Short` where it ends within the first."""
-    count = ctypes.c_size_t()
-    _ask("records", schema, len(schema), data, len(data), lengths, len(lengths), ctypes.byref(count))
-    return count.value
+def records(schema: bytes, data: bytes, lengths: ctypes.Array[ctypes.c_size_t]) -> int:
+    number = ctypes.c_size_t()
+    _ask("records", schema, len(schema), data, len(data), lengths, len(lengths), ctypes.byref(number))
+    return number.value
 
 
-def json_lines(schema: bytes, values: bytes, lengths: ctypes.Array, lengths_count: int) -> Tuple[int, str]:
-    """The JSON of values with these lengths, up to one that has none: how many, and a line of each."""
-    count = ctypes.c_size_t()
-    lines = _ask("json_lines", schema, len(schema), values, len(values), lengths, lengths_count, False, ctypes.byref(count))
-    return count.value, lines.decode()
+def json_lines(schema: bytes, values: bytes, lengths: ctypes.Array[ctypes.c_size_t], has_quoted_numbers: bool) -> Tuple[int, str]:
+    number = ctypes.c_size_t()
+    given = _ask("json_lines", schema, len(schema), values, len(values), lengths, len(lengths), has_quoted_numbers, ctypes.byref(number))
+    return number.value, given.decode()
+# tools/calls.py: end

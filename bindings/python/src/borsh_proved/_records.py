@@ -3,7 +3,7 @@
 from __future__ import annotations
 
 import ctypes
-from typing import BinaryIO, Callable, Iterator, List, Tuple
+from typing import Callable, Iterator, List, Protocol, Tuple
 
 from . import _library
 from ._errors import Error, Kind, Short
@@ -15,21 +15,28 @@ _MOST_VALUES = 2**12
 _LONG = 2**20
 
 
-def batches(schema: bytes, file: BinaryIO, max_length: int) -> Iterator[Tuple[int, bytes, List[int]]]:
+class Readable(Protocol):
+    """A binary file, as far as it is used. One that also has `read1`, which reads what is there, is read by that."""
+
+    def read(self, count: int, /) -> _library.Bytes:
+        """At most so many bytes; none at the end alone."""
+
+
+def batches(schema: bytes, file: Readable, max_length: int) -> Iterator[Tuple[int, bytes, List[int]]]:
     """Some values at a time: where they begin in the file, their bytes, and the length of each."""
     lengths = (ctypes.c_size_t * _MOST_VALUES)()
-    read: Callable[[int], bytes] = getattr(file, "read1", file.read)
+    read: Callable[[int], _library.Bytes] = getattr(file, "read1", file.read)
     start, data, wanted, is_all = 0, b"", 1, False
     while True:
         if len(data) < wanted and not is_all:
-            piece = read(max(_PIECE, wanted - len(data)))
+            piece = _library.bytes_of(read(max(_PIECE, wanted - len(data))))
             data += piece
             is_all = not piece
             continue
         if not data:
             return
         try:
-            count = _library.record_lengths(schema, data, lengths)
+            count = _library.records(schema, data, lengths)
         except Short as short:
             if len(data) >= max_length:
                 raise longer(start) from None
@@ -55,7 +62,7 @@ def json_texts(schema: bytes, start: int, data: bytes, lengths: List[int]) -> It
     while lengths:
         array = (ctypes.c_size_t * len(lengths))(*lengths)
         try:
-            count, lines = _library.json_lines(schema, data, array, len(lengths))
+            count, lines = _library.json_lines(schema, data, array, False)
         except Error as error:
             raise placed(error, start) from None
         # No text of JSON has a line end in it, which is written as its escape.

@@ -2,12 +2,15 @@
 
 from __future__ import annotations
 
+import functools
 import json
 import pathlib
-from typing import Any, BinaryIO, Iterator, Mapping
+from typing import Any, Dict, Iterator, Mapping, Tuple, Type
 
 from . import _library, _records
+from ._encode import Writer
 from ._errors import Error
+from ._forms import Forms
 from ._values import Values
 
 # The schema of schemas: by it a schema is itself a value.
@@ -29,33 +32,34 @@ class Schema:
     <Schema of u8>
     """
 
-    __slots__ = ("_encoding", "_root", "_values")
+    __slots__ = ("_encoding", "_root", "_forms", "_values")
 
     def __init__(self, encoding: _library.Bytes) -> None:
         self._encoding = _library.bytes_of(encoding)
         described = self._described()
         self._root: str = described["declaration"]
-        self._values = Values(described["definitions"], self._takes)
+        self._forms = Forms(self._encoding, self._root, described["definitions"])
+        self._values = Values(self._forms)
 
-    def _described(self) -> Any:
+    def _described(self) -> Dict[str, Any]:
         try:
-            return json.loads(_library.to_json(_SCHEMAS, self._encoding, True, False))
+            described: Dict[str, Any] = json.loads(_library.to_json(_SCHEMAS, self._encoding, True, False))
+            return described
         except Error:
-            _library.max_size(self._encoding)  # says why the bytes are no schema
+            _library.size(self._encoding)  # says why the bytes are no schema
             raise
 
     @classmethod
     def of(cls, root: str, definitions: Mapping[str, Any]) -> "Schema":
         """The schema with this root and these definitions, as JSON has them and as `definitions` gives them.
 
-        Raises an `Error` for what are no definitions.
+        Raises an `Error` for what are no definitions, with the path in a schema of schemas.
 
         >>> Schema.of("Pair", {"Pair": {"Struct": {"fields": {"UnnamedFields": ["u8", "u8"]}}},
         ...                    "u8": {"Primitive": 1}}).decode(bytes([1, 2]))
         (1, 2)
         """
-        text = json.dumps({"declaration": root, "definitions": dict(definitions)})
-        return cls(_library.from_json(_SCHEMAS, text.encode()))
+        return cls(_schemas().encode({"declaration": root, "definitions": definitions}))
 
     def __bytes__(self) -> bytes:
         """The encoding."""
@@ -67,7 +71,7 @@ class Schema:
     def __hash__(self) -> int:
         return hash(self._encoding)
 
-    def __reduce__(self):
+    def __reduce__(self) -> Tuple[Type["Schema"], Tuple[bytes]]:
         return (Schema, (self._encoding,))
 
     def __repr__(self) -> str:
@@ -81,7 +85,8 @@ class Schema:
     @property
     def definitions(self) -> Mapping[str, Any]:
         """The definitions by their names, as JSON has them."""
-        return self._described()["definitions"]
+        definitions: Mapping[str, Any] = self._described()["definitions"]
+        return definitions
 
     def validate(self) -> None:
         """Raises an `Error` that says `invalid`, a rule and a name, if the schema breaks a rule of schemas.
@@ -91,7 +96,7 @@ class Schema:
             ...
         borsh_proved.Error: invalid MissingDefinition A
         """
-        _library.check_rules(self._encoding)
+        _library.valid(self._encoding)
 
     def max_size(self) -> int:
         """The greatest size of a value in bytes: none is longer.
@@ -101,7 +106,7 @@ class Schema:
         >>> Schema.of("u8", {"u8": {"Primitive": 1}}).max_size()
         1
         """
-        return _library.max_size(self._encoding)
+        return _library.size(self._encoding)
 
     def check(self, value: _library.Bytes) -> None:
         """Raises an `Error` if the bytes aren't a value, with the place where they stop being one.
@@ -114,7 +119,7 @@ class Schema:
             ...
         borsh_proved.Error: no member: u8 (`u8` at byte 1): the value ends, and bytes are left
         """
-        _library.check_member(self._encoding, _library.bytes_of(value))
+        _library.member(self._encoding, _library.bytes_of(value))
 
     def to_json(self, value: _library.Bytes, *, pretty: bool = False, quoted: bool = False) -> str:
         """The value that all of the bytes are, as JSON: in lines with `pretty`, and with numbers of 64 bits as strings with `quoted`.
@@ -141,7 +146,8 @@ class Schema:
     def decode(self, value: _library.Bytes) -> Any:
         """The value that all of the bytes are, as Python's.
 
-        Whole numbers are `int`; `bool`, `f32` and `f64`, and texts are `bool`, `float` and `str`; lists of `u8` and other primitives
+        Whole numbers are `int`; `bool`, `f32` and `f64`, and texts are `bool`, `float` and `str`, where an `f32` is the number of its
+        shortest decimal, 0.1 and not 0.10000000149011612; lists of `u8` and other primitives
         are `bytes`; lists are `list`; maps by texts or numbers are `dict`, and other maps lists of pairs; structs are `dict` by the
         names of their fields, or `tuple`, or what their only field is if it has no name; tuples are `tuple`; an `Option` is None or
         its value; a variant is its name, or `{name: value}`; a value without bytes is None. An `Option` whose value may be None is
@@ -154,13 +160,15 @@ class Schema:
         >>> Schema.of("Option<f32>", floats).decode(bytes.fromhex("010000c03f"))
         1.5
         """
-        return self._values.from_json(self._root, json.loads(self.to_json(value)))
+        return self._values.of(self._root, json.loads(self.to_json(value)))
 
     def encode(self, value: Any) -> bytes:
-        """The bytes of a value, given as `decode` gives it; lists may be tuples, any map may be a mapping, and an `f32` is rounded.
+        """The bytes of a value, given as `decode` gives it; lists may be tuples, any map may be a mapping, a float may be a whole number,
+        and an `f32` is rounded.
 
         Entries of a mapping may come in any order if its keys are texts or numbers. Raises an `Error` if the schema has no such
-        value, and `TypeError` for objects that are no values of Python's own.
+        value, a text has half of a surrogate pair, or the value contains itself, and `TypeError` for objects that are no values of
+        Python's own; each names the part.
 
         >>> bits = {"(bool, u128)": {"Tuple": {"elements": ["bool", "u128"]}}, "bool": {"Primitive": 1}, "u128": {"Primitive": 16}}
         >>> Schema.of("(bool, u128)", bits).encode((True, 2**100)).hex()
@@ -170,9 +178,9 @@ class Schema:
             ...
         borsh_proved.Error: (bool, u128).1: expected a decimal string of 128 bits, unsigned
         """
-        return self.from_json(json.dumps(self._values.to_json(self._root, value)))
+        return self.from_json(json.dumps(Writer(self._forms, self._root).part(self._root, value)))
 
-    def records(self, file: BinaryIO, *, max_length: int = 2**26) -> Iterator[Any]:
+    def records(self, file: _records.Readable, *, max_length: int = 2**26) -> Iterator[Any]:
         """The values in a binary file, which follow one another to its end, each as `decode` gives it; in bounded memory.
 
         The file is read ahead of the values, by `read1` if it has that, and not closed. Raises an `Error` where the bytes at the
@@ -191,9 +199,9 @@ class Schema:
         for batch in _records.batches(self._encoding, file, max_length):
             for text in _records.json_texts(self._encoding, *batch):
                 for value in json.loads(text):
-                    yield self._values.from_json(self._root, value)
+                    yield self._values.of(self._root, value)
 
-    def record_bytes(self, file: BinaryIO, *, max_length: int = 2**26) -> Iterator[bytes]:
+    def record_bytes(self, file: _records.Readable, *, max_length: int = 2**26) -> Iterator[bytes]:
         """The bytes of each of the values in a binary file, which follow one another to its end, as of `records`; in less time.
 
         What is checked is what `check` checks, so that `decode` may refuse such a value. Errors are as of `records`.
@@ -211,13 +219,7 @@ class Schema:
                 yield data[at : at + length]
                 at += length
 
-    def _takes(self, root: str, text: str) -> bool:
-        """Whether the type of this name has a value with this JSON."""
-        name = root.encode()
-        at = 4 + len(self._root.encode())
-        encoding = len(name).to_bytes(4, "little") + name + self._encoding[at:]
-        try:
-            _library.from_json(encoding, text.encode())
-        except Error:
-            return False
-        return True
+
+@functools.lru_cache(maxsize=None)
+def _schemas() -> Schema:
+    return Schema(_SCHEMAS)

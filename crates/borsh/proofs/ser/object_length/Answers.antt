@@ -1,5 +1,5 @@
 use Rattle.std.proofs.Common.{rules, IfOk}
-use Rattle.borsh.specs.Length.{IsLength}
+use Rattle.borsh_codec.specs.Writing.{IsLength}
 use Rattle.borsh.proofs.Lengths.{no_length}
 use Rattle.borsh.proofs.ser.object_length.Goals as goal
 

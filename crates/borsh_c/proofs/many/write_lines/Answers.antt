@@ -1,4 +1,5 @@
 use Rattle.std.proofs.Common.{◌∙◌, ◌+◌, ◌++◌, ◌∷◌, [], List, ℕ, ap, arith, string_bytes, subst, sym, take}
+use Rattle.borsh_plan.specs.Plan.{map_of, root_of}
 use Rattle.borsh_json.specs.Printed.{IsPrinted}
 use Rattle.borsh_json.specs.declared.output.Layout.{Layout}
 use Rattle.borsh_c.specs.Many.{HaveLines, IsLineOf}
@@ -7,15 +8,15 @@ use Rattle.borsh_c.proofs.many.write_lines.Goals as goal
 
 pub loop-count-preserved : goal.loop-count-preserved
 loop-count-preserved c =
-    let m = c.args.json.now.layout.now.map.now in
-    let root = c.args.json.now.layout.now.root.now in
+    let m = map_of c.args.json.now.plan.now in
+    let root = root_of c.args.json.now.plan.now in
     let lengths = c.args.lengths.now in
     let text = c.loop-count.text.items in
     let line = ap (λ (bytes : List ℕ). text ++ bytes) c.as_bytes.ensures.value in
     let items = c.in_ok-push-in-Ok.ensures.items ∙ ap (λ (bytes : List ℕ). bytes ++ (10 ∷ [])) (c.in_ok-extend_from_slice-in-Ok.ensures.items ∙ line) in
     let json = c.in-Ok.ensures in
-    let printed = subst (λ (layout : Layout). IsPrinted layout (string_bytes c.in-Ok.line)) c.requires.style.0 (json.printed c.requires.style.1) in
-    let says = subst (λ (bytes : List ℕ). IsLineOf m root bytes (string_bytes c.in-Ok.line)) c.first.ensures ((json.says, printed), json.line c.requires.style.0) in
+    let printed = subst (λ (layout : Layout). IsPrinted layout (string_bytes c.in-Ok.line)) c.requires.0 (json.printed c.requires.1) in
+    let says = subst (λ (bytes : List ℕ). IsLineOf m root bytes (string_bytes c.in-Ok.line)) c.first.ensures ((json.says, printed), json.line c.requires.0) in
     record {
       within = omega arith;
       lines = subst (HaveLines m root (take (c.loop-count.count + 1) lengths) c.args.values.now) (sym items)

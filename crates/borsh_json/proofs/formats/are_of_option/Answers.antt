@@ -9,9 +9,9 @@ pub returns-then-not-is_unit : goal.returns-then-not-is_unit
 returns-then-not-is_unit c = λ x h p o.
     let d = c.args.definitions.now in
     let vs = map listed c.args.variants.now in
-    let q = option_needs (forms_of d) x vs h.2 p o in
-    let a = c.part.ensures h.0 x q.0 (choice 1 vs) h.1 h.2 (none_first (forms_of d) x vs h.2 p q.0 q.1) in
-    let z = (c.is_unit.ensures q.0 (h.0, a)).1 q.2 in
+    let q = option_needs (forms_of d) x vs h.1 p o in
+    let a = c.part.ensures x q.0 (choice 1 vs) h.0 h.1 (none_first (forms_of d) x vs h.1 p q.0 q.1) in
+    let z = (c.is_unit.ensures q.0 a).1 q.2 in
     let t = c.if-not-is_unit.true in
     cc
 
@@ -26,7 +26,7 @@ returns c = λ x h.
     let f = listed_is a (pos 0) (codes "None") (c.is_variant.ensures.0 c.if-not-is_variant.false) in
     let s = listed_is b (pos 1) (codes "Some") (c.is_variant-2.ensures.0 c.if-not-is_variant-2.false) in
     let e : vs ≡ first ∷ second ∷ [] = two_variants c.args.variants.now a b c.if-variants-ne2.false c.index-variants-0.is c.index-variants-1.is ∙ ap (λ v. v ∷ listed b ∷ []) f ∙ ap (λ v. first ∷ v ∷ []) s in
-    let i = c.part.ensures h.0 x (string_bytes a.2) (choice 1 vs) h.1 h.2 (none_first (forms_of d) x vs h.2 (string_bytes b.2) (string_bytes a.2) e) in
-    let z = (c.is_unit.ensures (string_bytes a.2) (h.0, i)).0 c.if-not-is_unit.false in
-    let n = subst (λ n. Decides c.is_option_name.result (n ≡ codes "Option<" ++ string_bytes b.2 ++ codes ">")) (c.name.ensures h.0 x h.1) c.is_option_name.ensures in
-    option_found (forms_of d) x vs h.2 (string_bytes a.2) (string_bytes b.2) e z c.is_option_name.result n
+    let i = c.part.ensures x (string_bytes a.2) (choice 1 vs) h.0 h.1 (none_first (forms_of d) x vs h.1 (string_bytes b.2) (string_bytes a.2) e) in
+    let z = (c.is_unit.ensures (string_bytes a.2) i).0 c.if-not-is_unit.false in
+    let n = subst (λ n. Decides c.is_option_name.result (n ≡ codes "Option<" ++ string_bytes b.2 ++ codes ">")) (c.name.ensures x h.0) c.is_option_name.ensures in
+    option_found (forms_of d) x vs h.1 (string_bytes a.2) (string_bytes b.2) e z c.is_option_name.result n

@@ -11,7 +11,7 @@ use Rattle.borsh_json.proofs.kinds.kind_of_bytes.Goals as goal
 pub returns-then-is_text-clause-kind : goal.returns-then-is_text-clause-kind
 returns-then-is_text-clause-kind c = λ w lo hi e q i b x h full.
     let F = forms_of c.args.definitions.now in
-    let f : F x ≡ Some (sequence w lo hi e) = h.2 ∙ ap (λ f. Some f) q in
+    let f : F x ≡ Some (sequence w lo hi e) = h.1 ∙ ap (λ f. Some f) q in
     let t = (c.is_text.ensures x h).0 c.if-is_text.true in
     let g : Some (sequence 4 0 4294967295 (codes "u8")) ≡ Some (sequence w lo hi e) = sym t.1 ∙ f in
     let l : sequence w lo hi e ≡ sequence 4 0 4294967295 (codes "u8") = cc in
@@ -20,19 +20,19 @@ returns-then-is_text-clause-kind c = λ w lo hi e q i b x h full.
 pub returns-clause-kind : goal.returns-clause-kind
 returns-clause-kind c = λ w lo hi e q i b x h full.
     let F = forms_of c.args.definitions.now in
-    let f : F x ≡ Some (sequence w lo hi e) = h.2 ∙ ap (λ f. Some f) q in (
+    let f : F x ≡ Some (sequence w lo hi e) = h.1 ∙ ap (λ f. Some f) q in (
       e,
-      i.1,
+      i,
       subst (λ f. HasKind F x (byte_list (lengths_of f) e)) (sym q) (bytes_kind F x full w lo hi e f (λ s. not_true c.is_text.result (c.is_text.ensures x h) c.if-is_text.false (text_is F x w lo hi e f s b)) b),
       refl,
     )
 
 pub returns-then-is_text-clause-orders : goal.returns-then-is_text-clause-orders
-returns-then-is_text-clause-orders c = λ s h x f. ((h.1, λ k z. z), tt)
+returns-then-is_text-clause-orders c = λ s h x f. ((h, λ k z. z), tt)
 
 pub returns-clause-orders : goal.returns-clause-orders
 returns-clause-orders c = λ s h x f.
-    let o = c.in_ok-order.ensures.orders h x s.3 s.0 s.1 s.2 (c.collection_of-collection.ensures x f) s.5.1 (f.2 ∙ ap (λ f. Some f) s.4) in
+    let o = c.in_ok-order.ensures.orders h x s.3 s.0 s.1 s.2 (c.collection_of-collection.ensures x f) s.5 (f.1 ∙ ap (λ f. Some f) s.4) in
     (o.0, (refl, o.1))
 
 pub returns-then-is_text-clause-tells : goal.returns-then-is_text-clause-tells
@@ -40,4 +40,4 @@ returns-then-is_text-clause-tells c = λ s h n x f. (n, tt)
 
 pub returns-clause-tells : goal.returns-clause-tells
 returns-clause-tells c = λ s h n x f.
-    c.in_ok-order.ensures.none h n x s.3 s.0 s.1 s.2 (c.collection_of-collection.ensures x f) s.5.1 (f.2 ∙ ap (λ f. Some f) s.4)
+    c.in_ok-order.ensures.none h n x s.3 s.0 s.1 s.2 (c.collection_of-collection.ensures x f) s.5 (f.1 ∙ ap (λ f. Some f) s.4)

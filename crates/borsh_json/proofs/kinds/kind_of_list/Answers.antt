@@ -1,4 +1,5 @@
 use Rattle.std.proofs.Common.{◌≡◌, ◌-◌, ◌∙◌, inl, inr, false, Some, arith, option_map, refl, sym, ap, subst}
+use Rattle.borsh_plan.specs.Plan.{names_of as plan_names}
 use Rattle.borsh_values.specs.Nodes.{packed_size}
 use Rattle.borsh_json.specs.declared.kinds.Elements.{Elements}
 use Rattle.borsh_json.specs.Forms.{form_of, sequence, shape_of_form}
@@ -15,19 +16,19 @@ pub returns-then-is_zero_size-clause-kind : goal.returns-then-is_zero_size-claus
 returns-then-is_zero_size-clause-kind c = λ w lo hi e q i b x h full.
     let d = c.args.definitions.now in
     let F = forms_of d in
-    let ns = d.layout.now.names.items in
-    let f : F x ≡ Some (sequence w lo hi e) = h.2 ∙ ap (λ f. Some f) q in
+    let ns = plan_names d.plan.now in
+    let f : F x ≡ Some (sequence w lo hi e) = h.1 ∙ ap (λ f. Some f) q in
     refused_is F ns x (form_of c.args.definition.now) c.refused_list.result c.refused_list.ensures
-    (refused F x full w lo hi e f ns (inl ((c.is_zero_size.ensures h.0 e i.1).0 c.if-is_zero_size.true)))
+    (refused F x full w lo hi e f ns (inl ((c.is_zero_size.ensures e i).0 c.if-is_zero_size.true)))
 
 pub returns-then-has_empty_keys-clause-kind : goal.returns-then-has_empty_keys-clause-kind
 returns-then-has_empty_keys-clause-kind c = λ w lo hi e q i b x h full.
     let d = c.args.definitions.now in
     let F = forms_of d in
-    let ns = d.layout.now.names.items in
-    let f : F x ≡ Some (sequence w lo hi e) = h.2 ∙ ap (λ f. Some f) q in
+    let ns = plan_names d.plan.now in
+    let f : F x ≡ Some (sequence w lo hi e) = h.1 ∙ ap (λ f. Some f) q in
     let l = c.collection_of-collection.ensures x h in
-    let k = on_true _ c.has_empty_keys.result c.if-has_empty_keys.true (c.has_empty_keys.ensures h.0 x l) in
+    let k = on_true _ c.has_empty_keys.result c.if-has_empty_keys.true (c.has_empty_keys.ensures x l) in
     refused_is F ns x (form_of c.args.definition.now) c.refused_list-then-has_empty_keys.result c.refused_list-then-has_empty_keys.ensures
     (refused F x full w lo hi e f ns (inr (k.0, k.1, k.2, k.3)))
 
@@ -35,9 +36,9 @@ pub returns-in-Some-clause-kind : goal.returns-in-Some-clause-kind
 returns-in-Some-clause-kind c = λ w lo hi e q i b x h full.
     let d = c.args.definitions.now in
     let F = forms_of d in
-    let f : F x ≡ Some (sequence w lo hi e) = h.2 ∙ ap (λ f. Some f) q in
+    let f : F x ≡ Some (sequence w lo hi e) = h.1 ∙ ap (λ f. Some f) q in
     let l = c.collection_of-collection.ensures x h in
-    let s = c.in-Some.ensures h.0 x l in
+    let s = c.in-Some.ensures x l in
     let keys = s.5.0 in
     (s.0, s.1, keys, s.2, s.3, subst (λ f. HasKind F x (entries (lengths_of f) keys s.0 s.1)) (sym q) (entries_kind F x full w lo hi e f s.0 s.1 keys s.4 s.5.2), s.5.3)
 
@@ -45,55 +46,55 @@ pub returns-then-size-eq0-clause-kind : goal.returns-then-size-eq0-clause-kind
 returns-then-size-eq0-clause-kind c = λ w lo hi e q i b x h full.
     let d = c.args.definitions.now in
     let F = forms_of d in
-    let f : F x ≡ Some (sequence w lo hi e) = h.2 ∙ ap (λ f. Some f) q in
+    let f : F x ≡ Some (sequence w lo hi e) = h.1 ∙ ap (λ f. Some f) q in
     let l = c.collection_of-collection.ensures x h in
-    let z = not_true c.is_zero_size.result (c.is_zero_size.ensures h.0 e i.1) c.if-is_zero_size.false in
-    let k = on_false _ c.has_empty_keys.result c.if-has_empty_keys.false (c.has_empty_keys.ensures h.0 x l) in
-    let kind = subst (λ f. HasKind F x (list (lengths_of f) e)) (sym q) (list_kind F x full w lo hi e f b (c.in_default.ensures h.0 x l) z k) in
-    let size = c.size_of_primitive-size.ensures ∙ ap (λ o. packed_size (option_map shape_of_form o)) (c.get.ensures h.0 e i.1) in
+    let z = not_true c.is_zero_size.result (c.is_zero_size.ensures e i) c.if-is_zero_size.false in
+    let k = on_false _ c.has_empty_keys.result c.if-has_empty_keys.false (c.has_empty_keys.ensures x l) in
+    let kind = subst (λ f. HasKind F x (list (lengths_of f) e)) (sym q) (list_kind F x full w lo hi e f b (c.in_default.ensures x l) z k) in
+    let size = c.size_of_primitive-size.ensures ∙ ap (λ o. packed_size (option_map shape_of_form o)) (c.get.ensures e i) in
     let es : Elements = record { at = c.args.element; size = c.size_of_primitive-size.result; order = c.in_ok-order.order; is_refused = false } in
-    elements_found F d.layout.now.names.items x (form_of c.args.definition.now) e es i.1 kind refl (sym size ∙ c.if-size-eq0.true)
+    elements_found F (plan_names d.plan.now) x (form_of c.args.definition.now) e es i kind refl (sym size ∙ c.if-size-eq0.true)
 
 pub returns-else-size-eq0-clause-kind : goal.returns-else-size-eq0-clause-kind
 returns-else-size-eq0-clause-kind c = λ w lo hi e q i b x h full.
     let d = c.args.definitions.now in
     let F = forms_of d in
-    let f : F x ≡ Some (sequence w lo hi e) = h.2 ∙ ap (λ f. Some f) q in
+    let f : F x ≡ Some (sequence w lo hi e) = h.1 ∙ ap (λ f. Some f) q in
     let l = c.collection_of-collection.ensures x h in
-    let z = not_true c.is_zero_size.result (c.is_zero_size.ensures h.0 e i.1) c.if-is_zero_size.false in
-    let k = on_false _ c.has_empty_keys.result c.if-has_empty_keys.false (c.has_empty_keys.ensures h.0 x l) in
-    let kind = subst (λ f. HasKind F x (list (lengths_of f) e)) (sym q) (list_kind F x full w lo hi e f b (c.in_default.ensures h.0 x l) z k) in
-    let size = c.size_of_primitive-size.ensures ∙ ap (λ o. packed_size (option_map shape_of_form o)) (c.get.ensures h.0 e i.1) in
+    let z = not_true c.is_zero_size.result (c.is_zero_size.ensures e i) c.if-is_zero_size.false in
+    let k = on_false _ c.has_empty_keys.result c.if-has_empty_keys.false (c.has_empty_keys.ensures x l) in
+    let kind = subst (λ f. HasKind F x (list (lengths_of f) e)) (sym q) (list_kind F x full w lo hi e f b (c.in_default.ensures x l) z k) in
+    let size = c.size_of_primitive-size.ensures ∙ ap (λ o. packed_size (option_map shape_of_form o)) (c.get.ensures e i) in
     let some = c.if-size-eq0.false in
     let es : Elements = record { at = c.args.element; size = c.size_of_primitive-size.result; order = c.in_ok-order.order; is_refused = false } in
-    numbers_found F d.layout.now.names.items x (form_of c.args.definition.now) e es i.1 kind refl (c.size_of_primitive-size.result - 1) (omega arith) size
+    numbers_found F (plan_names d.plan.now) x (form_of c.args.definition.now) e es i kind refl (c.size_of_primitive-size.result - 1) (omega arith) size
 
 pub returns-then-is_zero_size-clause-orders : goal.returns-then-is_zero_size-clause-orders
 returns-then-is_zero_size-clause-orders c = λ s h x f.
     let d = c.args.definitions.now in
-    ((h.1, λ k z. z), refused_order (forms_of d) (names_of d) d.orders.items x c.refused_list.result c.refused_list.ensures)
+    ((h, λ k z. z), refused_order (forms_of d) (names_of d) d.orders.items x c.refused_list.result c.refused_list.ensures)
 
 pub returns-then-has_empty_keys-clause-orders : goal.returns-then-has_empty_keys-clause-orders
 returns-then-has_empty_keys-clause-orders c = λ s h x f.
     let d = c.args.definitions.now in
-    ((h.1, λ k z. z), refused_order (forms_of d) (names_of d) d.orders.items x c.refused_list-then-has_empty_keys.result c.refused_list-then-has_empty_keys.ensures)
+    ((h, λ k z. z), refused_order (forms_of d) (names_of d) d.orders.items x c.refused_list-then-has_empty_keys.result c.refused_list-then-has_empty_keys.ensures)
 
 pub returns-in-Some-clause-orders : goal.returns-in-Some-clause-orders
 returns-in-Some-clause-orders c = λ s h x f.
     let d = c.args.definitions.now in
     let F = forms_of d in
     let ns = names_of d in
-    let m = c.in-Some.ensures h.0 x (c.collection_of-collection.ensures x f) in
+    let m = c.in-Some.ensures x (c.collection_of-collection.ensures x f) in
     let t = c.order_of_keys.ensures F ns d.orders.items m.0 (form_of c.in-Some.entries.key_definition.now) m.5.0 m.5.2 m.5.3 in
-    ((h.1, λ k z. z), (m.0, m.2, key_found F ns x m.0 m.1 d.orders.items c.order_of_keys.result m.4 t.0 t.1))
+    ((h, λ k z. z), (m.0, m.2, key_found F ns x m.0 m.1 d.orders.items c.order_of_keys.result m.4 t.0 t.1))
 
 pub returns-then-size-eq0-clause-orders : goal.returns-then-size-eq0-clause-orders
 returns-then-size-eq0-clause-orders c = λ s h x f.
-    c.in_ok-order.ensures.orders h x s.3 s.0 s.1 s.2 (c.collection_of-collection.ensures x f) s.5.1 (f.2 ∙ ap (λ f. Some f) s.4)
+    c.in_ok-order.ensures.orders h x s.3 s.0 s.1 s.2 (c.collection_of-collection.ensures x f) s.5 (f.1 ∙ ap (λ f. Some f) s.4)
 
 pub returns-else-size-eq0-clause-orders : goal.returns-else-size-eq0-clause-orders
 returns-else-size-eq0-clause-orders c = λ s h x f.
-    c.in_ok-order.ensures.orders h x s.3 s.0 s.1 s.2 (c.collection_of-collection.ensures x f) s.5.1 (f.2 ∙ ap (λ f. Some f) s.4)
+    c.in_ok-order.ensures.orders h x s.3 s.0 s.1 s.2 (c.collection_of-collection.ensures x f) s.5 (f.1 ∙ ap (λ f. Some f) s.4)
 
 pub returns-then-is_zero_size-clause-tells : goal.returns-then-is_zero_size-clause-tells
 returns-then-is_zero_size-clause-tells c = λ s h n x f. (n, refused_tells (forms_of c.args.definitions.now) x c.refused_list.result c.refused_list.ensures)
@@ -106,9 +107,9 @@ returns-in-Some-clause-tells c = λ s h n x f. (n, tt)
 
 pub returns-then-size-eq0-clause-tells : goal.returns-then-size-eq0-clause-tells
 returns-then-size-eq0-clause-tells c = λ s h n x f.
-    let o = c.in_ok-order.ensures.none h n x s.3 s.0 s.1 s.2 (c.collection_of-collection.ensures x f) s.5.1 (f.2 ∙ ap (λ f. Some f) s.4) in
+    let o = c.in_ok-order.ensures.none h n x s.3 s.0 s.1 s.2 (c.collection_of-collection.ensures x f) s.5 (f.1 ∙ ap (λ f. Some f) s.4) in
     (o.0, λ r. o.1)
 
 pub returns-else-size-eq0-clause-tells : goal.returns-else-size-eq0-clause-tells
 returns-else-size-eq0-clause-tells c = λ s h n x f.
-    c.in_ok-order.ensures.none h n x s.3 s.0 s.1 s.2 (c.collection_of-collection.ensures x f) s.5.1 (f.2 ∙ ap (λ f. Some f) s.4)
+    c.in_ok-order.ensures.none h n x s.3 s.0 s.1 s.2 (c.collection_of-collection.ensures x f) s.5 (f.1 ∙ ap (λ f. Some f) s.4)

@@ -2,6 +2,7 @@ use Rattle.std.proofs.Common.{◌≡◌, ◌∙◌, Some, refl, length, map, str
 use Rattle.std.specs.Str.{bytes_eq}
 use Rattle.std.specs.List.{IsDistinct}
 use Rattle.std.proofs.lemmas.List.{length-map}
+use Rattle.borsh_plan.specs.Plan.{names_of as plan_names}
 use Rattle.borsh_json.specs.Forms.{form_of_struct, newtype}
 use Rattle.borsh_json.specs.Found.{forms_of}
 use Rattle.borsh_json.proofs.FormsLaws.{twice}
@@ -14,9 +15,9 @@ returns-in-Some-clause-kind c = λ x h full.
     let d = c.args.definitions.now in
     let items = c.in-NamedFields.fields.items in
     let fs = map (λ f. (string_bytes f.0, string_bytes f.1)) items in
-    let e = h.2 ∙ ap (λ f. Some (form_of_struct f)) c.in-NamedFields.is in
+    let e = h.1 ∙ ap (λ f. Some (form_of_struct f)) c.in-NamedFields.is in
     let q = on_some _ _ c.in_ok-name-in-NamedFields.field-0 c.in-Some.name c.in-Some.is c.in_ok-name-in-NamedFields.ensures in
-    fields_repeated (forms_of d) x full d.layout.now.names.items fs e (λ i. q (subst (λ l. IsDistinct bytes_eq l) (twice (λ f. (string_bytes f.0, string_bytes f.1)) (λ f. f.0) (λ f. string_bytes f.0) (λ f. refl) items) i))
+    fields_repeated (forms_of d) x full (plan_names d.plan.now) fs e (λ i. q (subst (λ l. IsDistinct bytes_eq l) (twice (λ f. (string_bytes f.0, string_bytes f.1)) (λ f. f.0) (λ f. string_bytes f.0) (λ f. refl) items) i))
 
 pub returns-then-len-eq1-clause-kind : goal.returns-then-len-eq1-clause-kind
 returns-then-len-eq1-clause-kind c = λ x h full.
@@ -24,5 +25,5 @@ returns-then-len-eq1-clause-kind c = λ x h full.
     let ps = c.in-UnnamedFields.parts in
     let l : length (map (λ p. string_bytes p) ps.items) ≡ 1 = length-map ps.items (λ p. string_bytes p) ∙ sym (c.len.ensures ∙ ps.ok.0) ∙ c.if-len-eq1.true in
     let p = one_part (map (λ p. string_bytes p) ps.items) l in
-    let e = h.2 ∙ ap (λ f. Some (form_of_struct f)) c.in-UnnamedFields.is ∙ ap (λ f. Some f) p.1 in
-    (p.0, c.part.ensures h.0 x p.0 (newtype p.0) h.1 e refl, newtype_kind (forms_of d) x full p.0 e)
+    let e = h.1 ∙ ap (λ f. Some (form_of_struct f)) c.in-UnnamedFields.is ∙ ap (λ f. Some f) p.1 in
+    (p.0, c.part.ensures x p.0 (newtype p.0) h.0 e refl, newtype_kind (forms_of d) x full p.0 e)

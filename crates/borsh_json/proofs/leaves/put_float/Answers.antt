@@ -1,13 +1,23 @@
-use Rattle.std.proofs.Common.{refl}
+use Rattle.std.proofs.Common.{inl, inr, refl}
+use Rattle.json.specs.Json.{number, string}
 use Rattle.borsh_json.specs.Table.{float}
-use Rattle.borsh_json.proofs.FoundLaws.{on_true, on_false}
-use Rattle.borsh_json.proofs.LeafLaws.{no_nan, put_hex}
+use Rattle.borsh_json.proofs.LeafLaws.{no_nan, put_digits, put_string}
 use Rattle.borsh_json.proofs.leaves.put_float.Goals as goal
 
-pub returns-then-is_nan : goal.returns-then-is_nan
-returns-then-is_nan c = λ F x n bits i h l. (n, bits, h, no_nan F x c.args.own.now n bits h l (on_true _ c.is_nan.result c.if-is_nan.true (c.is_nan.ensures n bits i l)))
+pub returns-in_default : goal.returns-in_default
+returns-in_default c = λ F x f h l. (f, h, no_nan F x c.args.own.now f h l (c.in_default.ensures f l))
 
-pub returns : goal.returns
-returns c = λ F x n bits i h l.
-    let f = on_false _ c.is_nan.result c.if-is_nan.false (c.is_nan.ensures n bits i l) in
-    put_hex F x c.args.own.now c.args.own.now c.args.out.now c.put_bytes.new.out c.put_bytes.result c.put_bytes.ensures (λ j e. (float n bits, h, (e, l, f, refl)))
+pub returns-in_ok-put : goal.returns-in_ok-put
+returns-in_ok-put c = λ F x f h l.
+    let t = c.in-Some.ensures f l in
+    let s = c.in-Some.text.now in
+    put_digits F x c.args.own.now c.args.out.now c.put.new.self s c.in_ok-put.ensures (c.is_number.ensures.0 c.if-is_number.true) (float f, h, (t.0, t.2.0, t.1, refl))
+
+pub returns-in_ok-put-2 : goal.returns-in_ok-put-2
+returns-in_ok-put-2 c = λ F x f h l.
+    let t = c.in-Some.ensures f l in
+    let s = c.in-Some.text.now in
+    elim t.2.1 [
+      | inl n ↦ (let e = c.is_number.ensures.1 n in let g = c.if-is_number.false in cc)
+      | inr e ↦ put_string F x c.args.own.now c.args.out.now c.put-else-is_number.new.self s c.in_ok-put-2.ensures (float f, h, (t.0, e, t.1, refl))
+    ]

@@ -9,7 +9,7 @@ use Rattle.borsh_json.proofs.leaves.put_primitive.Goals as goal
 pub returns-in-Float : goal.returns-in-Float
 returns-in-Float c = λ F x k p h l.
     let q = subst (λ (kind : Kind). IsPrimitiveKind kind k) c.in-Float.is p in
-    c.put_float.ensures F x c.in-Float.field-0 q.0 q.1 (subst (λ (k : TableKind). HasKind F x k) q.2 h) (subst (λ (k : TableKind). HasSize k (length c.args.own.now)) q.2 l)
+    c.put_float.ensures F x q.0 (subst (λ (k : TableKind). HasKind F x k) q.2 h) (subst (λ (k : TableKind). HasSize k (length c.args.own.now)) q.2 l)
 
 pub returns-in_default : goal.returns-in_default
 returns-in_default c = λ F x k p h l.

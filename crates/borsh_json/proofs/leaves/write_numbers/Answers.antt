@@ -24,9 +24,9 @@ elements-preserved c = λ F e k m p h s some q.
     listing_more F e size all c.args.out.now c.elements.out c.put_element.new.out rest c.split_at.result.0.now c.split_at.result.1.now (c.in-Ok.ensures F e k p h (subst (λ n. HasSize k n) (sym l) s)) c.split_at.ensures.by_index.0 l i
 
 pub returns-in-Err : goal.returns-in-Err
-returns-in-Err c = λ known x parts o i.
-    let F = forms_of c.args.definitions.now in
-    let ns = names_of c.args.definitions.now in
+returns-in-Err c = λ x parts o i.
+    let F = forms_of c.args.json.now in
+    let ns = names_of c.args.json.now in
     let n = c.args.node.now in
     let own = n.bytes.now in
     let size = c.from-size.result in
@@ -36,7 +36,7 @@ returns-in-Err c = λ known x parts o i.
     let t = numbers_there F ns x own all parts n.definition.now c.args.elements size o i c.elements_of-rest.ensures c.from-size.ensures in
     let k = primitive_kind t.1 size in
     let s = primitive_sized t.1 size in
-    let p : IsPrimitiveKind c.kind_of_primitive-kind.result k = subst (λ m. IsPrimitiveKind c.kind_of_primitive-kind.result (primitive_kind t.1 m)) (sym c.from-size.ensures) (subst (λ (y : List ℕ). IsPrimitiveKind c.kind_of_primitive-kind.result (primitive_kind y c.args.elements.size)) (c.name.ensures known t.1 t.2) c.kind_of_primitive-kind.ensures) in
+    let p : IsPrimitiveKind c.kind_of_primitive-kind.result k = subst (λ m. IsPrimitiveKind c.kind_of_primitive-kind.result (primitive_kind t.1 m)) (sym c.from-size.ensures) (subst (λ (y : List ℕ). IsPrimitiveKind c.kind_of_primitive-kind.result (primitive_kind y c.args.elements.size)) (c.name.ensures t.1 t.2) c.kind_of_primitive-kind.ensures) in
     let g = c.elements.invariant F t.1 k t.5.0 p t.4 s t.6 t.5.4 in
     let full : length rest ≡ 0 → ⊥ = λ z. (let t = c.elements-test.true in let b = c.is_empty.ensures in grind (arith, nat_tests)) in
     let room = one_more F t.1 size all c.args.out.now c.elements.out rest t.5.0 t.5.4 full g in
@@ -44,9 +44,9 @@ returns-in-Err c = λ known x parts o i.
     (t.0, list_refused F c.in-Err.error x t.1 own piece (c.in-Err.ensures F t.1 k p t.4 (subst (λ n. HasSize k n) (sym l) s)) (no_list F t.1 k size t.4 s x own all rest piece c.split_at.result.1.now c.args.out.now c.elements.out (lengths_of (form_of n.definition.now)) g t.3 (tells_count (form_of n.definition.now) o.2) t.5 c.split_at.ensures.by_index.0 l t.6))
 
 pub returns : goal.returns
-returns c = λ known x parts o i.
-    let F = forms_of c.args.definitions.now in
-    let ns = names_of c.args.definitions.now in
+returns c = λ x parts o i.
+    let F = forms_of c.args.json.now in
+    let ns = names_of c.args.json.now in
     let n = c.args.node.now in
     let own = n.bytes.now in
     let size = c.from-size.result in
@@ -55,7 +55,7 @@ returns c = λ known x parts o i.
     let t = numbers_there F ns x own all parts n.definition.now c.args.elements size o i c.elements_of-rest.ensures c.from-size.ensures in
     let k = primitive_kind t.1 size in
     let s = primitive_sized t.1 size in
-    let p : IsPrimitiveKind c.kind_of_primitive-kind.result k = subst (λ m. IsPrimitiveKind c.kind_of_primitive-kind.result (primitive_kind t.1 m)) (sym c.from-size.ensures) (subst (λ (y : List ℕ). IsPrimitiveKind c.kind_of_primitive-kind.result (primitive_kind y c.args.elements.size)) (c.name.ensures known t.1 t.2) c.kind_of_primitive-kind.ensures) in
+    let p : IsPrimitiveKind c.kind_of_primitive-kind.result k = subst (λ m. IsPrimitiveKind c.kind_of_primitive-kind.result (primitive_kind t.1 m)) (sym c.from-size.ensures) (subst (λ (y : List ℕ). IsPrimitiveKind c.kind_of_primitive-kind.result (primitive_kind y c.args.elements.size)) (c.name.ensures t.1 t.2) c.kind_of_primitive-kind.ensures) in
     let g = c.elements.invariant F t.1 k t.5.0 p t.4 s t.6 t.5.4 in
     let none : rest ≡ [] = no_items_there rest (let f = c.elements-test.false in let b = c.is_empty.ensures in grind (arith, nat_tests)) in
     (t.0, listing_end F t.1 size all c.args.out.now c.elements.out c.put-2.new.self x own (lengths_of (form_of n.definition.now)) (subst (λ (r : List ℕ). IsListing F t.1 size all r c.args.out.now c.elements.out) none g) c.in_ok-put-2.ensures t.3 t.5 t.6)

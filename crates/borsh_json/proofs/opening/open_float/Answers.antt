@@ -1,23 +1,19 @@
-use Rattle.std.proofs.Common.{◌++◌, List, ℕ, Bool, sym, ◌∙◌, ap, subst, refl, length}
-use Rattle.std.specs.Prelude.{MatchBool}
-use Rattle.borsh_json.specs.Table.{float, IsNoNan}
-use Rattle.borsh_json.proofs.OpeningLaws.{opened_leaf, said, denied, refuses_plain}
-use Rattle.borsh_json.proofs.RepresentsLaws.{hex_one}
+use Rattle.std.proofs.Common.{false, true, true≢false, sym, ◌∙◌, ap, refl}
+use Rattle.std.specs.Prelude.{from_bits, pos}
+use Rattle.borsh_walks.specs.Container.{low_bytes, tag}
+use Rattle.borsh_json.specs.Table.{float}
+use Rattle.borsh_json.proofs.FloatLaws.{below_size}
+use Rattle.borsh_json.proofs.OpeningLaws.{opened_leaf, denied, refuses_expected}
 use Rattle.borsh_json.proofs.opening.open_float.Goals as goal
 
-pub returns-then-is_nan : goal.returns-then-is_nan
-returns-then-is_nan c F ns orders x j h b =
-    let d = c.in-Ok.ensures j b in
-    let e = c.as_slice.ensures.value in
-    let k = subst (λ (r : Bool). MatchBool r (IsNoNan c.args.size h.0 c.as_slice.result.now → ⊥) (IsNoNan c.args.size h.0 c.as_slice.result.now)) c.if-is_nan.true (c.is_nan.ensures c.args.size h.0 h.1 (ap (λ l. length l) e ∙ d.1)) in
-    ((c.args.size, h.0, c.in-Ok.bytes.items, h.2, d.0, d.1, λ z. k (subst (λ (l : List ℕ). IsNoNan c.args.size h.0 l) (sym e) z)), denied F ns x j (float c.args.size h.0) h.2 (λ own ps s. k (subst (λ (l : List ℕ). IsNoNan c.args.size h.0 l) (hex_one s.0 d.0 ∙ sym e) s.2)))
+pub returns-in_ok-put_count-in-Some : goal.returns-in_ok-put_count-in-Some
+returns-in_ok-put_count-in-Some c F ns orders x j h b =
+    let n = c.in-Some.bits in
+    let d = c.in-Some.ensures h.0 j h.1 b in
+    let own = tag c.args.size (pos n) in
+    opened_leaf F ns orders x j (float h.0) (λ l e q. cc) c.args.out.now.items c.put_count.new.out.items own h.2 c.in_ok-put_count-in-Some.ensures
+    (from_bits h.0 n, d.1, (n, ap (λ k. low_bytes k n) h.1, below_size h.0 n d.0, refl, d.2), refl)
 
-pub returns-in_ok-extend_from_slice-in-Ok : goal.returns-in_ok-extend_from_slice-in-Ok
-returns-in_ok-extend_from_slice-in-Ok c F ns orders x j h b =
-    let d = c.in-Ok.ensures j b in
-    let e = c.as_slice.ensures.value in
-    let k = subst (λ (r : Bool). MatchBool r (IsNoNan c.args.size h.0 c.as_slice.result.now → ⊥) (IsNoNan c.args.size h.0 c.as_slice.result.now)) c.if-is_nan.false (c.is_nan.ensures c.args.size h.0 h.1 (ap (λ l. length l) e ∙ d.1)) in
-    opened_leaf F ns orders x j (float c.args.size h.0) (λ l e q. cc) c.args.out.now.items c.extend_from_slice.new.self.items c.in-Ok.bytes.items h.2 (c.in_ok-extend_from_slice-in-Ok.ensures.items ∙ ap (λ l. c.args.out.now.items ++ l) c.as_slice-in-Ok.ensures.value) (d.0, d.1, subst (λ (l : List ℕ). IsNoNan c.args.size h.0 l) e k, refl)
-
-pub returns-in-Err : goal.returns-in-Err
-returns-in-Err c F ns orders x j h b = refuses_plain F ns x j c.in-Err.error (λ g. let s = said F ns x j (float c.args.size h.0) h.2 g in (s.0, s.2.0, s.2.1)) (c.in-Err.ensures j b)
+pub returns-in-None : goal.returns-in-None
+returns-in-None c F ns orders x j h b =
+    refuses_expected F ns x j c.expected.result c.expected.ensures (denied F ns x j (float h.0) h.2 (λ own ps s. true≢false (sym (c.in-None.ensures h.0 j h.1 b s.0 s.1) ∙ s.2.4)))

@@ -1,5 +1,6 @@
 use Rattle.std.proofs.Common.{◌≡◌, ◌∙◌, inl, inr, ℕ, List, Option, None, refl}
 use Rattle.json.specs.Json.{Json}
+use Rattle.borsh_plan.specs.Plan.{map_of, names_of as plan_names}
 use Rattle.borsh_json.specs.Forms.{Form, HasNoBytes, forms_in}
 use Rattle.borsh_json.specs.Represents.{SaysSome}
 use Rattle.borsh_json.proofs.OpeningLaws.{opened, unmoved}
@@ -15,22 +16,22 @@ undefined_says F x j e full s =
     ]
 
 pub returns-then-is_zero_size : goal.returns-then-is_zero_size
-returns-then-is_zero_size c k x j at b =
-    let F = forms_in c.args.definitions.now.layout.now.map.now in
-    let ns = c.args.definitions.now.layout.now.names.items in
-    let orders = c.args.definitions.now.orders.items in
-    opened F ns orders x j c.args.out.now.items c.args.out.now.items c.open_null.result (unmoved F ns orders x j c.args.out.now.items c.open_null.result (c.open_null.ensures F ns orders x j (inl ((c.is_zero_size.ensures k.known x at).0 c.if-is_zero_size.true, refl)) b))
+returns-then-is_zero_size c x j at b =
+    let F = forms_in (map_of c.args.json.now.plan.now) in
+    let ns = plan_names c.args.json.now.plan.now in
+    let orders = c.args.json.now.orders.items in
+    opened F ns orders x j c.args.out.now.items c.args.out.now.items c.open_null.result (unmoved F ns orders x j c.args.out.now.items c.open_null.result (c.open_null.ensures F ns orders x j (inl ((c.is_zero_size.ensures x at).0 c.if-is_zero_size.true, refl)) b))
 
 pub returns-in_default : goal.returns-in_default
-returns-in_default c k x j at b =
-    let F = forms_in c.args.definitions.now.layout.now.map.now in
-    let full : HasNoBytes F x → ⊥ = λ z. (let q = (c.is_zero_size.ensures k.known x at).1 z in let s = c.if-is_zero_size.false in cc) in
-    let none = c.in_default.ensures.kind k x at full in
-    ((c.in_ok-name.ensures.ok ∙ c.name.ensures k.known x at, none), undefined_says F x j none full)
+returns-in_default c x j at b =
+    let F = forms_in (map_of c.args.json.now.plan.now) in
+    let full : HasNoBytes F x → ⊥ = λ z. (let q = (c.is_zero_size.ensures x at).1 z in let s = c.if-is_zero_size.false in cc) in
+    let none = c.in_default.ensures.kind x at full in
+    ((c.in_ok-name.ensures.ok ∙ c.name.ensures x at, none), undefined_says F x j none full)
 
 pub returns : goal.returns
-returns c k x j at b =
-    let F = forms_in c.args.definitions.now.layout.now.map.now in
-    let full : HasNoBytes F x → ⊥ = λ z. (let q = (c.is_zero_size.ensures k.known x at).1 z in let s = c.if-is_zero_size.false in cc) in
-    let r = c.in-Some.ensures.kind k x at full in
-    c.open_kind.ensures k.known x j at r.0 r.1 (c.in-Some.ensures.order k x at) (c.in-Some.ensures.telling k x at) b
+returns c x j at b =
+    let F = forms_in (map_of c.args.json.now.plan.now) in
+    let full : HasNoBytes F x → ⊥ = λ z. (let q = (c.is_zero_size.ensures x at).1 z in let s = c.if-is_zero_size.false in cc) in
+    let r = c.in-Some.ensures.kind x at full in
+    c.open_kind.ensures x j at r.0 r.1 (c.in-Some.ensures.order x at) (c.in-Some.ensures.telling x at) b

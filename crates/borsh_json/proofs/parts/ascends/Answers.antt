@@ -17,5 +17,5 @@ tells d a bytes false first order = go a.earlier refl
     go (Some i) q = (i, q, λ k o j l r v less. let z : false ≡ true = (order k o i j q l r v).1 less in cc)
 
 pub returns-clause-tells : goal.returns-clause-tells
-returns-clause-tells c orders =
-    subst (λ (o : Option Ascent). MatchBool c.in_ok-ascends.ascends (AscentRises c.args.definitions.now o c.args.bytes.now) (AscentFalls c.args.definitions.now o c.args.bytes.now)) (sym c.in-Some.is) (tells c.args.definitions.now c.in-Some.ascent c.args.bytes.now c.in_ok-ascends.ascends c.in_ok-ascends.ensures.first (c.in_ok-ascends.ensures.order orders))
+returns-clause-tells c =
+    subst (λ (o : Option Ascent). MatchBool c.in_ok-ascends.ascends (AscentRises c.args.json.now o c.args.bytes.now) (AscentFalls c.args.json.now o c.args.bytes.now)) (sym c.in-Some.is) (tells c.args.json.now c.in-Some.ascent c.args.bytes.now c.in_ok-ascends.ascends c.in_ok-ascends.ensures.first c.in_ok-ascends.ensures.order)

@@ -11,9 +11,9 @@ use Rattle.borsh_json.proofs.WholeLaws.{leaf_refused, leaf_whole, primitive_foun
 use Rattle.borsh_json.proofs.values.begin_value.Goals as goal
 
 pub returns-in_err-write_primitive-in-Number : goal.returns-in_err-write_primitive-in-Number
-returns-in_err-write_primitive-in-Number c y h x parts i o k =
-    let F = forms_of c.args.definitions.now in
-    let ns = names_of c.args.definitions.now in
+returns-in_err-write_primitive-in-Number c h x parts i o k =
+    let F = forms_of c.args.json.now in
+    let ns = names_of c.args.json.now in
     let own = c.args.node.now.bytes.now in
     let f = form_of c.args.node.now.definition.now in
     let e = c.in_err-write_primitive-in-Number in
@@ -21,9 +21,9 @@ returns-in_err-write_primitive-in-Number c y h x parts i o k =
     rw (q.1, q.2) (leaf_refused F x own e.field-0.0 (let p = primitive_found F x own ns f c.args.kind c.in-Number.is k in e.ensures p.1 p.2 F ns x parts o k).1)
 
 pub returns-in_err-write_text-in-Text : goal.returns-in_err-write_text-in-Text
-returns-in_err-write_text-in-Text c y h x parts i o k =
-    let F = forms_of c.args.definitions.now in
-    let ns = names_of c.args.definitions.now in
+returns-in_err-write_text-in-Text c h x parts i o k =
+    let F = forms_of c.args.json.now in
+    let ns = names_of c.args.json.now in
     let own = c.args.node.now.bytes.now in
     let f = form_of c.args.node.now.definition.now in
     let e = c.in_err-write_text-in-Text in
@@ -31,9 +31,9 @@ returns-in_err-write_text-in-Text c y h x parts i o k =
     rw (q.1, q.2) (leaf_refused F x own e.field-0.0 (e.ensures F ns x parts o (subst (λ (q : Found). IsKindOf F ns x f q) c.in-Text.is k)).1)
 
 pub returns-in_err-write_byte_list-in-ByteList : goal.returns-in_err-write_byte_list-in-ByteList
-returns-in_err-write_byte_list-in-ByteList c y h x parts i o k =
-    let F = forms_of c.args.definitions.now in
-    let ns = names_of c.args.definitions.now in
+returns-in_err-write_byte_list-in-ByteList c h x parts i o k =
+    let F = forms_of c.args.json.now in
+    let ns = names_of c.args.json.now in
     let own = c.args.node.now.bytes.now in
     let f = form_of c.args.node.now.definition.now in
     let e = c.in_err-write_byte_list-in-ByteList in
@@ -41,9 +41,9 @@ returns-in_err-write_byte_list-in-ByteList c y h x parts i o k =
     rw (q.1, q.2) (leaf_refused F x own e.field-0.0 (e.ensures F ns x parts o (subst (λ (q : Found). IsKindOf F ns x f q) c.in-ByteList.is k)).1)
 
 pub returns-in_ok-write_primitive-in-Number : goal.returns-in_ok-write_primitive-in-Number
-returns-in_ok-write_primitive-in-Number c y h x parts i o k =
-    let F = forms_of c.args.definitions.now in
-    let ns = names_of c.args.definitions.now in
+returns-in_ok-write_primitive-in-Number c h x parts i o k =
+    let F = forms_of c.args.json.now in
+    let ns = names_of c.args.json.now in
     let own = c.args.node.now.bytes.now in
     let f = form_of c.args.node.now.definition.now in
     let p = primitive_found F x own ns f c.args.kind c.in-Number.is k in
@@ -51,64 +51,64 @@ returns-in_ok-write_primitive-in-Number c y h x parts i o k =
     leaf_whole F x own ns f c.args.kind parts c.args.out.now c.write_primitive.new.out o w.0 (subst (λ (n : ℕ). WritesLeaf F n x own c.args.out.now c.write_primitive.new.out) (sym p.0) w.1)
 
 pub returns-in_ok-write_text-in-Text : goal.returns-in_ok-write_text-in-Text
-returns-in_ok-write_text-in-Text c y h x parts i o k =
-    let F = forms_of c.args.definitions.now in
-    let ns = names_of c.args.definitions.now in
+returns-in_ok-write_text-in-Text c h x parts i o k =
+    let F = forms_of c.args.json.now in
+    let ns = names_of c.args.json.now in
     let own = c.args.node.now.bytes.now in
     let f = form_of c.args.node.now.definition.now in
     let w = c.in_ok-write_text-in-Text.ensures F ns x parts o (subst (λ (q : Found). IsKindOf F ns x f q) c.in-Text.is k) in
     subst (λ (q : Found). IsWrittenAs F ns q x f own c.args.out.now c.write_text.new.out None) (sym c.in-Text.is) (leaf_whole F x own ns f Text parts c.args.out.now c.write_text.new.out o w.0 w.1)
 
 pub returns-in_ok-write_byte_list-in-ByteList : goal.returns-in_ok-write_byte_list-in-ByteList
-returns-in_ok-write_byte_list-in-ByteList c y h x parts i o k =
-    let F = forms_of c.args.definitions.now in
-    let ns = names_of c.args.definitions.now in
+returns-in_ok-write_byte_list-in-ByteList c h x parts i o k =
+    let F = forms_of c.args.json.now in
+    let ns = names_of c.args.json.now in
     let own = c.args.node.now.bytes.now in
     let f = form_of c.args.node.now.definition.now in
     let w = c.in_ok-write_byte_list-in-ByteList.ensures F ns x parts o (subst (λ (q : Found). IsKindOf F ns x f q) c.in-ByteList.is k) in
     subst (λ (q : Found). IsWrittenAs F ns q x f own c.args.out.now c.write_byte_list.new.out None) (sym c.in-ByteList.is) (leaf_whole F x own ns f (ByteList c.in-ByteList.elements) parts c.args.out.now c.write_byte_list.new.out o w.0 w.1)
 
 pub returns-in_ok-write_numbers-in-Numbers : goal.returns-in_ok-write_numbers-in-Numbers
-returns-in_ok-write_numbers-in-Numbers c y h x parts i o k =
-    let F = forms_of c.args.definitions.now in
-    let ns = names_of c.args.definitions.now in
+returns-in_ok-write_numbers-in-Numbers c h x parts i o k =
+    let F = forms_of c.args.json.now in
+    let ns = names_of c.args.json.now in
     let own = c.args.node.now.bytes.now in
     let f = form_of c.args.node.now.definition.now in
-    let w = c.in_ok-write_numbers-in-Numbers.ensures y x parts o (subst (λ (q : Found). IsKindOf F ns x f q) c.in-Numbers.is k) in
+    let w = c.in_ok-write_numbers-in-Numbers.ensures x parts o (subst (λ (q : Found). IsKindOf F ns x f q) c.in-Numbers.is k) in
     subst (λ (q : Found). IsWrittenAs F ns q x f own c.args.out.now c.write_numbers.new.out None) (sym c.in-Numbers.is) (leaf_whole F x own ns f (Numbers c.in-Numbers.elements) parts c.args.out.now c.write_numbers.new.out o w.0 w.1)
 
 pub returns-in-List : goal.returns-in-List
-returns-in-List c y h x parts i o k =
-    let F = forms_of c.args.definitions.now in
-    let ns = names_of c.args.definitions.now in
+returns-in-List c h x parts i o k =
+    let F = forms_of c.args.json.now in
+    let ns = names_of c.args.json.now in
     let own = c.args.node.now.bytes.now in
     let f = form_of c.args.node.now.definition.now in
     let t = subst (λ (q : Found). IsKindOf F ns x f q) c.in-List.is k in
     subst (λ (q : Found). WritesValue F ns q x f own c.args.out.now c.begin_list.new.out c.begin_list.result) (sym c.in-List.is) (c.begin_list.ensures F ns c.args.at x parts i o t)
 
 pub returns-in-Map : goal.returns-in-Map
-returns-in-Map c y h x parts i o k =
-    let F = forms_of c.args.definitions.now in
-    let ns = names_of c.args.definitions.now in
+returns-in-Map c h x parts i o k =
+    let F = forms_of c.args.json.now in
+    let ns = names_of c.args.json.now in
     let own = c.args.node.now.bytes.now in
     let f = form_of c.args.node.now.definition.now in
     let t = subst (λ (q : Found). IsKindOf F ns x f q) c.in-Map.is k in
     subst (λ (q : Found). WritesValue F ns q x f own c.args.out.now c.begin_map.new.out c.begin_map.result) (sym c.in-Map.is) (c.begin_map.ensures F ns c.args.at c.in-Map.field-1 x parts i o t)
 
 pub returns-in-Optional : goal.returns-in-Optional
-returns-in-Optional c y h x parts i o k =
-    let F = forms_of c.args.definitions.now in
-    let ns = names_of c.args.definitions.now in
+returns-in-Optional c h x parts i o k =
+    let F = forms_of c.args.json.now in
+    let ns = names_of c.args.json.now in
     let own = c.args.node.now.bytes.now in
     let f = form_of c.args.node.now.definition.now in
     let t = subst (λ (q : Found). IsKindOf F ns x f q) c.in-Optional.is k in
     subst (λ (q : Found). WritesValue F ns q x f own c.args.out.now c.begin_option.new.out c.begin_option.result) (sym c.in-Optional.is) (c.begin_option.ensures F ns c.args.at x parts i o t)
 
 pub returns-in-Choice : goal.returns-in-Choice
-returns-in-Choice c y h x parts i o k =
-    let F = forms_of c.args.definitions.now in
-    let ns = names_of c.args.definitions.now in
+returns-in-Choice c h x parts i o k =
+    let F = forms_of c.args.json.now in
+    let ns = names_of c.args.json.now in
     let own = c.args.node.now.bytes.now in
     let f = form_of c.args.node.now.definition.now in
     let t = subst (λ (q : Found). IsKindOf F ns x f q) c.in-Choice.is k in
-    subst (λ (q : Found). WritesValue F ns q x f own c.args.out.now c.begin_variant.new.out c.begin_variant.result) (sym c.in-Choice.is) (c.begin_variant.ensures y c.in-Choice.field-0 x parts i o t)
+    subst (λ (q : Found). WritesValue F ns q x f own c.args.out.now c.begin_variant.new.out c.begin_variant.result) (sym c.in-Choice.is) (c.begin_variant.ensures c.in-Choice.field-0 x parts i o t)

@@ -7,3 +7,6 @@ returns-in_err-write_count g c = λ es y. writes_exit_first g.met.W.Write.lawful
 
 pub returns : goal.returns
 returns g c = λ es y. writes_then g.met.W.Write.lawful false c.in_ok-write_count.ensures (c.write_each.ensures es y)
+
+pub returns-then-count-lt-SHARED : goal.returns-then-count-lt-SHARED
+returns-then-count-lt-SHARED g c = λ es y. writes_then g.met.W.Write.lawful false c.in_ok-write_count.ensures (c.write_singly.ensures es y)

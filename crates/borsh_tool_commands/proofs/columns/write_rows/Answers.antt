@@ -1,6 +1,8 @@
 use Rattle.std.proofs.Common.{rules, ◌≡◌, Ok, Err, refl, sym, ap, ◌∙◌, subst}
 use Rattle.std.specs.Prelude.{IfErr}
-use Rattle.borsh_walks.specs.Definitions.{definitions_in}
+use Rattle.std.specs.Borrow.{Bor}
+use Rattle.borsh_plan.specs.declared.plan.Plan.{Plan}
+use Rattle.borsh_plan.specs.Plan.{definitions_of, root_of}
 use Rattle.borsh_tool_commands.specs.declared.colors.ColoredText.{ColoredText}
 use Rattle.borsh_tool_commands.specs.declared.failure.Failure.TheVariants.{OutOfMemory}
 use Rattle.borsh_tool_commands.specs.Colored.{IsShowFailure, Paints, has_colors, printed_colors}
@@ -15,6 +17,19 @@ returns-in-Err-clause-painted g c = painted_stop (Err _) _ refl (painted_start g
 
 pub returns-in-Err-new-clause-painted : goal.returns-in-Err-new-clause-painted
 returns-in-Err-new-clause-painted g c = painted_stop (Err _) _ refl (painted_start g.met.W.Write.lawful c.args.out.now)
+
+pub returns-in-Err-next-clause-painted : goal.returns-in-Err-next-clause-painted
+returns-in-Err-next-clause-painted g c = painted_stop (Err _) _ refl c.loop.invariant.so_far
+
+pub loop-init : goal.loop-init
+loop-init g c =
+    let b = c.in-Ok-new.ensures.rows in
+    record {
+      rows = b.rows;
+      plan = ap (λ (r : Bor Plan). r.now) b.plan;
+      colors = c.new-made.ensures.0;
+      so_far = painted_start g.met.W.Write.lawful c.args.out.now;
+    }
 
 pub returns-in_err-push_row-in-Ok-Some-clause-painted : goal.returns-in_err-push_row-in-Ok-Some-clause-painted
 returns-in_err-push_row-in-Ok-Some-clause-painted g c =
@@ -34,10 +49,10 @@ returns-in_err-write_made-in-Ok-Some-clause-painted g c =
 
 pub returns-in_err-write_made-in-Ok-Some-clause-err : goal.returns-in_err-write_made-in-Ok-Some-clause-err
 returns-in_err-write_made-in-Ok-Some-clause-err g c =
-    let l = c.args.layout.now in
+    let l = c.args.plan.now in
     let x = c.in_err-write_made-in-Ok-Some.field-0.0 in
     let e : c.from_residual-in_err-write_made-in-Ok-Some.result ≡ Err x = search rules in
-    subst (λ r. IfErr r (IsShowFailure (definitions_in l.map.now) l.root.now c.args.path.now c.args.bytes.now)) (sym e) (λ n. absurd (n c.in_err-write_made-in-Ok-Some.ensures.unwritten))
+    subst (λ r. IfErr r (IsShowFailure (definitions_of l) (root_of l) c.args.path.now c.args.bytes.now)) (sym e) (λ n. absurd (n c.in_err-write_made-in-Ok-Some.ensures.unwritten))
 
 pub returns-in-Ok-None-clause-painted : goal.returns-in-Ok-None-clause-painted
 returns-in-Ok-None-clause-painted g c =
@@ -49,8 +64,8 @@ returns-in-Ok-None-clause-painted g c =
 
 pub returns-in-Ok-None-clause-err : goal.returns-in-Ok-None-clause-err
 returns-in-Ok-None-clause-err g c =
-    let l = c.args.layout.now in
-    unwritten_shown (definitions_in l.map.now) l.root.now c.args.path.now c.args.bytes.now c.write_made-in-Ok-None.result c.write_made-in-Ok-None.ensures.unwritten
+    let l = c.args.plan.now in
+    unwritten_shown (definitions_of l) (root_of l) c.args.path.now c.args.bytes.now c.write_made-in-Ok-None.result c.write_made-in-Ok-None.ensures.unwritten
 
 pub loop-preserved : goal.loop-preserved
 loop-preserved g c =
@@ -68,4 +83,4 @@ loop-preserved g c =
       | else-as_bytes-ge-ROOM w ↦
           (subst (λ o. PaintedSoFar wr colored c.args.out.now o) (sym w.out-is) so_far, ap (λ (t : ColoredText). has_colors t) w.made-is ∙ colors)
     ] in
-    record { rows = search rules; layout = search rules; colors = kept.1; so_far = kept.0 }
+    record { rows = search rules; plan = search rules; colors = kept.1; so_far = kept.0 }

@@ -7,12 +7,12 @@ use Rattle.borsh_tool_commands.proofs.lines.take_line.Goals as goal
 pub reads-init : goal.reads-init
 reads-init g c = reading-begins g.R.Read.stream c.args.input.now
 
-pub returns-then-take_held_line : goal.returns-then-take_held_line
-returns-then-take_held_line g c =
+pub returns-then-take_held_line-clause-next : goal.returns-then-take_held_line-clause-next
+returns-then-take_held_line-clause-next g c =
     line-found g.R.Read.stream c.args.input.now c.reads.input c.take_held_line.new.input c.reads.searched c.reads.invariant c.take_held_line.ensures.reader (c.take_held_line.ensures.found c.if-take_held_line.true)
 
-pub returns-in-Ok-eq0 : goal.returns-in-Ok-eq0
-returns-in-Ok-eq0 g c =
+pub returns-in-Ok-eq0-clause-next : goal.returns-in-Ok-eq0-clause-next
+returns-in-Ok-eq0-clause-next g c =
     let none = c.take_held_line.ensures.none c.if-take_held_line.false in
     let m : ReadsMore g.R.Read.stream c.take_held_line.new.input c.read_more.new.self (Ok 0) = search rules in
     let e = ap length c.held-searched.ensures ∙ ap (λ b. length (held b)) none.1 in

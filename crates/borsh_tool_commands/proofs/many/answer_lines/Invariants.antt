@@ -7,4 +7,4 @@ use Rattle.borsh_tool_commands.proofs.many.answer_lines.Given as goal
 
 abbrev pub invariant-loop-number : goal.invariant-loop-number
 invariant-loop-number g l =
-    SoFar IsFirstLine (AnswersLine l.many.json.now.layout.now l.wanted l.is_lenient) g.W.Write.writing (g.R.Read.stream l.fn.input).bytes (g.R.Read.stream (reader_of l.lines)).bytes (held l.lines) l.fn.out l.out l.made.items
+    SoFar IsFirstLine (AnswersLine l.many.json.now.plan.now l.wanted l.is_lenient) g.W.Write.writing (g.R.Read.stream l.fn.input).bytes (g.R.Read.stream (reader_of l.lines)).bytes (held l.lines) l.fn.out l.out l.made.items

@@ -1,17 +1,20 @@
 -- The first values are answered; each turn takes one.
 use Rattle.std.proofs.Common.{◌≡◌}
 use Rattle.borsh_walks.specs.Definitions.{definitions_in}
+use Rattle.borsh_plan.specs.Plan.{map_of, root_of}
 use Rattle.borsh_values.specs.Next.{IsFirst}
-use Rattle.borsh_values.specs.Records.{ahead, layout_of, source_of, turns_left}
+use Rattle.borsh_values.specs.Records.{ahead, limit_of, plan_of, source_of, turns_left}
 use Rattle.borsh_json.specs.declared.output.Layout.TheVariants.{Compact}
 use Rattle.borsh_tool_commands.specs.Json.{IsJsonLine}
+use Rattle.borsh_tool_commands.specs.Many.{most_bytes}
 use Rattle.borsh_tool_commands.proofs.ManyLaws.{SoFar}
 use Rattle.borsh_tool_commands.proofs.many.decode_records.Given as goal
 
 abbrev pub invariant-loop-records : goal.invariant-loop-records
 invariant-loop-records g l = record {
-  layout : layout_of l.records ≡ l.many.json.now.layout;
-  so_far : (let map = l.many.json.now.layout.now.map.now in let root = l.many.json.now.layout.now.root.now in
+  plan : plan_of l.records ≡ l.many.json.now.plan;
+  limit : limit_of l.records ≡ most_bytes;
+  so_far : (let map = map_of l.many.json.now.plan.now in let root = root_of l.many.json.now.plan.now in
       SoFar (IsFirst (definitions_in map) root) (IsJsonLine map root Compact) g.W.Write.writing (g.R.Read.stream l.fn.input).bytes (g.R.Read.stream (source_of l.records)).bytes (ahead l.records) l.fn.out l.out l.made.items);
 }
 

@@ -16,4 +16,4 @@ returns-then-is_held-2-clause-next g c =
 pub returns-clause-next : goal.returns-clause-next
 returns-clause-next g c =
     let same = (c.take_held_line-is_held.ensures.none c.if-is_held-2.false).1 in
-    subst (λ b. IfOk c.take_line.result (λ found. NextLine g.R.Read.stream b c.take_line.new.input found)) same c.take_line.ensures
+    subst (λ b. IfOk c.take_line.result (λ found. NextLine g.R.Read.stream b c.take_line.new.input found)) same c.take_line.ensures.next

@@ -6,8 +6,8 @@ use Rattle.borsh_json.specs.Ascii.{IsInLine}
 use Rattle.borsh_json.proofs.LineLaws.{compact_line}
 use Rattle.borsh_tool_commands.proofs.many.quoted.Goals as goal
 
-pub returns-in-Ok : goal.returns-in-Ok
-returns-in-Ok c =
+pub returns-in-Ok-clause-line : goal.returns-in-Ok-clause-line
+returns-in-Ok-clause-line c =
     let tokens : c.string.new.self.tokens ≡ token.string c.args.text.now ∷ [] = search rules in
     let before : c.string.new.self.before ≡ [] = search rules in
     let text : c.as_str.result.now ≡ print (token.string c.args.text.now ∷ []) = search rules in

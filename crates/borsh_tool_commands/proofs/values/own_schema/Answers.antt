@@ -1,12 +1,12 @@
-use Rattle.borsh_tool_commands.proofs.Failing.{own_read}
-use Rattle.borsh_tool_commands.proofs.Sending.{own_is}
+use Rattle.std.proofs.Common.{subst}
+use Rattle.borsh_definitions.specs.Described.{DefinitionMap, definitions_by_name}
+use Rattle.borsh_definitions.specs.Own.{container_definitions}
+use Rattle.borsh_schema.specs.Joined.{IsUnion}
+use Rattle.borsh_schema.proofs.Laws.Containers.{nothing_in}
 use Rattle.borsh_tool_commands.proofs.values.own_schema.Goals as goal
 
-pub returns-in-Ok-to_vec : goal.returns-in-Ok-to_vec
-returns-in-Ok-to_vec c =
-    let bytes = c.in-Ok-to_vec.bytes.items in
-    let given = c.as_slice.result.now in
-    record {
-      ok = own_is c.in-Ok.container bytes given c.in-Ok.ensures.ok c.in-Ok-to_vec.ensures.ok c.as_slice.ensures.value c.schema_from.result c.schema_from.ensures.ok;
-      err = own_read _ c.in-Ok.container bytes given c.in-Ok-to_vec.ensures.ok c.as_slice.ensures.value c.schema_from.result c.schema_from.ensures.err;
-    }
+pub returns-clause-ok : goal.returns-clause-ok
+returns-clause-ok c = (
+  c.in-Ok-declaration.ensures.ok,
+  subst (λ (old : DefinitionMap). IsUnion old container_definitions (definitions_by_name c.add_definitions_recursively.new.map)) (nothing_in c.new-definitions.result c.new-definitions.ensures.empty) c.in-Ok.ensures.ok,
+)

@@ -2,29 +2,21 @@ use Rattle.std.proofs.Common.{rules, ◌≡◌, Err}
 use Rattle.std.specs.Prelude.{IfErr, OnOk}
 use Rattle.borsh_walks.specs.Container.{Member}
 use Rattle.borsh_walks.specs.Definitions.{definitions_in}
-use Rattle.borsh_json.proofs.LaidLaws.{laid_by}
 use Rattle.borsh_tool_commands.specs.Colored.{IsShowFailure}
 use Rattle.borsh_tool_commands.specs.declared.failure.Failure.TheVariants.{OutOfMemory}
-use Rattle.borsh_tool_commands.proofs.Failing.{by_layout}
+use Rattle.borsh_tool_commands.proofs.Failing.{by_plan}
 use Rattle.borsh_tool_commands.proofs.Painting.{painted_start, painted_stop}
 use Rattle.borsh_tool_commands.proofs.values.show.Goals as goal
 
-pub write_rows-requires : goal.write_rows-requires
-write_rows-requires g c =
-    let l = c.in_ok-layout.ensures in
-    record { laid_out = laid_by c.in_ok-layout.layout _ _ l.same.0 l.same.1 l.layout; sizes = l.sizes }
-
-pub returns-in_err-layout-clause-painted : goal.returns-in_err-layout-clause-painted
-returns-in_err-layout-clause-painted g c =
+pub returns-in_err-plan-clause-painted : goal.returns-in_err-plan-clause-painted
+returns-in_err-plan-clause-painted g c =
     let e : c.from_residual.result ≡ Err OutOfMemory = search rules in
     painted_stop c.from_residual.result OutOfMemory e (painted_start g.met.W.Write.lawful c.args.out.now)
 
 pub returns-clause-member : goal.returns-clause-member
 returns-clause-member g c =
-    let l = c.in_ok-layout.ensures in
-    by_layout (λ root map. OnOk c.write_rows.result (Member (definitions_in map) root c.args.bytes.now)) c.in_ok-layout.layout _ _ l.same.0 l.same.1 c.as_str.ensures.value c.write_rows.ensures.member
+    by_plan (λ root map. OnOk c.write_rows.result (Member (definitions_in map) root c.args.bytes.now)) c.in_ok-plan.plan c.in_ok-plan.ensures c.as_str.ensures.value c.write_rows.ensures.member
 
 pub returns-clause-err : goal.returns-clause-err
 returns-clause-err g c =
-    let l = c.in_ok-layout.ensures in
-    by_layout (λ root map. IfErr c.write_rows.result (IsShowFailure (definitions_in map) root c.args.path.now c.args.bytes.now)) c.in_ok-layout.layout _ _ l.same.0 l.same.1 c.as_str.ensures.value c.write_rows.ensures.err
+    by_plan (λ root map. IfErr c.write_rows.result (IsShowFailure (definitions_in map) root c.args.path.now c.args.bytes.now)) c.in_ok-plan.plan c.in_ok-plan.ensures c.as_str.ensures.value c.write_rows.ensures.err

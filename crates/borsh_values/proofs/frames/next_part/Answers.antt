@@ -1,4 +1,5 @@
 use Rattle.std.proofs.Common.{◌≡◌, ◌+◌, [], sym, subst}
+use Rattle.borsh_plan.specs.Plan.{names_of}
 use Rattle.borsh_values.specs.Steps.{GoesOn, remaining}
 use Rattle.borsh_values.specs.declared.frames.Rest.TheVariants.{Parts}
 use Rattle.borsh_values.specs.declared.frames.Step.{Step}
@@ -7,7 +8,7 @@ use Rattle.borsh_values.proofs.frames.next_part.Goals as goal
 
 pub returns-in-Some : goal.returns-in-Some
 returns-in-Some c =
-    let ns = c.args.layout.now.names.items in
+    let ns = names_of c.args.plan.now in
     let at = c.in-Parts.at in
     let next = c.in-Parts.next in
     let low = fits_parts ns c.args.rest at next c.in-Parts.is c.requires.fits in
@@ -16,5 +17,5 @@ returns-in-Some c =
 
 pub returns-in-None : goal.returns-in-None
 returns-in-None c =
-    let ns = c.args.layout.now.names.items in
+    let ns = names_of c.args.plan.now in
     subst (λ r. remaining ns r ≡ []) (sym c.in-Parts.is) (parts_end ns c.in-Parts.at c.in-Parts.next c.in-None.ensures.place)

@@ -1,30 +1,29 @@
 use Rattle.std.proofs.Common.{◌≡◌, ◌*◌, ◌<◌, ◌+◌, ◌∷◌, [], replicate, append-nil, subst, sym, ap, ◌∙◌, arith}
-use Rattle.std.specs.Prelude.{get_or}
-use Rattle.borsh_walks.specs.Definitions.{definitions_in}
+use Rattle.borsh_plan.specs.Plan.{definitions_of, names_of}
 use Rattle.borsh_values.specs.declared.frames.Rest.TheVariants.{Parts}
 use Rattle.borsh_values.specs.declared.free.Passed.{Passed}
-use Rattle.borsh_values.specs.Layouts.{name_at}
+use Rattle.borsh_plan.specs.Names.{name_at}
 use Rattle.borsh_values.specs.Steps.{remaining}
 use Rattle.borsh_values.specs.Free.{FreeSize, FreeSizes, IsFreeFront}
 use Rattle.borsh_values.proofs.Measure.{some_step}
 use Rattle.borsh_values.proofs.Bytes.{small_bytes}
 use Rattle.borsh_values.proofs.OnlyLaws.{first_free}
 use Rattle.borsh_values.proofs.Places.{parts_on, fits_parts, fits_copies}
-use Rattle.borsh_values.proofs.FreeLaws.{free_copies, free_one, some_factor}
+use Rattle.borsh_values.proofs.FreeLaws.{free_copies, free_one, size_free, some_factor}
 use Rattle.borsh_values.proofs.free.free_front.Goals as goal
 
 pub returns-then-all-left : goal.returns-then-all-left
 returns-then-all-left c =
-    let l = c.args.layout.now in
-    let C = definitions_in l.map.now in
-    let ns = l.names.items in
+    let l = c.args.plan.now in
+    let C = definitions_of l in
+    let ns = names_of l in
     let at = c.in-Copies.at in
     let k = c.in-Copies.count in
-    let n = get_or l.sizes.items at 0 in
+    let n = c.size.result in
     let some = c.if-all-gt0.true in
     let low = fits_copies ns c.args.rest at k c.in-Copies.is c.requires.fits in
-    let e : c.product-all.result ≡ k * n = c.product-all.ensures.some some ∙ ap (λ i. k * i) c.size_at.ensures in
-    let f : FreeSize C (name_at ns at) n = c.requires.free.free at low (some_factor k n (subst (λ i. 0 < i) e some)) in
+    let e : c.product-all.result ≡ k * n = c.product-all.ensures some in
+    let f : FreeSize C (name_at ns at) n = size_free l at n c.size.ensures low (some_factor k n (subst (λ i. 0 < i) e some)) in
     let step = some_step ns c.args.rest in
     let left = c.if-all-left.true in
     let small = small_bytes c.args.left.now (λ k. let b = c.type_inv.left k in omega (arith, b)) in
@@ -39,18 +38,17 @@ returns-then-all-left c =
 
 pub returns-then-size-left : goal.returns-then-size-left
 returns-then-size-left c =
-    let l = c.args.layout.now in
-    let C = definitions_in l.map.now in
-    let ns = l.names.items in
+    let l = c.args.plan.now in
+    let C = definitions_of l in
+    let ns = names_of l in
     let at = c.in-Parts.at in
     let next = c.in-Parts.next in
     let part = c.in-Some.part in
-    let size = c.size_at-size.result in
-    let e = c.size_at-size.ensures in
+    let size = c.size-size.result in
     let some = c.if-size-gt0.true in
     let low = fits_parts ns c.args.rest at next c.in-Parts.is c.requires.fits in
     let g = parts_on ns at next part low c.in-Some.ensures.place in
-    let f : FreeSize C (name_at ns part) size = subst (λ i. FreeSize C (name_at ns part) i) (sym e) (c.requires.free.free part g.within (omega (arith, e, some))) in
+    let f : FreeSize C (name_at ns part) size = size_free l part size c.size-size.ensures g.within some in
     let left = c.if-size-left.true in
     let small = small_bytes c.args.left.now (λ k. let b = c.type_inv.left k in omega (arith, b)) in
     let p : Passed = record { taken = size; rest = Parts at (next + 1) } in

@@ -1,20 +1,20 @@
 use Rattle.std.proofs.Common.{◌+◌, ◌∙◌, ap, subst, sym, arith}
 use Rattle.std.specs.Prelude.{slice_get}
-use Rattle.borsh_walks.specs.Definitions.{definitions_in}
+use Rattle.borsh_plan.proofs.Laws.{defined_at}
+use Rattle.borsh_plan.specs.Plan.{definitions_of, names_of}
 use Rattle.borsh_values.specs.declared.tags.Found.TheVariants.{One}
-use Rattle.borsh_values.specs.Layouts.{name_at, parts_in}
+use Rattle.borsh_plan.specs.Names.{name_at, parts_in}
 use Rattle.borsh_values.specs.Steps.{FoundAs}
 use Rattle.borsh_values.specs.Free.{IsTagLength}
 use Rattle.borsh_values.proofs.FoundLaws.{unnamed}
-use Rattle.borsh_values.proofs.Going.{defined_in}
 use Rattle.borsh_values.proofs.OnlyLaws.{tag_length}
 use Rattle.borsh_values.proofs.runs.length_by_tag.Goals as goal
 
 pub returns : goal.returns
 returns c =
-    let l = c.args.layout.now in
-    let C = definitions_in l.map.now in
-    let ns = l.names.items in
+    let l = c.args.plan.now in
+    let C = definitions_of l in
+    let ns = names_of l in
     let vs = unnamed c.args.variants.now.items in
     let i = c.in-One.index in
     let x = name_at ns c.args.at in
@@ -23,4 +23,4 @@ returns c =
     let found = subst (λ b. FoundAs vs b (One i)) c.as_slice.ensures (subst (λ f. FoundAs vs c.as_slice.result.now f) c.in-One.is c.find_variant.ensures) in
     let at = ap (λ s. slice_get (parts_in s) i) (sym c.requires.shape) ∙ c.in_ok-part.ensures.place.1 in
     let sum = c.in_ok-length.ensures in
-    subst (λ n. IsTagLength C x c.args.tag n) {x = size + 1} {y = c.in_ok-length.length} (omega (arith, sum)) (tag_length C c.args.tag i size p vs (defined_in l c.requires.laid_out c.args.at c.requires.within ∙ c.requires.shape) found at c.in_ok-size.ensures)
+    subst (λ n. IsTagLength C x c.args.tag n) {x = size + 1} {y = c.in_ok-length.length} (omega (arith, sum)) (tag_length C c.args.tag i size p vs (defined_at l c.args.at c.requires.within ∙ c.requires.shape) found at c.in_ok-size.ensures)

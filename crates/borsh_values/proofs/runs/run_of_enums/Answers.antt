@@ -1,21 +1,21 @@
 use Rattle.std.proofs.Common.{◌≡◌, ◌<◌, ◌∷◌, [], subst, sym, arith, Some, inl, inr}
 use Rattle.std.specs.Prelude.{All, IfSome, slice_get}
 use Rattle.std.proofs.lemmas.List.Elements.{All-drop}
-use Rattle.borsh_walks.specs.Definitions.{definitions_in}
-use Rattle.borsh_values.specs.Layouts.{name_at}
+use Rattle.borsh_plan.specs.Names.{name_at}
+use Rattle.borsh_plan.specs.Plan.{definitions_of, names_of}
 use Rattle.borsh_values.specs.Free.{AreFirst, IsRight, IsTagLength}
 use Rattle.borsh_values.proofs.Bytes.{small_bytes}
 use Rattle.borsh_values.proofs.OnlyLaws.{first_none, first_by_tag, first_copy}
 use Rattle.borsh_values.proofs.runs.run_of_enums.Goals as goal
 
 pub loop-values-init : goal.loop-values-init
-loop-values-init c = record { few = omega arith; first = first_none (definitions_in c.args.layout.now.map.now) (name_at c.args.layout.now.names.items c.args.at) c.args.left.now; last = c.length_by_tag-length.ensures; other = c.length_by_tag-length.ensures }
+loop-values-init c = record { few = omega arith; first = first_none (definitions_of c.args.plan.now) (name_at (names_of c.args.plan.now) c.args.at) c.args.left.now; last = c.length_by_tag-length.ensures; other = c.length_by_tag-length.ensures }
 
 pub loop-values-preserved : goal.loop-values-preserved
 loop-values-preserved c =
-    let l = c.args.layout.now in
-    let C = definitions_in l.map.now in
-    let x = name_at l.names.items c.args.at in
+    let l = c.args.plan.now in
+    let C = definitions_of l in
+    let x = name_at (names_of l) c.args.at in
     let i = c.loop-values.invariant in
     let n = c.in-Some-length.length in
     let known = c.length_of-known.result in

@@ -1,15 +1,15 @@
 use Rattle.std.proofs.Common.{◌-◌, ◌≤◌, replicate}
-use Rattle.borsh_walks.specs.Definitions.{definitions_in}
-use Rattle.borsh_values.specs.Layouts.{name_at}
+use Rattle.borsh_plan.specs.Names.{name_at}
+use Rattle.borsh_plan.specs.Plan.{definitions_of, names_of}
 use Rattle.borsh_values.specs.Free.{AreFirst, IsRight}
 use Rattle.borsh_values.proofs.runs.run_of_enums.Given as goal
 
 abbrev pub invariant-loop-values : goal.invariant-loop-values
 invariant-loop-values l = record {
   few : l.values ≤ l.count;
-  first : AreFirst (definitions_in l.layout.map.now) (replicate l.values (name_at l.layout.names.items l.at)) l.left l.taken;
-  last : IsRight (definitions_in l.layout.map.now) (name_at l.layout.names.items l.at) l.last;
-  other : IsRight (definitions_in l.layout.map.now) (name_at l.layout.names.items l.at) l.other;
+  first : AreFirst (definitions_of l.plan) (replicate l.values (name_at (names_of l.plan) l.at)) l.left l.taken;
+  last : IsRight (definitions_of l.plan) (name_at (names_of l.plan) l.at) l.last;
+  other : IsRight (definitions_of l.plan) (name_at (names_of l.plan) l.at) l.other;
 }
 
 abbrev pub decreases-loop-values : goal.decreases-loop-values

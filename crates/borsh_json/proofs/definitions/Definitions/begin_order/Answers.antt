@@ -1,7 +1,8 @@
 use Rattle.std.proofs.Common.{◌≡◌, ◌∙◌, List, Option, Some, None, refl, sym, ap, subst}
 use Rattle.std.specs.Prelude.{reverse}
 use Rattle.std.specs.Borrow.{Bor}
-use Rattle.borsh_values.specs.declared.layout.Layout.{Layout}
+use Rattle.borsh_plan.specs.declared.plan.Plan.{Plan}
+use Rattle.borsh_plan.specs.Plan.{map_of, names_of as plan_names}
 use Rattle.borsh_json.specs.declared.definitions.Known.{Known}
 use Rattle.borsh_json.specs.declared.definitions.Known.TheVariants.{Nothing, Order as KnownOrder}
 use Rattle.borsh_json.specs.declared.order.Ordered.{Ordered}
@@ -11,7 +12,7 @@ use Rattle.borsh_json.specs.Ordered.{Order, HasOrder}
 use Rattle.borsh_json.specs.Orders.{FindsOrder, IsLookedAt, KeepsLooked}
 use Rattle.borsh_json.specs.Places.{IsAt}
 use Rattle.borsh_json.proofs.SearchLaws.{entry_there, keeps_looked, linked, looked_set, search_meets, search_opens, search_stops}
-use Rattle.borsh_json.proofs.WaitingLaws.{known_alike, opened, unknown}
+use Rattle.borsh_json.proofs.WaitingLaws.{opened, unknown}
 use Rattle.borsh_json.proofs.definitions.Definitions.begin_order.Goals as goal
 
 pub returns-in_ok-push-in-Some-clause-orders : goal.returns-in_ok-push-in-Some-clause-orders
@@ -21,15 +22,15 @@ returns-in_ok-push-in-Some-clause-orders c h w =
     let x = w.0.0 in
     let same = c.set_order.ensures.same in
     let e = c.known_at.ensures.1 Nothing c.in-Nothing.is (λ q. cc) in
-    let i = subst (λ (l : Bor Layout). IsAt l.now.names.items c.args.at x) (sym same.0) w.0.1 in
-    let f = subst (λ (l : Bor Layout). FindsOrder (forms_in l.now.map.now) l.now.names.items x c.in-Some.order) same.0 (c.in-Some.ensures.order x (known_alike d s same.0 same.1 h.0, i)) in
-    (unknown d d.orders.items c.args.at s.orders.items (h.1, λ k z. z) e c.set_order.ensures.set, λ t. opened d d.orders.items c.args.waiting.now.items c.push.new.self.items c.args.at x c.in-Some.order s.orders.items h.1 e c.set_order.ensures.set w.0.1 f c.in_ok-push-in-Some.ensures.items w)
+    let i = subst (λ (l : Bor Plan). IsAt (plan_names l.now) c.args.at x) (sym same) w.0.1 in
+    let f = subst (λ (l : Bor Plan). FindsOrder (forms_in (map_of l.now)) (plan_names l.now) x c.in-Some.order) same (c.in-Some.ensures.order x i) in
+    (unknown d d.orders.items c.args.at s.orders.items (h, λ k z. z) e c.set_order.ensures.set, λ t. opened d d.orders.items c.args.waiting.now.items c.push.new.self.items c.args.at x c.in-Some.order s.orders.items h e c.set_order.ensures.set w.0.1 f c.in_ok-push-in-Some.ensures.items w)
 
 pub returns-in-None-clause-orders : goal.returns-in-None-clause-orders
 returns-in-None-clause-orders c h w =
     let d = c.args.self.now in
     let e = c.known_at.ensures.1 Nothing c.in-Nothing.is (λ q. cc) in
-    (unknown d d.orders.items c.args.at c.set_order.new.self.orders.items (h.1, λ k z. z) e c.set_order.ensures.set, λ t. cc)
+    (unknown d d.orders.items c.args.at c.set_order.new.self.orders.items (h, λ k z. z) e c.set_order.ensures.set, λ t. cc)
 
 pub returns-in-Order-Some-clause-none : goal.returns-in-Order-Some-clause-none
 returns-in-Order-Some-clause-none c h l w s =
@@ -65,8 +66,8 @@ returns-in-None-clause-none c h l w s =
     let same = c.set_order.ensures.same in
     let e = c.known_at.ensures.1 Nothing c.in-Nothing.is (λ q. cc) in
     let set = sym c.set_order.ensures.set in
-    let i = subst (λ (l : Bor Layout). IsAt l.now.names.items c.args.at x) (sym same.0) w.0.1 in
-    let none = subst (λ (l : Bor Layout). (o : Order) → HasOrder (forms_in l.now.map.now) x o → ⊥) same.0 (c.in-None.ensures.none x (known_alike d n same.0 same.1 h.0, i) refl) in (
+    let i = subst (λ (l : Bor Plan). IsAt (plan_names l.now) c.args.at x) (sym same) w.0.1 in
+    let none = subst (λ (l : Bor Plan). (o : Order) → HasOrder (forms_in (map_of l.now)) x o → ⊥) same (c.in-None.ensures.none x i refl) in (
       subst (λ (new : List Known). KeepsLooked d.orders.items new) set (keeps_looked d.orders.items c.args.at None),
       subst (λ (new : List Known). IsLookedAt new c.args.at) set (looked_set d.orders.items c.args.at None e),
       search_stops d d.orders.items c.args.waiting.now.items c.args.at x n.orders.items c.set_order.ensures.set w.0.1 none s,

@@ -2,21 +2,21 @@ use Rattle.std.proofs.Common.{sym}
 use Rattle.borsh_json.proofs.definitions.Definitions.find_kind.Goals as goal
 
 pub returns-in_ok-kind-in-Some-clause-kind : goal.returns-in_ok-kind-in-Some-clause-kind
-returns-in_ok-kind-in-Some-clause-kind c = λ k x i full.
-    let t = sym (c.in-Some.ensures k x i) in
-    (t, c.in_ok-kind-in-Some.ensures.kind k x i t full)
+returns-in_ok-kind-in-Some-clause-kind c = λ x i full.
+    let t = sym (c.in-Some.ensures x i) in
+    (t, c.in_ok-kind-in-Some.ensures.kind x i t full)
 
 pub returns-in-None-clause-kind : goal.returns-in-None-clause-kind
-returns-in-None-clause-kind c = λ k x i full. sym (c.in-None.ensures k x i)
+returns-in-None-clause-kind c = λ x i full. sym (c.in-None.ensures x i)
 
 pub returns-in_ok-kind-in-Some-clause-orders : goal.returns-in_ok-kind-in-Some-clause-orders
-returns-in_ok-kind-in-Some-clause-orders c = λ h x i. c.in_ok-kind-in-Some.ensures.orders h x (h.0, i, sym (c.in-Some.ensures h.0 x i))
+returns-in_ok-kind-in-Some-clause-orders c = λ h x i. c.in_ok-kind-in-Some.ensures.orders h x (i, sym (c.in-Some.ensures x i))
 
 pub returns-in-None-clause-orders : goal.returns-in-None-clause-orders
-returns-in-None-clause-orders c = λ h x i. ((h.1, λ k z. z), tt)
+returns-in-None-clause-orders c = λ h x i. ((h, λ k z. z), tt)
 
 pub returns-in_ok-kind-in-Some-clause-tells : goal.returns-in_ok-kind-in-Some-clause-tells
-returns-in_ok-kind-in-Some-clause-tells c = λ h n x i. c.in_ok-kind-in-Some.ensures.tells h n x (h.0, i, sym (c.in-Some.ensures h.0 x i))
+returns-in_ok-kind-in-Some-clause-tells c = λ h n x i. c.in_ok-kind-in-Some.ensures.tells h n x (i, sym (c.in-Some.ensures x i))
 
 pub returns-in-None-clause-tells : goal.returns-in-None-clause-tells
 returns-in-None-clause-tells c = λ h n x i. (n, tt)

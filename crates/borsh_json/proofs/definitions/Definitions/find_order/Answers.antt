@@ -10,8 +10,7 @@ pub loop-init : goal.loop-init
 loop-init c =
     let d = c.args.self.now in (
       refl,
-      refl,
-      (λ h x a. ((h.1, λ k z. z), none_waits d d.orders.items c.new-waiting.result.items c.args.at x c.new-waiting.ensures.items a)),
+      (λ h x a. ((h, λ k z. z), none_waits d d.orders.items c.new-waiting.result.items c.args.at x c.new-waiting.ensures.items a)),
       (λ h x a n. (n.0, search_begins d d.orders.items c.new-waiting.result.items c.args.at c.new-waiting.ensures.items n.1, inl refl)),
     )
 
@@ -24,28 +23,27 @@ loop-preserved c =
     let v = c.loop.invariant in
     let s = c.in_ok-begin_order.ensures.same in
     let t = c.in_ok-needed.ensures.same in (
-      t.0 ∙ s.0 ∙ v.0,
-      t.1 ∙ s.1 ∙ v.1,
+      t ∙ s ∙ v.0,
       (λ h x a.
-          (let i = v.2 h x a in
-          let he = knows_more d e v.0 v.1 h i.0 in
+          (let i = v.1 h x a in
+          let he = knows_more d e v.0 i.0 in
           let b = c.in_ok-begin_order.ensures.orders he (awaits_at d e e.orders.items c.loop.waiting.items c.loop.at (sym v.0) i.1) in
-          let hf = knows_more e f s.0 s.1 he b.0 in
-          let n = c.in_ok-needed.ensures.orders hf (open_at e f f.orders.items c.begin_order.new.waiting.items (sym s.0) (b.1 c.if-not-branch.false)) in
+          let hf = knows_more e f s b.0 in
+          let n = c.in_ok-needed.ensures.orders hf (open_at e f f.orders.items c.begin_order.new.waiting.items (sym s) (b.1 c.if-not-branch.false)) in
           let w = subst (λ (o : Option ℕ). IfSome o (λ k. AwaitsOrder f g.orders.items c.next_needed.new.waiting.items k)) c.in-Some.is n.1 in
-          (knows_then d e g.orders.items v.0 i.0 (knows_then e f g.orders.items s.0 b.0 n.0), awaits_at f d g.orders.items c.next_needed.new.waiting.items c.in-Some.needed (s.0 ∙ v.0) w))),
+          (knows_then d e g.orders.items v.0 i.0 (knows_then e f g.orders.items s b.0 n.0), awaits_at f d g.orders.items c.next_needed.new.waiting.items c.in-Some.needed (s ∙ v.0) w))),
       (λ h x a m.
-          (let i = v.2 h x a in
-          let u = v.3 h x a m in
-          let he = knows_more d e v.0 v.1 h i.0 in
+          (let i = v.1 h x a in
+          let u = v.2 h x a m in
+          let he = knows_more d e v.0 i.0 in
           let wait = awaits_at d e e.orders.items c.loop.waiting.items c.loop.at (sym v.0) i.1 in
           let b = c.in_ok-begin_order.ensures.orders he wait in
-          let hf = knows_more e f s.0 s.1 he b.0 in
+          let hf = knows_more e f s b.0 in
           let q = c.in_ok-begin_order.ensures.none he (u.0 ∙ layout_length d e (sym v.0)) wait (search_at d e e.orders.items c.loop.waiting.items c.loop.at (sym v.0) u.1) in
           let on = on_true _ _ c.if-not-branch.false q.2 in
-          let n = c.in_ok-needed.ensures.none hf (open_at e f f.orders.items c.begin_order.new.waiting.items (sym s.0) (b.1 c.if-not-branch.false)) (search_on e f f.orders.items c.begin_order.new.waiting.items (sym s.0) on) in
+          let n = c.in_ok-needed.ensures.none hf (open_at e f f.orders.items c.begin_order.new.waiting.items (sym s) (b.1 c.if-not-branch.false)) (search_on e f f.orders.items c.begin_order.new.waiting.items (sym s) on) in
           let p = on_some _ (λ k. SearchesAt f g.orders.items c.next_needed.new.waiting.items k) _ c.in-Some.needed c.in-Some.is n.1 in
-          (n.0.0 ∙ q.0.0 ∙ u.0, search_at f d g.orders.items c.next_needed.new.waiting.items c.in-Some.needed (s.0 ∙ v.0) p, inr (n.0.1 c.args.at (looked_then e.orders.items f.orders.items c.loop.at c.args.at q.0 q.1 u.2))))),
+          (n.0.0 ∙ q.0.0 ∙ u.0, search_at f d g.orders.items c.next_needed.new.waiting.items c.in-Some.needed (s ∙ v.0) p, inr (n.0.1 c.args.at (looked_then e.orders.items f.orders.items c.loop.at c.args.at q.0 q.1 u.2))))),
     )
 
 pub returns-then-not-branch-clause-orders : goal.returns-then-not-branch-clause-orders
@@ -53,8 +51,8 @@ returns-then-not-branch-clause-orders c h x a =
     let d = c.args.self.now in
     let e = c.loop.self in
     let v = c.loop.invariant in
-    let i = v.2 h x a in
-    let he = knows_more d e v.0 v.1 h i.0 in
+    let i = v.1 h x a in
+    let he = knows_more d e v.0 i.0 in
     let b = c.in_ok-begin_order.ensures.orders he (awaits_at d e e.orders.items c.loop.waiting.items c.loop.at (sym v.0) i.1) in
     knows_then d e c.begin_order.new.self.orders.items v.0 i.0 b.0
 
@@ -66,12 +64,12 @@ returns-in-None-clause-orders c h x a =
     let g = c.next_needed.new.self in
     let v = c.loop.invariant in
     let s = c.in_ok-begin_order.ensures.same in
-    let i = v.2 h x a in
-    let he = knows_more d e v.0 v.1 h i.0 in
+    let i = v.1 h x a in
+    let he = knows_more d e v.0 i.0 in
     let b = c.in_ok-begin_order.ensures.orders he (awaits_at d e e.orders.items c.loop.waiting.items c.loop.at (sym v.0) i.1) in
-    let hf = knows_more e f s.0 s.1 he b.0 in
-    let n = c.in_ok-needed.ensures.orders hf (open_at e f f.orders.items c.begin_order.new.waiting.items (sym s.0) (b.1 c.if-not-branch.false)) in
-    knows_then d e g.orders.items v.0 i.0 (knows_then e f g.orders.items s.0 b.0 n.0)
+    let hf = knows_more e f s b.0 in
+    let n = c.in_ok-needed.ensures.orders hf (open_at e f f.orders.items c.begin_order.new.waiting.items (sym s) (b.1 c.if-not-branch.false)) in
+    knows_then d e g.orders.items v.0 i.0 (knows_then e f g.orders.items s b.0 n.0)
 
 pub returns-then-not-branch-clause-none : goal.returns-then-not-branch-clause-none
 returns-then-not-branch-clause-none c h m x a =
@@ -79,9 +77,9 @@ returns-then-not-branch-clause-none c h m x a =
     let e = c.loop.self in
     let f = c.begin_order.new.self in
     let v = c.loop.invariant in
-    let i = v.2 h x a in
-    let u = v.3 h x a m in
-    let he = knows_more d e v.0 v.1 h i.0 in
+    let i = v.1 h x a in
+    let u = v.2 h x a m in
+    let he = knows_more d e v.0 i.0 in
     let wait = awaits_at d e e.orders.items c.loop.waiting.items c.loop.at (sym v.0) i.1 in
     let q = c.in_ok-begin_order.ensures.none he (u.0 ∙ layout_length d e (sym v.0)) wait (search_at d e e.orders.items c.loop.waiting.items c.loop.at (sym v.0) u.1) in
     let none = on_false _ _ c.if-not-branch.true q.2 in
@@ -95,14 +93,14 @@ returns-in-None-clause-none c h m x a =
     let g = c.next_needed.new.self in
     let v = c.loop.invariant in
     let s = c.in_ok-begin_order.ensures.same in
-    let i = v.2 h x a in
-    let u = v.3 h x a m in
-    let he = knows_more d e v.0 v.1 h i.0 in
+    let i = v.1 h x a in
+    let u = v.2 h x a m in
+    let he = knows_more d e v.0 i.0 in
     let wait = awaits_at d e e.orders.items c.loop.waiting.items c.loop.at (sym v.0) i.1 in
     let b = c.in_ok-begin_order.ensures.orders he wait in
-    let hf = knows_more e f s.0 s.1 he b.0 in
+    let hf = knows_more e f s b.0 in
     let q = c.in_ok-begin_order.ensures.none he (u.0 ∙ layout_length d e (sym v.0)) wait (search_at d e e.orders.items c.loop.waiting.items c.loop.at (sym v.0) u.1) in
     let on = on_true _ _ c.if-not-branch.false q.2 in
-    let n = c.in_ok-needed.ensures.none hf (open_at e f f.orders.items c.begin_order.new.waiting.items (sym s.0) (b.1 c.if-not-branch.false)) (search_on e f f.orders.items c.begin_order.new.waiting.items (sym s.0) on) in
+    let n = c.in_ok-needed.ensures.none hf (open_at e f f.orders.items c.begin_order.new.waiting.items (sym s) (b.1 c.if-not-branch.false)) (search_on e f f.orders.items c.begin_order.new.waiting.items (sym s) on) in
     let none = on_none _ (λ k. SearchesAt f g.orders.items c.next_needed.new.waiting.items k) _ c.in-None.is n.1 in
-    ((n.0.0 ∙ q.0.0 ∙ u.0, none_at f d g.orders.items (s.0 ∙ v.0) none), n.0.1 c.args.at (looked_then e.orders.items f.orders.items c.loop.at c.args.at q.0 q.1 u.2))
+    ((n.0.0 ∙ q.0.0 ∙ u.0, none_at f d g.orders.items (s ∙ v.0) none), n.0.1 c.args.at (looked_then e.orders.items f.orders.items c.loop.at c.args.at q.0 q.1 u.2))

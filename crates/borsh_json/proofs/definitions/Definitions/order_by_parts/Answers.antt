@@ -7,12 +7,12 @@ use Rattle.borsh_json.proofs.UnorderedLaws.{finds_none, no_definition}
 use Rattle.borsh_json.proofs.definitions.Definitions.order_by_parts.Goals as goal
 
 pub returns-then-is_zero_size-clause-order : goal.returns-then-is_zero_size-clause-order
-returns-then-is_zero_size-clause-order c x h = (single, inl ((c.is_zero_size.ensures h.0 x h.1).0 c.if-is_zero_size.true, refl), refl)
+returns-then-is_zero_size-clause-order c x h = (single, inl ((c.is_zero_size.ensures x h).0 c.if-is_zero_size.true, refl), refl)
 
 pub returns-clause-order : goal.returns-clause-order
 returns-clause-order c x h =
     let d = c.args.self.now in
-    finds_order (forms_of d) (names_of d) x c.ordered_as.result (not_true c.is_zero_size.result (c.is_zero_size.ensures h.0 x h.1) c.if-is_zero_size.false) (c.ordered_as.ensures.order x (h.0, h.1, sym (c.in_ok-get.ensures h.0 x h.1)))
+    finds_order (forms_of d) (names_of d) x c.ordered_as.result (not_true c.is_zero_size.result (c.is_zero_size.ensures x h) c.if-is_zero_size.false) (c.ordered_as.ensures.order x (h, sym (c.in_ok-get.ensures x h)))
 
 pub returns-then-is_zero_size-clause-none : goal.returns-then-is_zero_size-clause-none
 returns-then-is_zero_size-clause-none c x h e = cc
@@ -20,9 +20,9 @@ returns-then-is_zero_size-clause-none c x h e = cc
 pub returns-clause-none : goal.returns-clause-none
 returns-clause-none c x h e =
     let d = c.args.self.now in
-    finds_none (forms_of d) x (not_true c.is_zero_size.result (c.is_zero_size.ensures h.0 x h.1) c.if-is_zero_size.false) (c.ordered_as.ensures.none x (h.0, h.1, sym (c.in_ok-get.ensures h.0 x h.1)) e)
+    finds_none (forms_of d) x (not_true c.is_zero_size.result (c.is_zero_size.ensures x h) c.if-is_zero_size.false) (c.ordered_as.ensures.none x (h, sym (c.in_ok-get.ensures x h)) e)
 
 pub returns-in_err-get-clause-none : goal.returns-in_err-get-clause-none
 returns-in_err-get-clause-none c x h e =
     let d = c.args.self.now in
-    finds_none (forms_of d) x (not_true c.is_zero_size.result (c.is_zero_size.ensures h.0 x h.1) c.if-is_zero_size.false) (no_definition (forms_of d) x (sym (c.in_err-get.ensures h.0 x h.1)))
+    finds_none (forms_of d) x (not_true c.is_zero_size.result (c.is_zero_size.ensures x h) c.if-is_zero_size.false) (no_definition (forms_of d) x (sym (c.in_err-get.ensures x h)))

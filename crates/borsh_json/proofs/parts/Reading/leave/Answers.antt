@@ -1,4 +1,5 @@
 use Rattle.std.proofs.Common.{refl, ◌≡◌, ◌∷◌, ◌++◌, ◌∙◌, [], List, length, arith, true, false, sym, ap, subst}
+use Rattle.borsh_plan.specs.Plan.{map_of, names_of as plan_names}
 use Rattle.borsh_json.specs.declared.position.Place.{Place}
 use Rattle.borsh_json.specs.declared.sources.Source.{Source}
 use Rattle.borsh_json.specs.Forms.{forms_in}
@@ -13,9 +14,9 @@ no_sources (x ∷ xs) e = absurd (omega arith)
 pub returns-in-Some : goal.returns-in-Some
 returns-in-Some c root j b =
     let old = c.args.self.now in
-    let F = forms_in c.args.definitions.now.layout.now.map.now in
-    let ns = c.args.definitions.now.layout.now.names.items in
-    let orders = c.args.definitions.now.orders.items in
+    let F = forms_in (map_of c.args.json.now.plan.now) in
+    let ns = plan_names c.args.json.now.plan.now in
+    let orders = c.args.json.now.orders.items in
     let new = c.leave-is_part.new.self in
     let h = around_here F ns orders root j old.position.outer.items old.outer.items 0 [] [] root j b.1 in
     let t = h.7 in
@@ -26,9 +27,9 @@ returns-in-Some c root j b =
 pub returns-then-not-is_part : goal.returns-then-not-is_part
 returns-then-not-is_part c root j b =
     let old = c.args.self.now in
-    let F = forms_in c.args.definitions.now.layout.now.map.now in
-    let ns = c.args.definitions.now.layout.now.names.items in
-    let orders = c.args.definitions.now.orders.items in
+    let F = forms_in (map_of c.args.json.now.plan.now) in
+    let ns = plan_names c.args.json.now.plan.now in
+    let orders = c.args.json.now.orders.items in
     let t = c.if-not-is_part.true in
     let e : c.leave-is_part.result ≡ false = cc in
     reading_end F ns orders root j old.position.place (NoneLeft old.source) old.out.items c.in_default.ensures (bottom F ns orders root j old.position.outer.items old.outer.items 0 [] [] root j _ b.1 (c.leave-is_part.ensures.all e))
@@ -36,9 +37,9 @@ returns-then-not-is_part c root j b =
 pub returns-in-Some-pop : goal.returns-in-Some-pop
 returns-in-Some-pop c root j b =
     let old = c.args.self.now in
-    let F = forms_in c.args.definitions.now.layout.now.map.now in
-    let ns = c.args.definitions.now.layout.now.names.items in
-    let orders = c.args.definitions.now.orders.items in
+    let F = forms_in (map_of c.args.json.now.plan.now) in
+    let ns = plan_names c.args.json.now.plan.now in
+    let orders = c.args.json.now.orders.items in
     let new = c.leave-is_part.new.self in
     let around = c.in-Some-pop.around in
     let t = c.if-not-is_part.false in
@@ -51,9 +52,9 @@ returns-in-Some-pop c root j b =
 pub returns-in-None : goal.returns-in-None
 returns-in-None c root j b =
     let old = c.args.self.now in
-    let F = forms_in c.args.definitions.now.layout.now.map.now in
-    let ns = c.args.definitions.now.layout.now.names.items in
-    let orders = c.args.definitions.now.orders.items in
+    let F = forms_in (map_of c.args.json.now.plan.now) in
+    let ns = plan_names c.args.json.now.plan.now in
+    let orders = c.args.json.now.orders.items in
     let new = c.leave-is_part.new.self in
     let t = c.if-not-is_part.false in
     let e : c.leave-is_part.result ≡ true = cc in

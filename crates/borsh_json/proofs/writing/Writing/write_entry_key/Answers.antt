@@ -1,4 +1,5 @@
 use Rattle.std.proofs.Common.{◌∷◌, ◌++◌, replicate, Option, Some, refl, sym, ◌∙◌, ap, subst}
+use Rattle.borsh_plan.specs.Plan.{root_of}
 use Rattle.borsh_values.specs.declared.nodes.Node.{Node}
 use Rattle.borsh_values.specs.Walks.{FindsAt}
 use Rattle.borsh_json.specs.declared.error.JsonError.{JsonError}
@@ -12,17 +13,17 @@ use Rattle.borsh_json.proofs.FallLaws.{key_falls}
 use Rattle.borsh_json.proofs.writing.Writing.write_entry_key.Goals as goal
 
 pub returns-in_default-clause-key : goal.returns-in_default-clause-key
-returns-in_default-clause-key c k p part a e b =
-    let d = c.args.definitions.now in
+returns-in_default-clause-key c p part a e b =
+    let d = c.args.json.now in
     let w = c.args.self.now in
     let es = c.args.entries in
     let t = entry_of d w.walk.offset p w.position.place part b es a.state.inner e a.state.here in
     let rest = t.value ∷ (replicate t.count t.pair ++ names_of_all a.state.around) in
-    undecided d w.walk c.open.new.self es.key t.key t.key_named a.writer.layout c.name.result w.bytes.now a.state.done rest (c.name.ensures k.known t.key t.key_named) (subst (λ (o : Option Node). FindsAt es.key w.walk c.open.new.self o) c.in_default.is c.in_ok-node.ensures.finds) (entry_next d w w p part es a b.1 t)
+    undecided d w.walk c.open.new.self es.key t.key t.key_named a.writer.plan c.name.result w.bytes.now a.state.done rest (c.name.ensures t.key t.key_named) (subst (λ (o : Option Node). FindsAt es.key w.walk c.open.new.self o) c.in_default.is c.in_ok-node.ensures.finds) (entry_next d w w p part es a b.1 t)
 
 pub returns-then-not-is_next-clause-key : goal.returns-then-not-is_next-clause-key
-returns-then-not-is_next-clause-key c k p part a e b =
-    let d = c.args.definitions.now in
+returns-then-not-is_next-clause-key c p part a e b =
+    let d = c.args.json.now in
     let w = c.args.self.now in
     let F = forms_of d in
     let ns = names_of d in
@@ -33,17 +34,17 @@ returns-then-not-is_next-clause-key c k p part a e b =
     let f = c.in_ok-node.ensures.finds in
     let t = entry_of d w.walk.offset p q part b es a.state.inner e a.state.here in
     let new : Writing = record { walk = c.open.new.self; position = w.position; out = w.out; bytes = w.bytes; long_numbers = w.long_numbers } in
-    let h = node_is d w c.open.new.self es.key t.key a.writer.layout t.key_named o n c.in-Some.is f in
+    let h = node_is d w c.open.new.self es.key t.key a.writer.plan t.key_named o n c.in-Some.is f in
     let op = entry_opened d w new p part es a b.1 t o n c.in-Some.is f in
     let ks = entry_keys d w new p part es a b.1 t o n c.in-Some.is f in
     let v = (c.in-Ok.ensures F ns t.key t.keys h.parts op ks).1 in
-    subst (λ (e : JsonError). Stops F d.layout.now.root.now w.bytes.now e) (sym c.into.ensures) (stops_descends F d.layout.now.root.now w.bytes.now c.refused_element.result c.refused_element.ensures.same
+    subst (λ (e : JsonError). Stops F (root_of d.plan.now) w.bytes.now e) (sym c.into.ensures) (stops_descends F (root_of d.plan.now) w.bytes.now c.refused_element.result c.refused_element.ensures.same
     (key_falls d w p a es q.begun part t v.0 n.bytes.now c.open.new.self.left.now h.bytes v.3 c.is_next.result
     (λ last l. c.is_next.ensures F ns t.key (form_of n.definition.now) es.key_kind t.keys last v.0 ks (subst (λ (k : Option EntryKey). IsLast es.key_kind k last) (sym b.2) l) v.1) c.if-not-is_next.true))
 
 pub returns-else-not-is_next-clause-key : goal.returns-else-not-is_next-clause-key
-returns-else-not-is_next-clause-key c k p part a e b =
-    let d = c.args.definitions.now in
+returns-else-not-is_next-clause-key c p part a e b =
+    let d = c.args.json.now in
     let w = c.args.self.now in
     let q = w.position.place in
     let es = c.args.entries in
@@ -52,17 +53,17 @@ returns-else-not-is_next-clause-key c k p part a e b =
     let f = c.in_ok-node.ensures.finds in
     let t = entry_of d w.walk.offset p q part b es a.state.inner e a.state.here in
     let new : Writing = record { walk = c.open.new.self; position = record { alloc = w.position.alloc; root = w.position.root; outer = w.position.outer; place = record { parts = q.parts; begun = q.begun; ascent = q.ascent; last = Some c.in-Ok.key } }; out = c.write_key.new.out; bytes = w.bytes; long_numbers = w.long_numbers } in
-    let h = node_is d w c.open.new.self es.key t.key a.writer.layout t.key_named o n c.in-Some.is f in
+    let h = node_is d w c.open.new.self es.key t.key a.writer.plan t.key_named o n c.in-Some.is f in
     let op = entry_opened d w new p part es a b.1 t o n c.in-Some.is f in
     let ks = entry_keys d w new p part es a b.1 t o n c.in-Some.is f in
     let u = c.in-Ok.ensures (forms_of d) (names_of d) t.key t.keys h.parts op ks in
     let v = u.1 in
     let above = (c.is_next.ensures (forms_of d) (names_of d) t.key (form_of n.definition.now) es.key_kind t.keys t.before v.0 ks (subst (λ (l : Option EntryKey). IsLast es.key_kind l t.before) (sym b.2) t.is_last) v.1).0 c.if-not-is_next.false in
-    entry_awaits d w new p part es a b.1 t o n c.in-Some.is f c.in-Ok.key h.parts v.0 b e refl (ap (λ l. l.now) c.in_ok-node.ensures.layout ∙ a.writer.layout) c.in_ok-node.ensures.walk refl refl refl op.1 u.0 v.1 v.2 v.3 above
+    entry_awaits d w new p part es a b.1 t o n c.in-Some.is f c.in-Ok.key h.parts v.0 b e refl (ap (λ l. l.now) c.in_ok-node.ensures.plan ∙ a.writer.plan) c.in_ok-node.ensures.walk refl refl refl op.1 u.0 v.1 v.2 v.3 above
 
 pub returns-in-Err-clause-key : goal.returns-in-Err-clause-key
-returns-in-Err-clause-key c k p part a e b =
-    let d = c.args.definitions.now in
+returns-in-Err-clause-key c p part a e b =
+    let d = c.args.json.now in
     let w = c.args.self.now in
     let es = c.args.entries in
     let n = c.in-Some.node in
@@ -70,8 +71,8 @@ returns-in-Err-clause-key c k p part a e b =
     let f = c.in_ok-node.ensures.finds in
     let t = entry_of d w.walk.offset p w.position.place part b es a.state.inner e a.state.here in
     let new : Writing = record { walk = c.open.new.self; position = w.position; out = w.out; bytes = w.bytes; long_numbers = w.long_numbers } in
-    let h = node_is d w c.open.new.self es.key t.key a.writer.layout t.key_named o n c.in-Some.is f in
+    let h = node_is d w c.open.new.self es.key t.key a.writer.plan t.key_named o n c.in-Some.is f in
     let op = entry_opened d w new p part es a b.1 t o n c.in-Some.is f in
     let ks = entry_keys d w new p part es a b.1 t o n c.in-Some.is f in
     let v = c.in-Err.ensures (forms_of d) (names_of d) t.key t.keys h.parts op ks in
-    subst (λ (e : JsonError). Stops (forms_of d) d.layout.now.root.now w.bytes.now e) (sym c.into-in-Err.ensures) (entry_stops d w new p part es a b.1 t o n c.in-Some.is f c.in-Err.error c.refused_key.result c.refused_key.ensures v.1)
+    subst (λ (e : JsonError). Stops (forms_of d) (root_of d.plan.now) w.bytes.now e) (sym c.into-in-Err.ensures) (entry_stops d w new p part es a b.1 t o n c.in-Some.is f c.in-Err.error c.refused_key.result c.refused_key.ensures v.1)

@@ -1,26 +1,24 @@
-use Rattle.std.proofs.Common.{◌∷◌, ◌∙◌, [], sym, subst, ap}
+use Rattle.std.proofs.Common.{◌∷◌, ◌∙◌, [], sym, subst, ap, arith, length}
 use Rattle.std.specs.Borrow.{Bor}
 use Rattle.borsh_walks.specs.Container.{Member}
-use Rattle.borsh_walks.specs.Definitions.{definitions_in}
-use Rattle.borsh_values.specs.declared.layout.Layout.{Layout}
-use Rattle.borsh_values.specs.Free.{KnowsSizes}
-use Rattle.borsh_values.proofs.PreorderLaws.{fit_root, names_root, read_root}
+use Rattle.borsh_plan.specs.Plan.{definitions_of, root_of}
+use Rattle.borsh_plan.specs.declared.plan.Plan.{Plan}
 use Rattle.borsh_values.proofs.preorder.Preorder.new.Goals as goal
 
 pub returns-clause-inside : goal.returns-clause-inside
 returns-clause-inside c =
-    let w = c.new.result in
-    let l = w.layout.now in
-    let e = sym c.new.ensures.layout in
-    let laid = c.new.ensures.walk.laid in
-    let member = subst (λ (l : Bor Layout). Member (definitions_in l.now.map.now) l.now.root.now c.args.bytes.now) e c.requires.member in
+    let k = c.in_ok-cursor.cursor in
+    let e = c.in_ok-cursor.ensures in
     record {
-      walker = c.new.ensures.walk;
-      sizes = subst (λ (l : Bor Layout). KnowsSizes l.now) e c.requires.sizes;
-      places = fit_root l laid c.new-2.result.items c.new-2.ensures.items;
-      done = [];
-      read = read_root l laid c.new-2.result.items w.left.now (subst (λ b. Member (definitions_in l.map.now) l.root.now b) (sym c.new.ensures.left) member) c.new-2.ensures.items;
+      cursor = e.cursor;
+      member = subst (λ (l : Bor Plan). Member (definitions_of l.now) (root_of l.now) k.bytes.now) (sym e.plan) (subst (λ b. Member (definitions_of c.args.plan.now) (root_of c.args.plan.now) b.now) (sym e.bytes) c.requires.member);
     }
 
 pub returns-clause-names : goal.returns-clause-names
-returns-clause-names c = names_root c.new.result.layout.now c.new.ensures.walk.laid c.new-2.result.items c.new-2.ensures.items ∙ ap (λ (l : Bor Layout). l.now.root.now ∷ []) c.new.ensures.layout
+returns-clause-names c = c.in_ok-cursor.ensures.begins ∙ ap (λ (l : Bor Plan). (root_of l.now) ∷ []) c.in_ok-cursor.ensures.plan
+
+pub returns-clause-offset : goal.returns-clause-offset
+returns-clause-offset c =
+    let a = ap (λ b. length b.now) c.in_ok-cursor.ensures.bytes in
+    let b = ap (λ b. length b.now) c.in_ok-cursor.ensures.left in
+    omega (arith, a, b)

@@ -1,0 +1,6 @@
+pub mod Heights
+pub mod Soundness
+pub mod Keeping
+pub mod Parts
+pub mod Reading
+pub mod Included

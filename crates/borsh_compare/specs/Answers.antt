@@ -1,0 +1,23 @@
+-- What the answers of a comparison mean.
+use Rattle.std.specs.Prelude.{⊤, ℕ, List}
+use Rattle.borsh_walks.specs.Container.{Member}
+use Rattle.borsh_plan.specs.declared.plan.Plan.{Plan}
+use Rattle.borsh_plan.specs.Plan.{definitions_of, root_of}
+use Rattle.borsh_values.specs.Faults.{IsFault}
+use Rattle.borsh_values.specs.declared.faults.Fault.{Fault}
+use Rattle.borsh_compare.specs.Walks.{Includes}
+use Rattle.borsh_compare.specs.declared.compare.Answer.{Answer}
+use Rattle.borsh_compare.specs.declared.compare.Answer.TheVariants.{Same, Compatible, Incompatible, NotKnown}
+
+-- the bytes are a member of the old root and none of the new one, and the fault says where they stop being one
+pub record IsEvidence (old new : Plan) (bytes : List ℕ) (f : Fault) : Type 0 where
+  pub member : Member (definitions_of old) (root_of old) bytes
+  pub none : Member (definitions_of new) (root_of new) bytes → ⊥
+  pub fault : IsFault (definitions_of new) (root_of new) bytes f
+
+-- each answer is right
+abbrev pub IsAnswer : Plan → Plan → Answer → Type 0
+IsAnswer old new Same = Includes old new × Includes new old
+IsAnswer old new Compatible = Includes old new
+IsAnswer old new (Incompatible e) = IsEvidence old new e.bytes.items e.fault
+IsAnswer old new NotKnown = ⊤

@@ -1,0 +1,98 @@
+// Two schemas compared.
+ghost use Rattle.borsh_compare.specs.Answers.{IsAnswer, IsEvidence};
+ghost use Rattle.borsh_compare.specs.Walks.{Includes};
+ghost use Rattle.std.specs.Prelude.{IfOk, IfSome, true, ◌≡◌};
+
+use crate::changes::{Change, all_changes, push_changes};
+use crate::definitions::Both;
+use crate::evidence::{Evidence, find_evidence};
+use crate::walk::{Walked, walk_pairs};
+use borsh_plan::Plan;
+use std::alloc::{AllocError, Global};
+
+/// Whether values of the old schema are values of the new one.
+#[derive(Drop)]
+pub enum Answer<'a> {
+    /// Each is, and the other way round.
+    Same,
+    /// Each is.
+    Compatible,
+    /// These bytes are one of the old, and none of the new.
+    Incompatible(Evidence<'a>),
+    /// Neither was found.
+    NotKnown,
+}
+
+/// The answer, and what changed: of compatible schemas all, of others what the answer was found by.
+#[derive(Drop)]
+pub struct Comparison<'a> {
+    pub answer: Answer<'a>,
+    pub changes: Vec<Change<'a>>,
+}
+
+// The answer where all values of the old schema are values of the new one.
+fn included<'a>(
+    alloc: Global,
+    old: &Plan<'a>,
+    new: &Plan<'a>,
+    walked: &Walked,
+) -> Result<Comparison<'a>, AllocError>
+    requires { Includes old.now new.now }
+    ensures { IfOk result (λ c. IsAnswer old.now new.now c.answer) }
+{
+    let changes = all_changes(alloc, Both { old, new }, &walked.pairs)?;
+    let back = walk_pairs(alloc, new, old)?;
+    let answer = if back.is_included {
+        Answer::Same
+    } else {
+        Answer::Compatible
+    };
+    Ok(Comparison { answer, changes })
+}
+
+/// Whether the values of the old root are values of the new one, by the definitions alone: what a type refuses beyond its schema,
+/// and what values mean, is not compared.
+///
+/// The definitions may be any. Names that lead back to themselves are no obstacle. The only error is that an allocation failed.
+/// Left open: memory; `NotKnown` in place of another answer; the changes: tested.
+///
+/// ```
+/// let old = Plan::new(alloc, "A", &old_definitions)?;
+/// let new = Plan::new(alloc, "A", &new_definitions)?;
+/// match compare_plans(alloc, &old, &new)?.answer {
+///     Answer::Same | Answer::Compatible => println!(rt; "old data is still read")?,
+///     Answer::Incompatible(evidence) => println!(rt; "{}", evidence.fault)?,
+///     Answer::NotKnown => println!(rt; "not known")?,
+/// }
+/// ```
+pub fn compare_plans<'a>(
+    alloc: Global,
+    old: &Plan<'a>,
+    new: &Plan<'a>,
+) -> Result<Comparison<'a>, AllocError>
+    ensures { IfOk result (λ c. IsAnswer old.now new.now c.answer) }
+{
+    let walked = walk_pairs(alloc, old, new)?;
+    if walked.is_included {
+        return included(alloc, old, new, &walked);
+    }
+    let both = Both { old, new };
+    let mut changes: Vec<Change<'a>> = Vec::new(alloc);
+    match find_evidence(alloc, old, new, &walked)? {
+        Some((index, evidence)) => {
+            push_changes(alloc, both, &walked.pairs, index, true, &mut changes)?;
+            Ok(Comparison {
+                answer: Answer::Incompatible(evidence),
+                changes,
+            })
+        }
+        None => {
+            let index = walked.apart.as_slice().first().copied().unwrap_or(0);
+            push_changes(alloc, both, &walked.pairs, index, true, &mut changes)?;
+            Ok(Comparison {
+                answer: Answer::NotKnown,
+                changes,
+            })
+        }
+    }
+}

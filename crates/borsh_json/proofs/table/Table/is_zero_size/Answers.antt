@@ -1,0 +1,9 @@
+use Rattle.std.proofs.Common.{ℕ, List, Decides, subst}
+use Rattle.borsh_json.specs.declared.definitions.Definitions.{Definitions}
+use Rattle.borsh_json.specs.Forms.{HasNoBytes}
+use Rattle.borsh_json.specs.Found.{forms_of, names_of}
+use Rattle.borsh_json.specs.Places.{IsAt}
+use Rattle.borsh_json.proofs.table.Table.is_zero_size.Goals as goal
+
+pub returns : goal.returns
+returns c = subst (λ (d : Definitions). (x : List ℕ) → IsAt (names_of d) c.args.at x → Decides c.is_zero_size.result (HasNoBytes (forms_of d) x)) c.self.view_is c.is_zero_size.ensures

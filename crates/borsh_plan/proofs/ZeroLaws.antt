@@ -1,0 +1,58 @@
+-- Which names are of zero size.
+use Rattle.std.proofs.Common.{◌≡◌, ℕ, ◌<◌, ◌≤◌, List, [], ◌∷◌, ◌++◌, length, length-append, get_or, inl, inr, Some, None, sym, ◌∙◌, ap, subst, arith}
+use Rattle.std.specs.Prelude.{Bool, false, Option}
+use Rattle.std.proofs.lemmas.Bool.{cases_lt}
+use Rattle.std.proofs.Math.ListN.{get_or-append}
+use Rattle.std.proofs.Math.Seq.{get_or-append_seam}
+use Rattle.borsh_walks.specs.Container.{Shape, primitive, sequence, product, choice, IsIn, IsZeroSize, zeroed, zero_size_references}
+use Rattle.borsh_plan.specs.declared.named.Named.{Named}
+use Rattle.borsh_plan.specs.Names.{parts_in}
+use Rattle.borsh_plan.specs.Zeros.{IsFull, IsProduct, ZeroAt, AreZeros}
+
+module _ (C : List ℕ → Option Shape) where
+  pub unit_zero : {x : List ℕ} (d : Shape) → C x ≡ Some d → zero_size_references d ≡ Some [] → IsZeroSize C x
+  unit_zero d e z = zeroed d [] e z (λ p a. elim a [ ])
+
+  pub full : {x : List ℕ} (d : Shape) → C x ≡ Some d → zero_size_references d ≡ None → IsZeroSize C x → ⊥
+  full {x} d e n (zeroed f ps g z h) =
+      let s : Some d ≡ Some f = sym e ∙ g in
+      let q : d ≡ f = cc in
+      let t : None ≡ Some ps = sym n ∙ ap (λ k. zero_size_references k) q ∙ z in
+      cc
+
+  pub full_at : {x : List ℕ} (o : Option Shape) → C x ≡ o → IsFull o → IsZeroSize C x → ⊥
+  full_at None e n = absurd n
+  full_at (Some d) e n = full d e n
+
+  -- a struct or tuple with a part that has bytes
+  pub full_part : {x p : List ℕ} (d : Shape) → C x ≡ Some d → IsProduct d → IsIn p (parts_in (Some d)) → (IsZeroSize C p → ⊥) → IsZeroSize C x → ⊥
+  full_part (primitive n) e r a f h = absurd r
+  full_part (sequence w lo hi t) e r a f h = absurd r
+  full_part (choice w vs) e r a f h = absurd r
+  full_part {x} {p} (product qs) e r a f (zeroed k ps g z h) =
+      let s : Some (product qs) ≡ Some k = sym e ∙ g in
+      let q : product qs ≡ k = cc in
+      let t : Some qs ≡ Some ps = ap (λ k. zero_size_references k) q ∙ z in
+      let u : qs ≡ ps = cc in
+      f (h p (subst (λ l. IsIn p l) u a))
+
+-- ---- a list of answers, one for each place
+module _ (C : List ℕ → Option Shape) (ns : List Named) where
+  abbrev pub Answered : List Bool → Type 0
+  Answered zs = (i : ℕ) → i < length zs → ZeroAt C ns i (get_or zs i false)
+
+  pub answered_none : (zs : List Bool) → zs ≡ [] → Answered zs
+  answered_none zs e i h = let n = ap (λ l. length l) e in absurd (omega (arith, n, h))
+
+  pub answered_more : (zs : List Bool) (z : Bool) → Answered zs → ZeroAt C ns (length zs) z → Answered (zs ++ z ∷ [])
+  answered_more zs z f g i h = elim (cases_lt i (length zs)) [
+    | inl l ↦ subst (λ b. ZeroAt C ns i b) (sym (get_or-append zs (z ∷ []) false i l)) (f i l)
+    | inr l ↦
+        let n = length-append zs (z ∷ []) in
+        let e : i ≡ length zs = omega (arith, n, l, h) in
+        subst (λ k. ZeroAt C ns k (get_or (zs ++ z ∷ []) k false)) (sym e) (subst (λ b. ZeroAt C ns (length zs) b) (sym (get_or-append_seam zs z [] false)) g)
+  ]
+
+  -- the places are all those of the names
+  pub answered_all : (zs : List Bool) → length ns ≤ length zs → Answered zs → AreZeros C ns zs
+  answered_all zs n f i h = f i (omega (arith, n, h))

@@ -1,0 +1,5 @@
+pub mod Sets
+pub mod Names
+pub mod Sizes
+pub mod Zeros
+pub mod Plan

@@ -1,0 +1,12 @@
+pub mod Lists
+pub mod Steps
+pub mod Equality
+pub mod Added
+pub mod Appending
+pub mod Indexed
+pub mod Naming
+pub mod Collected
+pub mod Kept
+pub mod Results
+pub mod Names
+pub mod Defining

@@ -1,0 +1,6 @@
+use Rattle.borsh_walks.specs.Tables.{mark_of}
+use Rattle.borsh_source.proofs.Indexed.{Indexing}
+use Rattle.borsh_source.proofs.context.Context.new.Given as goal
+
+abbrev pub invariant-loop-at : goal.invariant-loop-at
+invariant-loop-at l = Indexing l.source.items.items l.at (mark_of l.index)

@@ -1,0 +1,185 @@
+-- The types of the format: their names and definitions, by the names of their arguments.
+use Rattle.std.specs.Prelude.{◌≡◌, ℕ, pos, List, [], ◌∷◌, ◌++◌, map, Option, Some, None, IfSome, option_map, codes, String, string_bytes}
+use Rattle.std.specs.Global.{Global}
+use Rattle.borsh_walks.specs.declared.definition.Definition.{Definition}
+use Rattle.borsh_definitions.specs.Described.{NamedDefinition, bytes, list, tuple, variants, named, unnamed, no_fields, named_definition}
+use Rattle.borsh_definitions.specs.Names.{tuple_name, array_name}
+use Rattle.borsh_definitions.specs.Types.{list_of, option_of, result_of, range_of, range_from, range_to}
+use Rattle.borsh_definitions.specs.Addresses.{octets_of}
+use Rattle.borsh_source.specs.declared.formats.Kind.{Kind}
+use Rattle.borsh_source.specs.declared.formats.Kind.TheVariants.{Bytes, Text, Octets, Phantom, Through, List as ListKind, Map, Option as OptionKind, Result as ResultKind, Range, RangeFrom, RangeTo, RangeFull, Ipv4Addr, Ipv6Addr, IpAddr, SocketAddrV4, SocketAddrV6, SocketAddr, Tuple, Array}
+
+-- a name with its definition
+abbrev pub Entry : Type 0
+Entry = List ℕ × NamedDefinition
+
+-- a type: its name, and the definitions that it has beside those of its arguments
+abbrev pub Formed : Type 0
+Formed = List ℕ × List Entry
+
+-- a type with its own definition alone
+abbrev pub alone : List ℕ → NamedDefinition → Option Formed
+alone n d = Some (n, (n, d) ∷ [])
+
+-- so many bytes in an array
+abbrev pub octets : ℕ → List Entry
+octets n = (array_name (codes "u8") n, list 0 n n (codes "u8")) ∷ (codes "u8", bytes 1) ∷ []
+
+abbrev pub ipv4 : List Entry
+ipv4 = (codes "Ipv4Addr", octets_of 4) ∷ octets 4
+
+abbrev pub ipv6 : List Entry
+ipv6 = (codes "Ipv6Addr", octets_of 16) ∷ octets 16
+
+-- an enum of two variants: tag, name and type of each
+abbrev pub two_variants : ℕ × List ℕ × List ℕ → ℕ × List ℕ × List ℕ → NamedDefinition
+two_variants a b = variants 1 ((pos a.0, a.1, a.2) ∷ (pos b.0, b.1, b.2) ∷ [])
+
+-- tag 0 or 1 by the kind of address, and what has the name of that kind
+abbrev pub either_of : List ℕ → List ℕ → NamedDefinition
+either_of v4 v6 = variants 1 ((pos 0, codes "V4", v4) ∷ (pos 1, codes "V6", v6) ∷ [])
+
+abbrev pub ip : List Entry
+ip = (codes "IpAddr", either_of (codes "IpAddr__V4") (codes "IpAddr__V6")) ∷ (codes "IpAddr__V4", unnamed (codes "Ipv4Addr" ∷ [])) ∷ (codes "IpAddr__V6", unnamed (codes "Ipv6Addr" ∷ [])) ∷ (ipv4 ++ ipv6)
+
+-- an address and a port
+abbrev pub with_port : List ℕ → NamedDefinition
+with_port address = named ((codes "ip", address) ∷ (codes "port", codes "u16") ∷ [])
+
+abbrev pub socket_v4 : List Entry
+socket_v4 = (codes "SocketAddrV4", with_port (codes "Ipv4Addr")) ∷ (codes "u16", bytes 2) ∷ ipv4
+
+abbrev pub socket_v6 : List Entry
+socket_v6 = (codes "SocketAddrV6", with_port (codes "Ipv6Addr")) ∷ (codes "u16", bytes 2) ∷ ipv6
+
+abbrev pub socket : List Entry
+socket = (codes "SocketAddr", either_of (codes "SocketAddr__V4") (codes "SocketAddr__V6")) ∷ (codes "SocketAddr__V4", unnamed (codes "SocketAddrV4" ∷ [])) ∷ (codes "SocketAddr__V6", unnamed (codes "SocketAddrV6" ∷ [])) ∷ (socket_v4 ++ socket_v6)
+
+-- the definition of a tuple, of which the empty one has no bytes
+abbrev pub tuple_of : List (List ℕ) → NamedDefinition
+tuple_of [] = bytes 0
+tuple_of (n ∷ ns) = tuple (n ∷ ns)
+
+abbrev pub form_tuple : List (List ℕ) → Option Formed
+form_tuple ns = alone (tuple_name ns) (tuple_of ns)
+
+-- a type without arguments
+abbrev pub form_alone : List ℕ → Kind → Option Formed
+form_alone stem (Bytes w) = alone stem (bytes w)
+form_alone stem Text = Some (codes "String", (codes "String", list_of (codes "u8")) ∷ (codes "u8", bytes 1) ∷ [])
+form_alone stem Octets = Some (codes "Vec<u8>", (codes "Vec<u8>", list_of (codes "u8")) ∷ (codes "u8", bytes 1) ∷ [])
+form_alone stem Phantom = alone (codes "()") (bytes 0)
+form_alone stem Through = None
+form_alone stem ListKind = None
+form_alone stem Map = None
+form_alone stem OptionKind = None
+form_alone stem ResultKind = None
+form_alone stem Range = None
+form_alone stem RangeFrom = None
+form_alone stem RangeTo = None
+form_alone stem RangeFull = alone (codes "RangeFull") no_fields
+form_alone stem Ipv4Addr = Some (stem, ipv4)
+form_alone stem Ipv6Addr = Some (stem, ipv6)
+form_alone stem IpAddr = Some (stem, ip)
+form_alone stem SocketAddrV4 = Some (stem, socket_v4)
+form_alone stem SocketAddrV6 = Some (stem, socket_v6)
+form_alone stem SocketAddr = Some (stem, socket)
+form_alone stem Tuple = form_tuple []
+form_alone stem (Array n) = None
+
+-- the name of a type with one argument
+abbrev pub name_of_one : List ℕ → List ℕ → List ℕ
+name_of_one stem n = stem ++ (codes "<" ++ (n ++ codes ">"))
+
+-- the definition of a type with one argument that its name is made of
+abbrev pub definition_of_one : Kind → List ℕ → Option NamedDefinition
+definition_of_one (Bytes w) n = None
+definition_of_one Text n = None
+definition_of_one Octets n = None
+definition_of_one Phantom n = None
+definition_of_one Through n = None
+definition_of_one ListKind n = Some (list_of n)
+definition_of_one Map n = None
+definition_of_one OptionKind n = Some (option_of n)
+definition_of_one ResultKind n = None
+definition_of_one Range n = Some (range_of n)
+definition_of_one RangeFrom n = Some (range_from n)
+definition_of_one RangeTo n = Some (range_to n)
+definition_of_one RangeFull n = None
+definition_of_one Ipv4Addr n = None
+definition_of_one Ipv6Addr n = None
+definition_of_one IpAddr n = None
+definition_of_one SocketAddrV4 n = None
+definition_of_one SocketAddrV6 n = None
+definition_of_one SocketAddr n = None
+definition_of_one Tuple n = None
+definition_of_one (Array k) n = None
+
+-- such a type
+abbrev pub form_applied : List ℕ → Kind → List ℕ → Option Formed
+form_applied stem kind n = option_map (λ d. (name_of_one stem n, (name_of_one stem n, d) ∷ [])) (definition_of_one kind n)
+
+-- the same with a definition before its own
+abbrev pub after : Entry → Option Formed → Option Formed
+after e f = option_map (λ f. (f.0, e ∷ f.1)) f
+
+-- a type with one argument
+abbrev pub form_one : List ℕ → Kind → List ℕ → Option Formed
+form_one stem (Bytes w) n = form_applied stem (Bytes w) n
+form_one stem Text n = form_applied stem Text n
+form_one stem Octets n = form_applied stem Octets n
+form_one stem Phantom n = form_applied stem Phantom n
+form_one stem Through n = Some (n, [])
+form_one stem ListKind n = form_applied stem ListKind n
+form_one stem Map n = form_applied stem Map n
+form_one stem OptionKind n = after (codes "()", bytes 0) (form_applied stem OptionKind n)
+form_one stem ResultKind n = form_applied stem ResultKind n
+form_one stem Range n = form_applied stem Range n
+form_one stem RangeFrom n = form_applied stem RangeFrom n
+form_one stem RangeTo n = form_applied stem RangeTo n
+form_one stem RangeFull n = form_applied stem RangeFull n
+form_one stem Ipv4Addr n = form_applied stem Ipv4Addr n
+form_one stem Ipv6Addr n = form_applied stem Ipv6Addr n
+form_one stem IpAddr n = form_applied stem IpAddr n
+form_one stem SocketAddrV4 n = form_applied stem SocketAddrV4 n
+form_one stem SocketAddrV6 n = form_applied stem SocketAddrV6 n
+form_one stem SocketAddr n = form_applied stem SocketAddr n
+form_one stem Tuple n = form_tuple (n ∷ [])
+form_one stem (Array k) n = alone (array_name n k) (list 0 k k n)
+
+-- the name of a type with two arguments
+abbrev pub name_of_two : List ℕ → List ℕ → List ℕ → List ℕ
+name_of_two stem n m = stem ++ (codes "<" ++ (n ++ (codes ", " ++ (m ++ codes ">"))))
+
+-- a type with two arguments or more
+abbrev pub form_two : List ℕ → Kind → List (List ℕ) → Option Formed
+form_two stem Map (n ∷ m ∷ []) = Some (name_of_two stem n m, (tuple_name (n ∷ m ∷ []), tuple (n ∷ m ∷ [])) ∷ (name_of_two stem n m, list_of (tuple_name (n ∷ m ∷ []))) ∷ [])
+form_two stem ResultKind (n ∷ m ∷ []) = alone (name_of_two stem n m) (result_of n m)
+form_two stem Tuple ns = form_tuple ns
+form_two stem _ _ = None
+
+-- a type of the format, if it takes that many arguments
+abbrev pub form : List ℕ → Kind → List (List ℕ) → Option Formed
+form stem kind [] = form_alone stem kind
+form stem kind (n ∷ []) = form_one stem kind n
+form stem kind (n ∷ m ∷ ns) = form_two stem kind (n ∷ m ∷ ns)
+
+-- ---- as the program has them
+
+-- a name with its definition
+abbrev pub entry : String Global × Definition → Entry
+entry e = (string_bytes e.0, named_definition e.1)
+
+-- definitions were put at the end of a list
+abbrev pub Appends : List (String Global × Definition) → List (String Global × Definition) → List Entry → Type 0
+Appends old new es = map entry new ≡ map entry old ++ es
+
+-- the name is that of the type, and its definitions were put at the end of a list
+pub record FormsAs (f : Option Formed) (n : List ℕ) (old new : List (String Global × Definition)) : Type 0 where
+  pub entries : List Entry
+  pub formed : f ≡ Some (n, entries)
+  pub appends : Appends old new entries
+
+-- the same of a call that returns the name, if it is a type
+abbrev pub Forms : Option Formed → List (String Global × Definition) → List (String Global × Definition) → Option (String Global) → Type 0
+Forms f old new o = IfSome o (λ n. FormsAs f (string_bytes n) old new)

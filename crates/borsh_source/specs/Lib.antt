@@ -1,0 +1,9 @@
+pub mod Lists
+pub mod Views
+pub mod Numbers
+pub mod Reading
+pub mod Formats
+pub mod Forms
+pub mod Meaning
+pub mod Container
+pub mod Heads

@@ -1,0 +1,531 @@
+// What the types of the format bring: their names and definitions, by the names of their arguments.
+ghost use Rattle.std.specs.Prelude.{◌≡◌, ◌∷◌, ◌++◌, [], IfOk, IfSome, OnOk, Some, string_bytes};
+ghost use Rattle.borsh_definitions.specs.Described.{list, named, named_definition, unnamed};
+ghost use Rattle.borsh_definitions.specs.Names.{following, tuple_name as name_of_tuple};
+ghost use Rattle.borsh_definitions.specs.Addresses.{octets_of};
+ghost use Rattle.borsh_definitions.specs.Types.{list_of};
+ghost use Rattle.borsh_source.specs.Forms.{Appends, Forms, definition_of_one, form, form_alone, form_applied, form_one, form_tuple, form_two, ip, ipv4, ipv6, name_of_one, name_of_two, octets, socket, socket_v4, socket_v6, tuple_of, two_variants};
+ghost use Rattle.borsh_source.specs.Views.{texts_of};
+
+use crate::formats::Kind;
+use borsh_walks::{Declaration, Definition, Fields, LengthRange};
+use std::alloc::{AllocError, Global};
+
+/// A name with its definition.
+pub type Entry = (Declaration, Definition);
+
+// A text.
+fn text(alloc: Global, text: &str) -> Result<String, AllocError>
+    ensures { IfOk result (λ t. string_bytes t ≡ text.now) }
+{
+    String::from_str(alloc, text)
+}
+
+// The name of a type with one argument.
+fn with_one(alloc: Global, stem: &str, argument: &str) -> Result<Declaration, AllocError>
+    ensures { IfOk result (λ t. string_bytes t ≡ name_of_one stem.now argument.now) }
+{
+    format!(in alloc; "{stem}<{argument}>")
+}
+
+// The name of a type with two arguments.
+fn with_two(alloc: Global, stem: &str, first: &str, second: &str) -> Result<Declaration, AllocError>
+    ensures { IfOk result (λ t. string_bytes t ≡ name_of_two stem.now first.now second.now) }
+{
+    format!(in alloc; "{stem}<{first}, {second}>")
+}
+
+// The definition of a list.
+fn list_definition(alloc: Global, element: &str) -> Result<Definition, AllocError>
+    ensures { IfOk result (λ d. named_definition d ≡ list_of element.now) }
+{
+    Ok(Definition::Sequence {
+        length_width: Definition::DEFAULT_LENGTH_WIDTH,
+        length_range: Definition::DEFAULT_LENGTH_RANGE,
+        elements: text(alloc, element)?,
+    })
+}
+
+// The definition of an array.
+fn array_definition(alloc: Global, element: &str, length: usize) -> Result<Definition, AllocError>
+    ensures { IfOk result (λ d. named_definition d ≡ list 0 length length element.now) }
+{
+    Ok(Definition::Sequence {
+        length_width: Definition::ARRAY_LENGTH_WIDTH,
+        length_range: LengthRange {
+            start: length as u64,
+            end: length as u64,
+        },
+        elements: text(alloc, element)?,
+    })
+}
+
+// The name of a tuple.
+fn tuple_name(alloc: Global, names: &[Declaration]) -> Result<Declaration, AllocError>
+    ensures { IfOk result (λ t. string_bytes t ≡ name_of_tuple (texts_of names.now)) }
+{
+    match names {
+        [] => text(alloc, "()"),
+        [only] => {
+            let only = only.as_str();
+            format!(in alloc; "({only},)")
+        }
+        [first, others @ ..] => {
+            let first = first.as_str();
+            let mut name = format!(in alloc; "({first}")?;
+            push_following(&mut name, others)?;
+            name.push_str(")")?;
+            Ok(name)
+        }
+    }
+}
+
+/// Puts names at the end of a text, each behind a comma.
+#[tactic(auto, using(std::proofs::Common::append_assoc))]
+pub fn push_following(text: &mut String, names: &[Declaration]) -> Result<(), AllocError>
+    ensures { OnOk result
+        (string_bytes text.new ≡ string_bytes text.old ++ following (texts_of names.now)) }
+{
+    match names {
+        [] => Ok(()),
+        [first, others @ ..] => {
+            text.push_str(", ")?;
+            text.push_str(first.as_str())?;
+            push_following(text, others)
+        }
+    }
+}
+
+/// The names again.
+pub fn copied(alloc: Global, names: &[Declaration]) -> Result<Vec<Declaration>, AllocError>
+    ensures { IfOk result (λ ds. texts_of ds.items ≡ texts_of names.now) }
+{
+    let mut copies = Vec::new(alloc);
+    for name in names {
+        copies.push(text(alloc, name.as_str())?)?;
+    }
+    Ok(copies)
+}
+
+// The definition of a tuple.
+fn tuple_definition(alloc: Global, names: &[Declaration]) -> Result<Definition, AllocError>
+    ensures { IfOk result (λ d. named_definition d ≡ tuple_of (texts_of names.now)) }
+{
+    match names {
+        [] => Ok(Definition::Primitive(0)),
+        _ => Ok(Definition::Tuple {
+            elements: copied(alloc, names)?,
+        }),
+    }
+}
+
+// A struct with one named field, or with two.
+fn one_named(alloc: Global, field: &str, of: &str) -> Result<Definition, AllocError>
+    ensures { IfOk result (λ d. named_definition d ≡ named ((field.now, of.now) ∷ [])) }
+{
+    let fields = Fields::NamedFields(vec![in alloc; (text(alloc, field)?, text(alloc, of)?)]?);
+    Ok(Definition::Struct { fields })
+}
+
+fn two_named(
+    alloc: Global,
+    first: &str,
+    of_first: &str,
+    second: &str,
+    of_second: &str,
+) -> Result<Definition, AllocError>
+    ensures { IfOk result (λ d. named_definition d
+        ≡ named ((first.now, of_first.now) ∷ (second.now, of_second.now) ∷ [])) }
+{
+    let fields = Fields::NamedFields(vec![in alloc;
+        (text(alloc, first)?, text(alloc, of_first)?),
+        (text(alloc, second)?, text(alloc, of_second)?),
+    ]?);
+    Ok(Definition::Struct { fields })
+}
+
+// A struct with one unnamed field.
+fn one_unnamed(alloc: Global, of: &str) -> Result<Definition, AllocError>
+    ensures { IfOk result (λ d. named_definition d ≡ unnamed (of.now ∷ [])) }
+{
+    let fields = Fields::UnnamedFields(vec![in alloc; text(alloc, of)?]?);
+    Ok(Definition::Struct { fields })
+}
+
+// An enum of two variants: tag, name and type of each.
+fn two_variants(
+    alloc: Global,
+    first: (u8, &str, &str),
+    second: (u8, &str, &str),
+) -> Result<Definition, AllocError>
+    ensures { IfOk result (λ d. named_definition d ≡ two_variants
+        (first.entry.0, first.entry.1.now, first.entry.2.now)
+        (second.entry.0, second.entry.1.now, second.entry.2.now)) }
+{
+    Ok(Definition::Enum {
+        tag_width: 1,
+        variants: vec![in alloc;
+            (
+                i64::from(first.0),
+                text(alloc, first.1)?,
+                text(alloc, first.2)?
+            ),
+            (
+                i64::from(second.0),
+                text(alloc, second.1)?,
+                text(alloc, second.2)?
+            ),
+        ]?,
+    })
+}
+
+// Puts a definition at the end of the list, under its name.
+fn push(
+    alloc: Global,
+    entries: &mut Vec<Entry>,
+    name: &str,
+    definition: Definition,
+) -> Result<(), AllocError>
+    ensures { OnOk result (Appends entries.old.items entries.new.items
+        ((name.now, named_definition definition) ∷ [])) }
+{
+    let entry = (text(alloc, name)?, definition);
+    entries.push(entry)?;
+    Ok(())
+}
+
+// Those of an array of so many bytes.
+fn push_octets(alloc: Global, entries: &mut Vec<Entry>, length: usize) -> Result<(), AllocError>
+    ensures { OnOk result (Appends entries.old.items entries.new.items (octets length)) }
+{
+    let name = format!(in alloc; "[u8; {length}]")?;
+    push(
+        alloc,
+        entries,
+        name.as_str(),
+        array_definition(alloc, "u8", length)?,
+    )?;
+    push(alloc, entries, "u8", Definition::Primitive(1))
+}
+
+// The definition of an address of so many bytes.
+fn octets_definition(alloc: Global, length: usize) -> Result<Definition, AllocError>
+    ensures { IfOk result (λ d. named_definition d ≡ octets_of length) }
+{
+    let name = format!(in alloc; "[u8; {length}]")?;
+    one_named(alloc, "octets", name.as_str())
+}
+
+// Those of the v4 address.
+fn push_ipv4(alloc: Global, entries: &mut Vec<Entry>) -> Result<(), AllocError>
+    ensures { OnOk result (Appends entries.old.items entries.new.items ipv4) }
+{
+    push(alloc, entries, "Ipv4Addr", octets_definition(alloc, 4)?)?;
+    push_octets(alloc, entries, 4)?;
+    Ok(())
+}
+
+// Those of the v6 address.
+fn push_ipv6(alloc: Global, entries: &mut Vec<Entry>) -> Result<(), AllocError>
+    ensures { OnOk result (Appends entries.old.items entries.new.items ipv6) }
+{
+    push(alloc, entries, "Ipv6Addr", octets_definition(alloc, 16)?)?;
+    push_octets(alloc, entries, 16)?;
+    Ok(())
+}
+
+// Those of the v4 address with a port.
+fn push_socket_v4(alloc: Global, entries: &mut Vec<Entry>) -> Result<(), AllocError>
+    ensures { OnOk result (Appends entries.old.items entries.new.items socket_v4) }
+{
+    push(
+        alloc,
+        entries,
+        "SocketAddrV4",
+        two_named(alloc, "ip", "Ipv4Addr", "port", "u16")?,
+    )?;
+    push(alloc, entries, "u16", Definition::Primitive(2))?;
+    push_ipv4(alloc, entries)?;
+    Ok(())
+}
+
+// Those of the v6 address with a port.
+fn push_socket_v6(alloc: Global, entries: &mut Vec<Entry>) -> Result<(), AllocError>
+    ensures { OnOk result (Appends entries.old.items entries.new.items socket_v6) }
+{
+    push(
+        alloc,
+        entries,
+        "SocketAddrV6",
+        two_named(alloc, "ip", "Ipv6Addr", "port", "u16")?,
+    )?;
+    push(alloc, entries, "u16", Definition::Primitive(2))?;
+    push_ipv6(alloc, entries)?;
+    Ok(())
+}
+
+// Those of either address.
+fn push_ip(alloc: Global, entries: &mut Vec<Entry>) -> Result<(), AllocError>
+    ensures { OnOk result (Appends entries.old.items entries.new.items ip) }
+{
+    let either = two_variants(alloc, (0, "V4", "IpAddr__V4"), (1, "V6", "IpAddr__V6"))?;
+    push(alloc, entries, "IpAddr", either)?;
+    push(
+        alloc,
+        entries,
+        "IpAddr__V4",
+        one_unnamed(alloc, "Ipv4Addr")?,
+    )?;
+    push(
+        alloc,
+        entries,
+        "IpAddr__V6",
+        one_unnamed(alloc, "Ipv6Addr")?,
+    )?;
+    push_ipv4(alloc, entries)?;
+    push_ipv6(alloc, entries)?;
+    Ok(())
+}
+
+// Those of either address with a port.
+fn push_socket(alloc: Global, entries: &mut Vec<Entry>) -> Result<(), AllocError>
+    ensures { OnOk result (Appends entries.old.items entries.new.items socket) }
+{
+    let either = two_variants(
+        alloc,
+        (0, "V4", "SocketAddr__V4"),
+        (1, "V6", "SocketAddr__V6"),
+    )?;
+    push(alloc, entries, "SocketAddr", either)?;
+    push(
+        alloc,
+        entries,
+        "SocketAddr__V4",
+        one_unnamed(alloc, "SocketAddrV4")?,
+    )?;
+    push(
+        alloc,
+        entries,
+        "SocketAddr__V6",
+        one_unnamed(alloc, "SocketAddrV6")?,
+    )?;
+    push_socket_v4(alloc, entries)?;
+    push_socket_v6(alloc, entries)?;
+    Ok(())
+}
+
+// A type without arguments.
+fn form_alone(
+    alloc: Global,
+    stem: &str,
+    kind: Kind,
+    entries: &mut Vec<Entry>,
+) -> Result<Option<Declaration>, AllocError>
+    ensures { IfOk result
+        (Forms (form_alone stem.now kind) entries.old.items entries.new.items) }
+{
+    match kind {
+        Kind::Bytes(width) => {
+            push(alloc, entries, stem, Definition::Primitive(width))?;
+            Ok(Some(text(alloc, stem)?))
+        }
+        Kind::Phantom => {
+            push(alloc, entries, "()", Definition::Primitive(0))?;
+            Ok(Some(text(alloc, "()")?))
+        }
+        Kind::Text => {
+            push(alloc, entries, "String", list_definition(alloc, "u8")?)?;
+            push(alloc, entries, "u8", Definition::Primitive(1))?;
+            Ok(Some(text(alloc, "String")?))
+        }
+        Kind::Octets => {
+            push(alloc, entries, "Vec<u8>", list_definition(alloc, "u8")?)?;
+            push(alloc, entries, "u8", Definition::Primitive(1))?;
+            Ok(Some(text(alloc, "Vec<u8>")?))
+        }
+        Kind::RangeFull => {
+            let fields = Fields::Empty;
+            push(alloc, entries, "RangeFull", Definition::Struct { fields })?;
+            Ok(Some(text(alloc, "RangeFull")?))
+        }
+        Kind::Ipv4Addr => {
+            push_ipv4(alloc, entries)?;
+            Ok(Some(text(alloc, stem)?))
+        }
+        Kind::Ipv6Addr => {
+            push_ipv6(alloc, entries)?;
+            Ok(Some(text(alloc, stem)?))
+        }
+        Kind::IpAddr => {
+            push_ip(alloc, entries)?;
+            Ok(Some(text(alloc, stem)?))
+        }
+        Kind::SocketAddrV4 => {
+            push_socket_v4(alloc, entries)?;
+            Ok(Some(text(alloc, stem)?))
+        }
+        Kind::SocketAddrV6 => {
+            push_socket_v6(alloc, entries)?;
+            Ok(Some(text(alloc, stem)?))
+        }
+        Kind::SocketAddr => {
+            push_socket(alloc, entries)?;
+            Ok(Some(text(alloc, stem)?))
+        }
+        _ => Ok(None),
+    }
+}
+
+// The definition of a type with one argument under its name.
+fn definition_with_one(
+    alloc: Global,
+    kind: Kind,
+    argument: &str,
+) -> Result<Option<Definition>, AllocError>
+    ensures { IfOk result (λ o. IfSome o (λ d. definition_of_one kind argument.now ≡ Some (named_definition d))) }
+{
+    match kind {
+        Kind::List => Ok(Some(list_definition(alloc, argument)?)),
+        Kind::Option => {
+            let either = two_variants(alloc, (0, "None", "()"), (1, "Some", argument))?;
+            Ok(Some(either))
+        }
+        Kind::Range => Ok(Some(two_named(alloc, "start", argument, "end", argument)?)),
+        Kind::RangeFrom => Ok(Some(one_named(alloc, "start", argument)?)),
+        Kind::RangeTo => Ok(Some(one_named(alloc, "end", argument)?)),
+        _ => Ok(None),
+    }
+}
+
+// A type with one argument.
+fn form_one(
+    alloc: Global,
+    stem: &str,
+    kind: Kind,
+    argument: &str,
+    entries: &mut Vec<Entry>,
+) -> Result<Option<Declaration>, AllocError>
+    ensures { IfOk result
+        (Forms (form_one stem.now kind argument.now) entries.old.items entries.new.items) }
+{
+    match kind {
+        Kind::Through => Ok(Some(text(alloc, argument)?)),
+        Kind::Array(length) => {
+            let name = format!(in alloc; "[{argument}; {length}]")?;
+            push(
+                alloc,
+                entries,
+                name.as_str(),
+                array_definition(alloc, argument, length)?,
+            )?;
+            Ok(Some(name))
+        }
+        Kind::Option => {
+            push(alloc, entries, "()", Definition::Primitive(0))?;
+            form_applied(alloc, stem, kind, argument, entries)
+        }
+        _ => form_applied(alloc, stem, kind, argument, entries),
+    }
+}
+
+// A type with one argument that its name is made of.
+fn form_applied(
+    alloc: Global,
+    stem: &str,
+    kind: Kind,
+    argument: &str,
+    entries: &mut Vec<Entry>,
+) -> Result<Option<Declaration>, AllocError>
+    ensures { IfOk result
+        (Forms (form_applied stem.now kind argument.now) entries.old.items entries.new.items) }
+{
+    let Some(definition) = definition_with_one(alloc, kind, argument)? else {
+        return Ok(None);
+    };
+    let name = with_one(alloc, stem, argument)?;
+    push(alloc, entries, name.as_str(), definition)?;
+    Ok(Some(name))
+}
+
+// A map, or a result.
+fn form_two(
+    alloc: Global,
+    stem: &str,
+    kind: Kind,
+    names: &[Declaration],
+    entries: &mut Vec<Entry>,
+) -> Result<Option<Declaration>, AllocError>
+    ensures { IfOk result
+        (Forms (form_two stem.now kind (texts_of names.now)) entries.old.items entries.new.items) }
+{
+    let [first, second] = names else {
+        return Ok(None);
+    };
+    let name = with_two(alloc, stem, first.as_str(), second.as_str())?;
+    match kind {
+        Kind::Map => {
+            let entry = tuple_name(alloc, names)?;
+            push(
+                alloc,
+                entries,
+                entry.as_str(),
+                tuple_definition(alloc, names)?,
+            )?;
+            push(
+                alloc,
+                entries,
+                name.as_str(),
+                list_definition(alloc, entry.as_str())?,
+            )?;
+            Ok(Some(name))
+        }
+        Kind::Result => {
+            let either = two_variants(
+                alloc,
+                (1, "Ok", first.as_str()),
+                (0, "Err", second.as_str()),
+            )?;
+            push(alloc, entries, name.as_str(), either)?;
+            Ok(Some(name))
+        }
+        _ => Ok(None),
+    }
+}
+
+// A tuple.
+fn form_tuple(
+    alloc: Global,
+    names: &[Declaration],
+    entries: &mut Vec<Entry>,
+) -> Result<Option<Declaration>, AllocError>
+    ensures { IfOk result (Forms (form_tuple (texts_of names.now)) entries.old.items entries.new.items) }
+{
+    let name = tuple_name(alloc, names)?;
+    push(
+        alloc,
+        entries,
+        name.as_str(),
+        tuple_definition(alloc, names)?,
+    )?;
+    Ok(Some(name))
+}
+
+/// The name of a type of the format, by the names of its arguments, and none if it takes another number of them. The definitions
+/// that it has beside those of its arguments are put at the end of the list.
+pub fn form(
+    alloc: Global,
+    stem: &str,
+    kind: Kind,
+    names: &[Declaration],
+    entries: &mut Vec<Entry>,
+) -> Result<Option<Declaration>, AllocError>
+    ensures { IfOk result
+        (Forms (form stem.now kind (texts_of names.now)) entries.old.items entries.new.items) }
+{
+    match (kind, names) {
+        (Kind::Tuple, _) => form_tuple(alloc, names, entries),
+        (_, []) => form_alone(alloc, stem, kind, entries),
+        (_, [only]) => form_one(alloc, stem, kind, only.as_str(), entries),
+        _ => form_two(alloc, stem, kind, names, entries),
+    }
+}

@@ -1,0 +1,130 @@
+// A type by its Rust text, in place of a container.
+ghost use Rattle.borsh_walks.specs.Container.{IsValid};
+ghost use Rattle.borsh_walks.specs.Definitions.{definitions_in as shapes_in};
+ghost use Rattle.std.specs.Prelude.{◌≡◌, IfOk, string_bytes};
+
+use super::failure::Failure;
+use super::values::Schema;
+use borsh_source::{Cause, CompileError, Compiled, Source, compile, nearest_name};
+use borsh_texts::{TextError, parse_items, parse_type};
+use std::alloc::{AllocError, Global};
+use std::fmt::Display;
+use std::str;
+
+/// A type by its Rust text, and the file whose items it may name.
+#[derive(Clone, Copy, Debug)]
+pub struct WrittenType<'a> {
+    pub items: Option<&'a str>,
+    pub text: &'a str,
+}
+
+impl<'a> WrittenType<'a> {
+    /// Whether its items are to come from standard input.
+    pub fn is_input(&self) -> bool {
+        self.items == Some("-")
+    }
+}
+
+/// The container of a type; the bytes are those of the file of items, and none if there is no file. `NotType` has the file or
+/// the type's text, the line and the column.
+///
+/// Determined: the container is valid. Left open: which it is, and which texts have none: tested.
+///
+/// ```
+/// let written = WrittenType { items: None, text: "Vec<u8>" };
+/// assert_eq!(rt; schema_of_type(alloc, written, &[])?.root.as_str(), "Vec<u8>");
+/// ```
+pub fn schema_of_type<'a>(
+    alloc: Global,
+    written: WrittenType<'a>,
+    items: &[u8],
+) -> Result<Schema, Failure<'a>>
+    ensures valid { IfOk result (λ s. IsValid (shapes_in s.definitions) (string_bytes s.root)) }
+{
+    let file = written.items.unwrap_or(written.text);
+    let mut source = source_in(alloc, file, items)?;
+    let root = match parse_type(alloc, &mut source, written.text) {
+        Ok(root) => root,
+        Err(error) => return Err(no_tree(alloc, written.text, &error)),
+    };
+    match compile(alloc, &source, root) {
+        Ok(compiled) => Ok(schema_made(compiled)),
+        Err(error) => Err(no_container(alloc, &source, file, written.text, &error)),
+    }
+}
+
+fn schema_made(compiled: Compiled) -> Schema
+    ensures { (result.root ≡ compiled.declaration) × (result.definitions ≡ compiled.definitions) }
+{
+    Schema {
+        root: compiled.declaration,
+        definitions: compiled.definitions,
+    }
+}
+
+/// The items of a file.
+fn source_in<'a>(alloc: Global, file: &'a str, items: &[u8]) -> Result<Source, Failure<'a>> {
+    let Ok(text) = str::from_utf8(items) else {
+        return Err(Failure::NotText(file));
+    };
+    match parse_items(alloc, text) {
+        Ok(source) => Ok(source),
+        Err(error) => Err(no_tree(alloc, file, &error)),
+    }
+}
+
+fn no_tree<'a>(alloc: Global, path: &'a str, error: &TextError<'_>) -> Failure<'a> {
+    match error {
+        TextError::OutOfMemory => Failure::OutOfMemory,
+        _ => no_type(alloc, path, error),
+    }
+}
+
+/// The failure of a type that has no container; it is in the type's own text where its place has no line.
+fn no_container<'a>(
+    alloc: Global,
+    source: &Source,
+    file: &'a str,
+    text: &'a str,
+    error: &CompileError,
+) -> Failure<'a> {
+    let CompileError::Refused { place, cause, name } = error else {
+        return Failure::OutOfMemory;
+    };
+    let path = if place.line == 0 && place.column > 0 {
+        text
+    } else {
+        file
+    };
+    match said_of(alloc, source, error, *cause, name.as_str()) {
+        Ok(why) => Failure::NotType(path, why),
+        Err(_) => Failure::OutOfMemory,
+    }
+}
+
+/// The error in words; of a name that isn't known, with the nearest one that is.
+fn said_of(
+    alloc: Global,
+    source: &Source,
+    error: &CompileError,
+    cause: Cause,
+    name: &str,
+) -> Result<String, AllocError> {
+    if cause == Cause::UnknownType
+        && let Some(near) = nearest_name(alloc, source, name)?
+    {
+        return format!(in alloc; "{error}; `{near}` is");
+    }
+    said(alloc, error)
+}
+
+fn no_type<'a, D: Display>(alloc: Global, path: &'a str, error: &D) -> Failure<'a> {
+    match said(alloc, error) {
+        Ok(why) => Failure::NotType(path, why),
+        Err(_) => Failure::OutOfMemory,
+    }
+}
+
+fn said<D: Display>(alloc: Global, error: &D) -> Result<String, AllocError> {
+    format!(in alloc; "{error}")
+}

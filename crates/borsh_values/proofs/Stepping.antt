@@ -1,0 +1,210 @@
+-- Each step of a cursor.
+use Rattle.std.proofs.Common.{◌≡◌, ℕ, suc, ◌+◌, ◌-◌, ◌<◌, ◌≤◌, List, [], ◌∷◌, ◌++◌, length, take, drop, reverse, replicate, set, get_or, Some, None, refl, sym, ◌∙◌, ap, subst, take-append-drop, append-nil, append_assoc}
+use Rattle.std.specs.Prelude.{Option, Vec, slice_get}
+use Rattle.std.specs.Borrow.{Bor}
+use Rattle.std.specs.Global.{Global}
+use Rattle.std.specs.BTreeMap.{btree_map_len, get_by_text}
+use Rattle.borsh_walks.specs.declared.definition.Definition.{Definition}
+use Rattle.borsh_walks.specs.Container.{IsZeroSize, Member, Members}
+use Rattle.borsh_walks.specs.Definitions.{shape_of}
+use Rattle.borsh_walks.proofs.Laws.{zero_member}
+use Rattle.borsh_values.specs.declared.cursor.Cursor.{Cursor}
+use Rattle.borsh_values.specs.declared.cursor.Event.{Event}
+use Rattle.borsh_values.specs.declared.cursor.Event.TheVariants.{Open as AtOpen, Pass as AtPass, Close as AtClose, End as AtEnd, Fault as AtFault, Undecided as AtUndecided}
+use Rattle.borsh_values.specs.declared.faults.Reason.{Reason}
+use Rattle.borsh_values.specs.declared.faults.Reason.TheVariants.{Recursive as IsRecursive}
+use Rattle.borsh_values.specs.declared.frames.Frame.{Frame}
+use Rattle.borsh_values.specs.declared.frames.Rest.{Rest}
+use Rattle.borsh_values.specs.declared.frames.Step.{Step}
+use Rattle.borsh_values.specs.declared.frames.Mark.{Mark}
+use Rattle.borsh_values.specs.declared.frames.Mark.TheVariants.{Empty, Open}
+use Rattle.borsh_values.specs.declared.frames.Known.TheVariants.{New}
+use Rattle.borsh_values.specs.declared.free.Passed.{Passed}
+use Rattle.borsh_values.specs.Cursor.{Going, Happens, IsBegun, IsCursor, IsOpenable, IsStopped, Moves, OpensFull, PassesCopies, Why, before, name_in, pending_names}
+use Rattle.borsh_values.specs.Free.{IsFreeFront}
+use Rattle.borsh_plan.specs.Plan.{definitions_of, map_of, names_of, root_of}
+use Rattle.borsh_plan.proofs.Laws.{looked_up as named}
+use Rattle.borsh_plan.proofs.Places.{name_there}
+use Rattle.borsh_plan.specs.Names.{named_definition}
+use Rattle.borsh_values.specs.Nodes.{Opens}
+use Rattle.borsh_values.specs.Steps.{GoesOn, KnownAs, NoneBegins, OnlyEmpty, past_copies, pending, remaining}
+use Rattle.borsh_values.proofs.Answers.{before_whole, suffix_on}
+use Rattle.borsh_values.proofs.Going.{going_skip, known_empty, less_skip, going_reached, going_next, going_denied, room, going_new, going_on, going_past, going_pass, going_up, going_up_empty, going_back, going_leads, less_new, less_on, less_past, less_pass, next_names}
+use Rattle.borsh_values.proofs.Measure.{left}
+use Rattle.borsh_values.proofs.Places.{passes}
+use Rattle.borsh_values.proofs.Required.{members_head}
+use Rattle.borsh_values.proofs.Walk.{with_rest}
+
+module _ (c : Cursor) (i : IsCursor c) where
+  -- names are passed with their bytes
+  pub cursor_pass : (p : Passed) → IsFreeFront (definitions_of c.plan.now) (names_of c.plan.now) c.frame.rest c.left.now p → (a : Bor (List ℕ)) → a.now ≡ drop p.taken c.left.now → IsCursor (record c { frame = with_rest c.frame p.rest; left = a; idle = 0 }) × Moves c (record c { frame = with_rest c.frame p.rest; left = a; idle = 0 })
+  cursor_pass p g a ea =
+      let l = c.plan.now in
+      let ends = suffix_on p.taken c.bytes.now c.left.now a.now i.within i.suffix ea g.first.0 in (
+        record {
+          going = subst (λ q. Going l q c.marks.items (reverse c.stack.items) (with_rest c.frame p.rest) a.now 0) ends.2 (subst (λ b. Going l (before c.bytes.now c.left.now ++ take p.taken c.left.now) c.marks.items (reverse c.stack.items) (with_rest c.frame p.rest) b 0) (sym ea) (going_pass l i.going p g));
+          within = ends.0;
+          suffix = ends.1;
+          tables = i.tables;
+        },
+        subst (λ b. left (map_of l) (names_of l) (length b) 0 (with_rest c.frame p.rest ∷ reverse c.stack.items) < left (map_of l) (names_of l) (length c.left.now) c.idle (c.frame ∷ reverse c.stack.items)) (sym ea) (less_pass l i.going p g),
+      )
+
+  -- the bytes that are left are members of the names that are left
+  pub members_left : Member (definitions_of c.plan.now) (root_of c.plan.now) c.bytes.now → Members (definitions_of c.plan.now) (pending_names c) c.left.now
+  members_left m =
+      let f = i.going.state.begun.forth c.bytes.now [] c.left.now m (append-nil c.bytes.now ∙ sym (before_whole c.bytes.now c.left.now i.suffix)) in
+      subst (λ b. Members (definitions_of c.plan.now) (pending_names c) b) (sym (append-nil f.0) ∙ sym f.2) f.1
+
+module _ (c : Cursor) (i : IsCursor c) (s : Step) (g : GoesOn (names_of c.plan.now) c.frame.rest s) where
+  -- copies of a name are passed that has the empty member alone
+  pub cursor_skip : (r : Rest) → r ≡ past_copies c.frame.rest s → OnlyEmpty (definitions_of c.plan.now) (name_in c s.at) → IsCursor (record c { frame = with_rest c.frame r })
+  cursor_skip r e h = record {
+    going = subst (λ t. Going c.plan.now (before c.bytes.now c.left.now) c.marks.items (reverse c.stack.items) (with_rest c.frame t) c.left.now c.idle) (sym e) (going_skip c.plan.now i.going s g h);
+    within = i.within;
+    suffix = i.suffix;
+    tables = i.tables;
+  }
+
+  pub skips : (r : Rest) → r ≡ past_copies c.frame.rest s → PassesCopies c (record c { frame = with_rest c.frame r }) (name_in c s.at)
+  skips r e =
+      let ns = (names_of c.plan.now) in
+      let p = passes ns c.frame.rest s g in
+      let copies : List (List ℕ) = replicate (suc p.0) (name_in c s.at) in
+      let names : pending_names c ≡ copies ++ (remaining ns (past_copies c.frame.rest s) ++ pending ns (reverse c.stack.items)) = ap (λ l. l ++ pending ns (reverse c.stack.items)) p.1 ∙ append_assoc copies (remaining ns (past_copies c.frame.rest s)) (pending ns (reverse c.stack.items)) in
+      record {
+        left = refl;
+        others = p.0;
+        names = names ∙ ap (λ t. copies ++ (remaining ns t ++ pending ns (reverse c.stack.items))) (sym e);
+        moves = subst (λ t. Moves c (record c { frame = with_rest c.frame t })) (sym e) (less_skip c.plan.now i.going s g);
+      }
+
+  pub marked_empty : get_or c.marks.items s.at None ≡ Some Empty → OnlyEmpty (definitions_of c.plan.now) (name_in c s.at)
+  marked_empty k = known_empty c.plan.now i.going s g k
+
+  -- in a value, a name of zero size that comes next has the empty member
+  pub zero_next : Member (definitions_of c.plan.now) (root_of c.plan.now) c.bytes.now → IsZeroSize (definitions_of c.plan.now) (name_in c s.at) → OnlyEmpty (definitions_of c.plan.now) (name_in c s.at)
+  zero_next m z =
+      let h = members_head (definitions_of c.plan.now) (subst (λ ps. Members (definitions_of c.plan.now) ps c.left.now) (next_names c.plan.now i.going s g) (members_left c i m)) in
+      (subst (λ b. Member (definitions_of c.plan.now) (name_in c s.at) b) (zero_member (definitions_of c.plan.now) h.2 z) h.2, z)
+
+  -- the next name has no value there
+  pub cursor_stopped : (r : Reason) → Why (definitions_of c.plan.now) r (name_in c s.at) c.left.now → NoneBegins (definitions_of c.plan.now) r (name_in c s.at) c.left.now → IsStopped (definitions_of c.plan.now) (root_of c.plan.now) (before c.bytes.now c.left.now) c.left.now (name_in c s.at) r
+  cursor_stopped r why deny = record {
+    others = remaining (names_of c.plan.now) s.others ++ pending (names_of c.plan.now) (reverse c.stack.items);
+    reached = going_reached c.plan.now i.going s g;
+    next = going_next c.plan.now i.going s g;
+    why = why;
+    deny = deny;
+    no = going_denied c.plan.now i.going s g r deny;
+  }
+
+  pub stopped_again : get_or c.marks.items s.at None ≡ Some (Open (length c.left.now)) → IsStopped (definitions_of c.plan.now) (root_of c.plan.now) (before c.bytes.now c.left.now) c.left.now (name_in c s.at) IsRecursive
+  stopped_again k = cursor_stopped IsRecursive (going_leads c.plan.now i.going s g k) (going_back c.plan.now i.going s g k)
+
+  -- the definition that the name has in the map
+  pub looked_up : (d : Definition) → Some d ≡ named_definition (slice_get (names_of c.plan.now) s.at) → get_by_text (map_of c.plan.now) (name_in c s.at) ≡ Some d
+  looked_up d e = named c.plan.now (name_in c s.at) s.at (name_there (names_of c.plan.now) s.at g.within) ∙ sym e
+
+  -- the next name is opened
+  module _ (d : Definition) (n : ℕ) (r : Rest) (o : IsOpenable c s.at d n r) where
+    begun : (k : Cursor) (own : List ℕ) → own ≡ take n c.left.now → k.left.now ≡ drop n c.left.now → pending (names_of c.plan.now) (k.frame ∷ reverse k.stack.items) ≡ remaining (names_of c.plan.now) r ++ (remaining (names_of c.plan.now) s.others ++ pending (names_of c.plan.now) (reverse c.stack.items)) → IsBegun c k s.at d own
+    begun k own e l b = record {
+      within = g.within;
+      bytes = sym (take-append-drop n c.left.now) ∙ ap (λ z. z ++ drop n c.left.now) (sym e) ∙ ap (λ z. own ++ z) (sym l);
+      defined = o.defined;
+      parts = remaining (names_of c.plan.now) r;
+      others = remaining (names_of c.plan.now) s.others;
+      opened = subst (λ z. Opens (definitions_of c.plan.now) (shape_of d) z (remaining (names_of c.plan.now) r)) (sym e) o.opens.0.opens;
+      before = g.parts;
+      behind = b;
+    }
+
+    -- without a byte
+    module _ (z : n ≡ 0) (new : KnownAs (get_or c.marks.items s.at None) (length c.left.now) New) (ms : Vec (Option Mark) Global) (em : ms.items ≡ set c.marks.items s.at (Some (Open (length c.left.now)))) (st : Vec Frame Global) (es : reverse st.items ≡ with_rest c.frame s.others ∷ reverse c.stack.items) where
+      pub few_idle : suc c.idle ≤ btree_map_len (map_of c.plan.now)
+      few_idle = room c.plan.now i.going s g (shape_of d) o.shape n r o.opens z new
+
+      pub cursor_new : IsCursor (record c { marks = ms; stack = st; frame = record { at = s.at; start = length c.left.now; rest = r }; idle = c.idle + 1 })
+      cursor_new = record {
+        going = subst (λ v. Going c.plan.now (before c.bytes.now c.left.now) v (reverse st.items) (record { at = s.at; start = length c.left.now; rest = r }) c.left.now (c.idle + 1)) (sym em) (subst (λ v. Going c.plan.now (before c.bytes.now c.left.now) (set c.marks.items s.at (Some (Open (length c.left.now)))) v (record { at = s.at; start = length c.left.now; rest = r }) c.left.now (c.idle + 1)) (sym es) (going_new c.plan.now i.going s g (shape_of d) o.shape n r o.opens z new));
+        within = i.within;
+        suffix = i.suffix;
+        tables = i.tables;
+      }
+
+      pub new_begun : (own : List ℕ) → own ≡ [] → IsBegun c (record c { marks = ms; stack = st; frame = record { at = s.at; start = length c.left.now; rest = r }; idle = c.idle + 1 }) s.at d own × Moves c (record c { marks = ms; stack = st; frame = record { at = s.at; start = length c.left.now; rest = r }; idle = c.idle + 1 })
+      new_begun own e = (
+        begun (record c { marks = ms; stack = st; frame = record { at = s.at; start = length c.left.now; rest = r }; idle = c.idle + 1 }) own (e ∙ ap (λ k. take k c.left.now) (sym z)) (ap (λ k. drop k c.left.now) (sym z)) (ap (λ q. remaining (names_of c.plan.now) r ++ pending (names_of c.plan.now) q) es),
+        subst (λ q. left (map_of c.plan.now) (names_of c.plan.now) (length c.left.now) (c.idle + 1) (record { at = s.at; start = length c.left.now; rest = r } ∷ q) < left (map_of c.plan.now) (names_of c.plan.now) (length c.left.now) c.idle (c.frame ∷ reverse c.stack.items)) (sym es) (less_new c.plan.now i.going s g (shape_of d) o.shape n r o.opens z new),
+      )
+
+    -- with some bytes
+    module _ (more : 0 < n) (a : Bor (List ℕ)) (ea : a.now ≡ drop n c.left.now) where
+      ends : (length a.now ≤ length c.bytes.now) × (a.now ≡ drop (length c.bytes.now - length a.now) c.bytes.now) × (before c.bytes.now c.left.now ++ take n c.left.now ≡ before c.bytes.now a.now)
+      ends = suffix_on n c.bytes.now c.left.now a.now i.within i.suffix ea o.opens.0.within
+
+      placed : (st : List Frame) (f : Frame) → Going c.plan.now (before c.bytes.now c.left.now ++ take n c.left.now) c.marks.items st f (drop n c.left.now) 0 → Going c.plan.now (before c.bytes.now a.now) c.marks.items st f a.now 0
+      placed st f w = subst (λ q. Going c.plan.now q c.marks.items st f a.now 0) ends.2 (subst (λ b. Going c.plan.now (before c.bytes.now c.left.now ++ take n c.left.now) c.marks.items st f b 0) (sym ea) w)
+
+      -- and parts
+      pub cursor_on : (st : Vec Frame Global) → reverse st.items ≡ with_rest c.frame s.others ∷ reverse c.stack.items → (own : List ℕ) → own ≡ take n c.left.now → (k : Cursor) → k ≡ record c { left = a; stack = st; frame = record { at = s.at; start = length c.left.now; rest = r }; idle = 0 } → IsCursor k × (IsBegun c k s.at d own × Moves c k)
+      cursor_on st es own e k is =
+          let f : Frame = record { at = s.at; start = length c.left.now; rest = r } in
+          let now : Cursor = record c { left = a; stack = st; frame = f; idle = 0 } in
+          subst (λ q. IsCursor q × (IsBegun c q s.at d own × Moves c q)) (sym is) (
+            record { going = subst (λ v. Going c.plan.now (before c.bytes.now a.now) c.marks.items v f a.now 0) (sym es) (placed (with_rest c.frame s.others ∷ reverse c.stack.items) f (going_on c.plan.now i.going s g (shape_of d) o.shape n r o.opens more)); within = ends.0; suffix = ends.1; tables = i.tables },
+            (
+              begun now own e ea (ap (λ q. remaining (names_of c.plan.now) r ++ pending (names_of c.plan.now) q) es),
+              subst (λ b. left (map_of c.plan.now) (names_of c.plan.now) (length b) 0 (f ∷ reverse st.items) < left (map_of c.plan.now) (names_of c.plan.now) (length c.left.now) c.idle (c.frame ∷ reverse c.stack.items)) (sym ea)
+                  (subst (λ q. left (map_of c.plan.now) (names_of c.plan.now) (length (drop n c.left.now)) 0 (f ∷ q) < left (map_of c.plan.now) (names_of c.plan.now) (length c.left.now) c.idle (c.frame ∷ reverse c.stack.items)) (sym es) (less_on c.plan.now i.going s g (shape_of d) o.shape n r o.opens more)),
+            ),
+          )
+
+      -- and no parts
+      pub cursor_past : remaining (names_of c.plan.now) r ≡ [] → (own : List ℕ) → own ≡ take n c.left.now → (k : Cursor) → k ≡ record c { left = a; frame = with_rest c.frame s.others; idle = 0 } → IsCursor k × (IsBegun c k s.at d own × Moves c k)
+      cursor_past none own e k is =
+          let now : Cursor = record c { left = a; frame = with_rest c.frame s.others; idle = 0 } in
+          subst (λ q. IsCursor q × (IsBegun c q s.at d own × Moves c q)) (sym is) (
+            record { going = placed (reverse c.stack.items) (with_rest c.frame s.others) (going_past c.plan.now i.going s g (shape_of d) o.shape n r o.opens more none); within = ends.0; suffix = ends.1; tables = i.tables },
+            (
+              begun now own e ea (ap (λ q. q ++ (remaining (names_of c.plan.now) s.others ++ pending (names_of c.plan.now) (reverse c.stack.items))) (sym none)),
+              subst (λ b. left (map_of c.plan.now) (names_of c.plan.now) (length b) 0 (with_rest c.frame s.others ∷ reverse c.stack.items) < left (map_of c.plan.now) (names_of c.plan.now) (length c.left.now) c.idle (c.frame ∷ reverse c.stack.items)) (sym ea) (less_past c.plan.now i.going s g (shape_of d) o.shape n r o.opens more),
+            ),
+          )
+
+-- a value begins only where a name comes next, and is that name's
+module _ (old new : Cursor) where
+  pub none_full : (e : Event) → remaining (names_of old.plan.now) old.frame.rest ≡ [] → Happens old new e → OpensFull old e
+  none_full (AtOpen at d own) none h = (let b = h.0.before in cc)
+  none_full (AtPass at) none h = tt
+  none_full AtClose none h = tt
+  none_full AtEnd none h = tt
+  none_full (AtFault at r) none h = tt
+  none_full (AtUndecided at) none h = tt
+
+  pub next_full : (s : Step) → GoesOn (names_of old.plan.now) old.frame.rest s → (IsZeroSize (definitions_of old.plan.now) (name_in old s.at) → ⊥) → (e : Event) → Happens old new e → OpensFull old e
+  next_full s g some (AtOpen at d own) h =
+      let b : remaining (names_of old.plan.now) old.frame.rest ≡ name_in old at ∷ h.0.others = h.0.before in
+      let p : remaining (names_of old.plan.now) old.frame.rest ≡ name_in old s.at ∷ remaining (names_of old.plan.now) s.others = g.parts in
+      let same : name_in old at ≡ name_in old s.at = cc in
+      λ z. some (subst (λ x. IsZeroSize (definitions_of old.plan.now) x) same z)
+  next_full s g some (AtPass at) h = tt
+  next_full s g some AtClose h = tt
+  next_full s g some AtEnd h = tt
+  next_full s g some (AtFault at r) h = tt
+  next_full s g some (AtUndecided at) h = tt
+
+-- the last value ends
+module _ (c : Cursor) (i : IsCursor c) (none : remaining (names_of c.plan.now) c.frame.rest ≡ []) (above : Frame) (st : Vec Frame Global) (es : reverse c.stack.items ≡ above ∷ reverse st.items) where
+  around : Going c.plan.now (before c.bytes.now c.left.now) c.marks.items (above ∷ reverse st.items) c.frame c.left.now c.idle
+  around = subst (λ q. Going c.plan.now (before c.bytes.now c.left.now) c.marks.items q c.frame c.left.now c.idle) es i.going
+
+  pub cursor_up : (c.frame.start ≡ length c.left.now → ⊥) → IsCursor (record c { stack = st; frame = above })
+  cursor_up far = record { going = going_up c.plan.now around none far; within = i.within; suffix = i.suffix; tables = i.tables }
+
+  pub cursor_up_empty : (ms : Vec (Option Mark) Global) → ms.items ≡ set c.marks.items c.frame.at (Some Empty) → c.frame.start ≡ length c.left.now → IsCursor (record c { marks = ms; stack = st; frame = above })
+  cursor_up_empty ms em at = record { going = subst (λ v. Going c.plan.now (before c.bytes.now c.left.now) v (reverse st.items) above c.left.now c.idle) (sym em) (going_up_empty c.plan.now around none at); within = i.within; suffix = i.suffix; tables = i.tables }
+
+  pub up_names : pending (names_of c.plan.now) (above ∷ reverse st.items) ≡ pending_names c
+  up_names = ap (λ q. pending (names_of c.plan.now) q) (sym es) ∙ ap (λ q. q ++ pending (names_of c.plan.now) (reverse c.stack.items)) (sym none)

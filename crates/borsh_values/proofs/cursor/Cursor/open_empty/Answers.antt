@@ -1,0 +1,37 @@
+use Rattle.std.proofs.Common.{refl, ◌∙◌, ap, arith}
+use Rattle.std.specs.BTreeMap.{btree_map_len}
+use Rattle.borsh_walks.proofs.Spots.{last_first}
+use Rattle.borsh_values.proofs.Stepping.{cursor_skip, marked_empty, skips, stopped_again, few_idle, cursor_new, new_begun}
+use Rattle.borsh_values.proofs.Walk.{with_rest}
+use Rattle.borsh_values.proofs.cursor.Cursor.open_empty.Goals as goal
+
+pub returns-in-Empty-clause-cursor : goal.returns-in-Empty-clause-cursor
+returns-in-Empty-clause-cursor c =
+    let k = c.args.self.now in
+    cursor_skip k c.requires.cursor c.args.step c.requires.step c.after_copies-self.result c.after_copies-self.ensures (marked_empty k c.requires.cursor c.args.step c.requires.step c.in-Empty.ensures)
+
+pub returns-in-Empty-clause-happens : goal.returns-in-Empty-clause-happens
+returns-in-Empty-clause-happens c =
+    let k = c.args.self.now in
+    (marked_empty k c.requires.cursor c.args.step c.requires.step c.in-Empty.ensures, skips k c.requires.cursor c.args.step c.requires.step c.after_copies-self.result c.after_copies-self.ensures)
+
+pub returns-in-Recursive-clause-happens : goal.returns-in-Recursive-clause-happens
+returns-in-Recursive-clause-happens c = (refl, stopped_again c.args.self.now c.requires.cursor c.args.step c.requires.step c.in-Recursive.ensures)
+
+pub overflow_add-self : goal.overflow_add-self
+overflow_add-self c =
+    let k = c.args.self.now in
+    let f = few_idle k c.requires.cursor c.args.step c.requires.step c.args.definition.now 0 c.args.parts c.requires.opens refl c.in-New.ensures c.set_mark.new.marks c.set_mark.ensures c.push.new.self (last_first k.stack.items c.push.new.self.items (with_rest k.frame c.args.step.others) c.in_ok-push-in-New.ensures.items) in
+    let d = c.len-definitions.ensures.len ∙ ap (λ m. btree_map_len m) c.map.ensures in
+    let b = c.len-definitions.ensures.small in
+    omega (arith, f, d, b)
+
+pub returns-in_ok-push-in-New-clause-cursor : goal.returns-in_ok-push-in-New-clause-cursor
+returns-in_ok-push-in-New-clause-cursor c =
+    let k = c.args.self.now in
+    cursor_new k c.requires.cursor c.args.step c.requires.step c.args.definition.now 0 c.args.parts c.requires.opens refl c.in-New.ensures c.set_mark.new.marks c.set_mark.ensures c.push.new.self (last_first k.stack.items c.push.new.self.items (with_rest k.frame c.args.step.others) c.in_ok-push-in-New.ensures.items)
+
+pub returns-in_ok-push-in-New-clause-happens : goal.returns-in_ok-push-in-New-clause-happens
+returns-in_ok-push-in-New-clause-happens c =
+    let k = c.args.self.now in
+    new_begun k c.requires.cursor c.args.step c.requires.step c.args.definition.now 0 c.args.parts c.requires.opens refl c.in-New.ensures c.set_mark.new.marks c.set_mark.ensures c.push.new.self (last_first k.stack.items c.push.new.self.items (with_rest k.frame c.args.step.others) c.in_ok-push-in-New.ensures.items) c.front.result.now c.front.ensures

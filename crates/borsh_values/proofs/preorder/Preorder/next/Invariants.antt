@@ -1,0 +1,9 @@
+use Rattle.borsh_values.specs.Cursor.{steps_left}
+use Rattle.borsh_values.proofs.PreorderLaws.{NoneYet}
+use Rattle.borsh_values.proofs.preorder.Preorder.next.Given as goal
+
+abbrev pub invariant-loop-at : goal.invariant-loop-at
+invariant-loop-at l = NoneYet l.fn.self.cursor l.self.cursor
+
+abbrev pub decreases-loop-at : goal.decreases-loop-at
+decreases-loop-at l = steps_left l.self.cursor
