@@ -5,7 +5,7 @@ _borsh() {
     if ((COMP_CWORD == 1)); then
         words=$("$tool" --help 2>/dev/null | sed -n '/^Commands:/,/^$/s/^  \([a-z]*\) .*/\1/p; s/^  -h, \(--help\) .*/\1/p')
     elif [[ $word == -* ]]; then
-        words=$("$tool" "${COMP_WORDS[1]}" --help 2>/dev/null | sed -n 's/^  .* \(--[a-z-]*\)  *[A-Z].*/\1/p')
+        words=$("$tool" "${COMP_WORDS[1]}" --help 2>/dev/null | sed -n 's/^  .*\(--[a-z-]*\)\( <[A-Z]*>\)\?  .*/\1/p')
     else
         words=$("$tool" "${COMP_WORDS[1]}" --help 2>/dev/null | sed -n 's/.* or `\(self\)` for .*/\1/p')
         mapfile -t COMPREPLY < <(compgen -f -- "$word")
