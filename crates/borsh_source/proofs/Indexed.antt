@@ -1,12 +1,32 @@
 -- Items by their names.
 use Rattle.std.proofs.Common.{◌≡◌, ℕ, suc, zero, ◌+◌, ◌<◌, List, [], ◌∷◌, length, Some, None, sym, ◌∙◌, ap, refl, subst, arith, inl, inr, ◌⊎◌, true≢false}
-use Rattle.std.specs.Prelude.{slice_get, string_bytes, Option, MatchOption, is_some}
+use Rattle.std.specs.Prelude.{slice_get, string_bytes, Option, MatchOption, is_some, Bool, true, false, cond, bytes_eq}
 use Rattle.borsh_walks.proofs.Names.{name_cases}
+use Rattle.std.specs.Borrow.{Bor}
+use Rattle.std.specs.HashMap.{HashMap, UpdatesBy}
+use Rattle.std.proofs.lemmas.Map.Text.{hash_map_updates_str}
+use Rattle.std.proofs.lemmas.Slice.Eq.{bytes_eq-Decides}
 use Rattle.borsh_walks.proofs.Tables.{Updated, still}
-use Rattle.borsh_walks.specs.Tables.{mark_of}
-use Rattle.borsh_source.specs.Views.{IsIndexed, IsItem}
+use Rattle.borsh_source.specs.Views.{IsIndexed, IsItem, mark_of}
 use Rattle.borsh_source.specs.declared.context.Context.{Context}
 use Rattle.borsh_source.specs.declared.tree.Item.{Item}
+
+-- a name is marked, and no other changes
+pub updated_by : {H : Type 0} (p : List ℕ) (m n : HashMap (Bor (List ℕ)) (Option ℕ) H) (k : Option ℕ) → UpdatesBy (λ x y. bytes_eq x.now y.now) (λ q. bytes_eq p q.now) m n (Some k) → Updated (mark_of m) (mark_of n) p k
+updated_by p m n k u =
+    let all = hash_map_updates_str p m n (Some k) u in
+    record {
+      here = all p ∙ cond_at _ (bytes_eq p p) ((bytes_eq-Decides p p).1 refl);
+      others = λ x f. all x ∙ cond_off _ (bytes_eq p x) (λ e. f (sym ((bytes_eq-Decides p x).0 e)));
+    }
+  where
+    cond_at : {X : Type 0} {a : X} (b : X) (t : Bool) → t ≡ true → cond t a b ≡ a
+    cond_at b true e = refl
+    cond_at b false e = cc
+
+    cond_off : {X : Type 0} (a : X) {b : X} (t : Bool) → (t ≡ true → ⊥) → cond t a b ≡ b
+    cond_off a true f = absurd (f refl)
+    cond_off a false f = refl
 
 -- what the index leads to has the name
 pub indexed_at : (C : Context) (x : List ℕ) (i : ℕ) (item : Item) → IsIndexed C → mark_of C.index x ≡ Some (Some i) → slice_get C.source.now.items.items i ≡ Some item → IsItem C.source.now x i item

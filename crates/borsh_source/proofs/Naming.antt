@@ -34,8 +34,8 @@ module _ (S : Source) (ps : List Parameter) (gs : List Stands) where
   head_form (Tuple ts) s j us h = (h.1, h.2)
   head_form (Constant e) s j us h = absurd h
 
-  head_given : (k : TypeKind) (g : Bor Given) → IsHead S ps gs k (GivenHead g) → (x : String Global) × (bs : Vec ℕ Global) × (k ≡ Path x bs) × (given_of ps gs (string_bytes x) ≡ Some (stands g.now))
-  head_given (Path x bs) g h = (x, bs, refl, h)
+  head_given : (k : TypeKind) (g : Bor Given) → IsHead S ps gs k (GivenHead g) → (x : String Global) × (bs : Vec ℕ Global) × (k ≡ Path x bs) × (bs.items ≡ []) × (given_of ps gs (string_bytes x) ≡ Some (stands g.now))
+  head_given (Path x bs) g h = (x, bs, refl, h.1, h.0)
   head_given (Reference t) g h = absurd h
   head_given (Slice t) g h = absurd h
   head_given (Array t e) g h = cc
@@ -61,7 +61,7 @@ module _ (S : Source) (ps : List Parameter) (gs : List Stands) where
   module _ (t : ℕ) (w : Written) (at : slice_get S.types.items t ≡ Some w) where
     -- a parameter
     pub named_given : (g : Bor Given) (n : List ℕ) (d : DefinitionMap) (u : List Used) → IsHead S ps gs w.kind (GivenHead g) → stands g.now ≡ named n → Brought (Means S ps gs t n) d d u u
-    named_given g n d u h e = let r = head_given w.kind g h in brought_none d u (of_parameter at r.2 (r.3 ∙ ap (λ z. Some z) e))
+    named_given g n d u h e = let r = head_given w.kind g h in brought_none d u (of_parameter at r.2 r.3 (r.4 ∙ ap (λ z. Some z) e))
 
     -- a type of the format
     pub named_form : {a b c : DefinitionMap} {u v q : List Used} (s : Bor (List ℕ)) (j : Kind) (us : Vec ℕ Global) (ts : List ℕ) (ns ms : List (List ℕ)) (n : List ℕ) → IsHead S ps gs w.kind (Format s j us) → ts ≡ us.items → ms ≡ ns → Brought (MeansAll S ps gs ts ns) a b u v → Brought (FormBrings s.now j ms n) b c v q → Brought (Means S ps gs t n) a c u q

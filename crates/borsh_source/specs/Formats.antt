@@ -91,6 +91,19 @@ IsFormat x stem SocketAddr = (stem ≡ x) × IsOtherKind x SocketAddr
 IsFormat x stem Tuple = ⊥
 IsFormat x stem (Array n) = ⊥
 
+-- how many arguments a type of the format may be written with: a hasher and an allocator stand behind those that are read
+abbrev pub most_arguments : Kind → ℕ
+most_arguments Map = 4
+most_arguments ListKind = 3
+most_arguments ResultKind = 2
+most_arguments Through = 2
+most_arguments Phantom = 1
+most_arguments OptionKind = 1
+most_arguments Range = 1
+most_arguments RangeFrom = 1
+most_arguments RangeTo = 1
+most_arguments _ = 0
+
 -- how many arguments of a type of the format are read
 abbrev pub read_arguments : Kind → ℕ
 read_arguments (Bytes w) = 0

@@ -34,7 +34,7 @@ ArrayMeans S ps gs t e n ds us = (k : ℕ) × Evaluates S ps gs e k × FormMeans
 
 -- a path is a parameter, an item or a type of the format
 abbrev pub IsPathHead : Source → List Parameter → List Stands → List ℕ → List ℕ → Head → Type 0
-IsPathHead S ps gs x bs (Given g) = given_of ps gs x ≡ Some (stands g.now)
+IsPathHead S ps gs x bs (Given g) = (given_of ps gs x ≡ Some (stands g.now)) × (bs ≡ [])
 IsPathHead S ps gs x bs (Format s j us) = IsFormatPath S ps gs x bs s.now j us.items
 IsPathHead S ps gs x bs (ArrayHead t e) = ⊥
 IsPathHead S ps gs x bs (Item i item cs) = (given_of ps gs x ≡ None) × IsItem S x i item.now × (cs.now ≡ bs)

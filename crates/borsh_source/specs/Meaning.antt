@@ -9,7 +9,7 @@ use Rattle.borsh_source.specs.Reading.{reads, fields_in, fields_name}
 use Rattle.borsh_source.specs.Forms.{Entry, form}
 use Rattle.borsh_source.specs.declared.formats.Kind.{Kind}
 use Rattle.borsh_source.specs.declared.formats.Kind.TheVariants.{Through, List as ListKind, Tuple as TupleKind, Array as ArrayKind}
-use Rattle.borsh_source.specs.Formats.{IsFormat, read_arguments}
+use Rattle.borsh_source.specs.Formats.{IsFormat, most_arguments, read_arguments}
 use Rattle.borsh_source.specs.declared.tree.Source.{Source}
 use Rattle.borsh_source.specs.declared.tree.Field.{Field}
 use Rattle.borsh_source.specs.declared.tree.Fields.{Fields}
@@ -49,6 +49,7 @@ pub record IsFormatPath (S : Source) (ps : List Parameter) (gs : List Stands) (x
   pub no_item : IsNoItem S x
   pub format : IsFormat x stem k
   pub enough : read_arguments k ≤ length bs
+  pub fits : length bs ≤ most_arguments k
   pub parts : ts ≡ take (read_arguments k) bs
 
 -- a written type is a type of the format, by the beginning of its name, its kind and its arguments
@@ -83,7 +84,7 @@ mutual
   -- the type at an index has the name, where the parameters stand for these, and brings the definitions and the used items
   pub data Means (S : Source) : List Parameter → List Stands → ℕ → List ℕ → List Entry → List Used → Type 0 where
     -- a parameter
-    of_parameter : {ps : List Parameter} {gs : List Stands} {t : ℕ} {n : List ℕ} {w : Written} {x : String Global} {bs : Vec ℕ Global} → slice_get S.types.items t ≡ Some w → w.kind ≡ Path x bs → given_of ps gs (string_bytes x) ≡ Some (named n) → Means S ps gs t n [] []
+    of_parameter : {ps : List Parameter} {gs : List Stands} {t : ℕ} {n : List ℕ} {w : Written} {x : String Global} {bs : Vec ℕ Global} → slice_get S.types.items t ≡ Some w → w.kind ≡ Path x bs → bs.items ≡ [] → given_of ps gs (string_bytes x) ≡ Some (named n) → Means S ps gs t n [] []
     -- a type of the format
     of_format : {ps : List Parameter} {gs : List Stands} {t : ℕ} {n : List ℕ} {w : Written} {ts : List ℕ} {ns : List (List ℕ)} {ds es : List Entry} {us : List Used} (stem : List ℕ) (k : Kind) → slice_get S.types.items t ≡ Some w → HasForm S ps gs w.kind stem k ts → MeansAll S ps gs ts ns ds us → form stem k ns ≡ Some (n, es) → Means S ps gs t n (ds ++ es) us
     -- an item
@@ -151,10 +152,15 @@ IsDiscriminant S None explicit next tag = tag ≡ next
 IsDiscriminant S (Some e) true next tag = Evaluates S [] [] e tag
 IsDiscriminant S (Some e) false next tag = tag ≡ next
 
+-- no row has the tag
+abbrev pub IsNewTag : ℕ → List (ℤ × List ℕ × List ℕ) → Type 0
+IsNewTag tag [] = Unit {0}
+IsNewTag tag (r ∷ rows) = (r.0 ≡ pos tag → ⊥) × IsNewTag tag rows
+
 -- variants, whose enum has the name x, have the rows, and bring what their fields bring; the next tag
 pub data VariantsBring (S : Source) (ps : List Parameter) (gs : List Stands) (x : List ℕ) (explicit : Bool) : List Variant → List (ℤ × List ℕ × List ℕ) → ℕ → List Entry → List Used → Type 0 where
   of_none : VariantsBring S ps gs x explicit [] [] 0 [] []
-  of_more : {vs : List Variant} (v : Variant) {rows : List (ℤ × List ℕ × List ℕ)} {next tag : ℕ} {ds es : List Entry} {us ws : List Used} → VariantsBring S ps gs x explicit vs rows next ds us → IsDiscriminant S v.discriminant explicit next tag → tag < 256 → FieldsBring S ps gs (variant_type S ps gs x v) v.fields es ws → VariantsBring S ps gs x explicit (vs ++ v ∷ []) (rows ++ (pos tag, string_bytes v.name, variant_type S ps gs x v) ∷ []) (tag + 1) (ds ++ es) (us ++ ws)
+  of_more : {vs : List Variant} (v : Variant) {rows : List (ℤ × List ℕ × List ℕ)} {next tag : ℕ} {ds es : List Entry} {us ws : List Used} → VariantsBring S ps gs x explicit vs rows next ds us → IsDiscriminant S v.discriminant explicit next tag → tag < 256 → IsNewTag tag rows → FieldsBring S ps gs (variant_type S ps gs x v) v.fields es ws → VariantsBring S ps gs x explicit (vs ++ v ∷ []) (rows ++ (pos tag, string_bytes v.name, variant_type S ps gs x v) ∷ []) (tag + 1) (ds ++ es) (us ++ ws)
 
 -- the same, whatever the next tag is
 abbrev pub SomeVariantsBring : Source → List Parameter → List Stands → List ℕ → Bool → List Variant → List (ℤ × List ℕ × List ℕ) → List Entry → List Used → Type 0
@@ -174,7 +180,11 @@ abbrev pub is_explicit : Option Bool → Bool
 is_explicit None = false
 is_explicit (Some b) = b
 
+-- what the parameters of an item stand for within it, and behind that its name, for which `Self` stands
+abbrev pub given_within : Item → Used → List Stands
+given_within item u = u.given ++ named (name_with (string_bytes item.name) u.given) ∷ []
+
 -- an item that is used brings its definitions, and what its types bring
 pub data Defines (S : Source) (u : Used) : List Entry → List Used → Type 0 where
-  of_struct : {item : Item} {fs : Fields} {ds : List Entry} {us : List Used} → slice_get S.items.items u.item ≡ Some item → item.kind ≡ Struct fs → FieldsBring S item.parameters.items u.given (name_with (string_bytes item.name) u.given) fs ds us → Defines S u ds us
-  of_enum : {item : Item} {d : Option Bool} {vs : Vec Variant Global} {rows : List (ℤ × List ℕ × List ℕ)} {next : ℕ} {ds : List Entry} {us : List Used} → slice_get S.items.items u.item ≡ Some item → item.kind ≡ Enum d vs → IsDecided d vs.items → VariantsBring S item.parameters.items u.given (string_bytes item.name) (is_explicit d) vs.items rows next ds us → Defines S u (ds ++ (name_with (string_bytes item.name) u.given, variants 1 rows) ∷ []) us
+  of_struct : {item : Item} {fs : Fields} {ds : List Entry} {us : List Used} → slice_get S.items.items u.item ≡ Some item → item.kind ≡ Struct fs → FieldsBring S item.parameters.items (given_within item u) (name_with (string_bytes item.name) u.given) fs ds us → Defines S u ds us
+  of_enum : {item : Item} {d : Option Bool} {vs : Vec Variant Global} {rows : List (ℤ × List ℕ × List ℕ)} {next : ℕ} {ds : List Entry} {us : List Used} → slice_get S.items.items u.item ≡ Some item → item.kind ≡ Enum d vs → IsDecided d vs.items → VariantsBring S item.parameters.items (given_within item u) (string_bytes item.name) (is_explicit d) vs.items rows next ds us → Defines S u (ds ++ (name_with (string_bytes item.name) u.given, variants 1 rows) ∷ []) us

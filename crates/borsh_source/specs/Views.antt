@@ -1,10 +1,10 @@
 -- What the program's values say.
-use Rattle.std.specs.Prelude.{◌≡◌, ℕ, List, [], ◌∷◌, map, Option, Some, None, MatchOption, cond, string_bytes, slice_get, String}
+use Rattle.std.specs.Prelude.{◌≡◌, ℕ, List, [], ◌∷◌, map, Option, Some, None, MatchOption, cond, codes, string_bytes, slice_get, String}
 use Rattle.std.specs.Global.{Global}
 use Rattle.std.specs.Borrow.{Bor}
 use Rattle.borsh_source.specs.declared.uses.Scope.{Scope}
 use Rattle.std.specs.Str.{bytes_eq}
-use Rattle.borsh_walks.specs.Tables.{mark_of}
+use Rattle.std.specs.HashMap.{HashMap, get_by}
 use Rattle.borsh_source.specs.declared.uses.Given.{Given}
 use Rattle.borsh_source.specs.declared.uses.Given.TheVariants.{Unread, Named, Number}
 use Rattle.borsh_source.specs.declared.uses.Use.{Use}
@@ -32,9 +32,10 @@ pub record Used : Type 0 where
 abbrev pub used : Use → Used
 used u = record { item = u.item; given = map stands u.given.items }
 
--- what the parameter of a name stands for: the first of that name
+-- what the parameter of a name stands for: the first of that name; `Self` stands for what is behind those of the parameters
 abbrev pub given_of : List Parameter → List Stands → List ℕ → Option Stands
-given_of [] gs x = None
+given_of [] [] x = None
+given_of [] (g ∷ gs) x = cond (bytes_eq x (codes "Self")) (Some g) None
 given_of (p ∷ ps) [] x = None
 given_of (p ∷ ps) (g ∷ gs) x = cond (bytes_eq (string_bytes p.name) x) (Some g) (given_of ps gs x)
 
@@ -52,14 +53,14 @@ pub record IsItem (S : Source) (x : List ℕ) (i : ℕ) (item : Item) : Type 0 w
 abbrev pub IsNoItem : Source → List ℕ → Type 0
 IsNoItem S x = (i : ℕ) (item : Item) → IsNamed S x i item → ⊥
 
+-- the mark of a name
+abbrev pub mark_of : {H : Type 0} → HashMap (Bor (List ℕ)) (Option ℕ) H → List ℕ → Option (Option ℕ)
+mark_of m x = get_by (λ k. bytes_eq x k.now) m
+
 -- the index of a context finds each item by its name, and has no place for a name that comes twice
 pub record IsIndexed (C : Context) : Type 0 where
   pub sound : (x : List ℕ) (i : ℕ) → mark_of C.index x ≡ Some (Some i) → (item : Item) × IsItem C.source.now x i item
   pub complete : (x : List ℕ) → mark_of C.index x ≡ None → IsNoItem C.source.now x
-
--- the name doesn't come twice
-abbrev pub IsOnce : Context → List ℕ → Type 0
-IsOnce C x = mark_of C.index x ≡ Some None → ⊥
 
 -- the place of a name that was not there before, or none
 abbrev pub IsFirst : (List ℕ → Option (Option ℕ)) → List ℕ → ℕ → Option ℕ → Type 0

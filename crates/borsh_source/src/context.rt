@@ -1,19 +1,18 @@
 // The tree, and its items by their names.
-ghost use Rattle.std.specs.Prelude.{◌≡◌, ◌+◌, IfOk, OnOk, option_map, slice_get};
-ghost use Rattle.borsh_walks.specs.Tables.{mark_of};
-ghost use Rattle.borsh_source.specs.Views.{IsFirst, IsFound, IsIndexed, IsOnce, source_of};
+ghost use Rattle.std.specs.Prelude.{◌≡◌, ◌+◌, IfOk, option_map, slice_get};
+ghost use Rattle.borsh_source.specs.Views.{IsFirst, IsFound, IsIndexed, mark_of, source_of};
 
 use crate::error::{Cause, CompileError, refused};
 use crate::tree::{Item, Place, Source};
 use std::alloc::Global;
-use std::collections::BTreeMap;
+use std::collections::HashMap;
 
 /// A tree, and the index of each item by its name; none of a name that comes twice.
 #[derive(Drop)]
 pub struct Context<'a> {
     pub alloc: Global,
     pub source: &'a Source,
-    pub index: BTreeMap<&'a str, Option<usize>>,
+    pub index: HashMap<&'a str, Option<usize>>,
 }
 
 impl<'a> Context<'a> {
@@ -21,7 +20,7 @@ impl<'a> Context<'a> {
     pub fn new(alloc: Global, source: &'a Source) -> Result<Context<'a>, CompileError>
         ensures { IfOk result (λ c. IsIndexed c × (source_of c ≡ source.now)) }
     {
-        let mut index: BTreeMap<&'a str, Option<usize>> = BTreeMap::new(alloc);
+        let mut index: HashMap<&'a str, Option<usize>> = HashMap::new(alloc);
         for (at, item) in source.items.iter().enumerate() {
             let name = item.name.as_str();
             let first = first_place(&index, name, at);
@@ -34,40 +33,26 @@ impl<'a> Context<'a> {
         })
     }
 
-    /// Refuses a name that two items have.
-    pub fn once(&self, name: &str, place: Place) -> Result<(), CompileError>
-        ensures { OnOk result (IsOnce self.now name.now) }
+    /// The item of the name, and its index. A name that two items have is refused.
+    pub fn item(&self, name: &str, place: Place) -> Result<Option<(usize, &'a Item)>, CompileError>
+        requires { IsIndexed self.now }
+        ensures { IfOk result (IsFound (source_of self.now) name.now) }
     {
         let Some(entry) = self.index.get(name) else {
-            return Ok(());
+            return Ok(None);
         };
-        let Some(_) = entry else {
+        let Some(at) = entry else {
             return Err(refused(self.alloc, place, Cause::TwoItems, name));
         };
-        Ok(())
-    }
-
-    /// The item of the name, and its index.
-    pub fn item(&self, name: &str) -> Option<(usize, &'a Item)>
-        requires indexed { IsIndexed self.now }
-        requires once { IsOnce self.now name.now }
-        ensures { IsFound (source_of self.now) name.now result }
-    {
-        let Some(entry) = self.index.get(name) else {
-            return None;
+        let Some(item) = element(&self.source.items, *at) else {
+            return Ok(None);
         };
-        let Some(place) = entry else {
-            return None;
-        };
-        let Some(item) = element(&self.source.items, *place) else {
-            return None;
-        };
-        Some((*place, item))
+        Ok(Some((*at, item)))
     }
 }
 
 // The place of a name that is not there yet.
-fn first_place(index: &BTreeMap<&str, Option<usize>>, name: &str, at: usize) -> Option<usize>
+fn first_place(index: &HashMap<&str, Option<usize>>, name: &str, at: usize) -> Option<usize>
     ensures { IsFirst (mark_of index.now) name.now at result }
 {
     match index.get(name) {

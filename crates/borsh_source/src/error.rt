@@ -34,6 +34,8 @@ pub enum Cause {
     Discriminants,
     /// The variant's tag is above 255.
     Tag,
+    /// A variant before it has the variant's tag.
+    TwoTags,
     /// The name has two different definitions.
     TwoDefinitions,
     /// Two items have the name, which is used here.

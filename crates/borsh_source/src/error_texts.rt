@@ -38,6 +38,7 @@ impl fmt::Display for Cause {
                 "has discriminants, expected `#[borsh(use_discriminant = true)]` or `false` above it",
             ),
             Cause::Tag => f.write_str("has a tag above 255"),
+            Cause::TwoTags => f.write_str("has the tag of a variant before it"),
             Cause::TwoDefinitions => f.write_str("has two definitions that differ"),
             Cause::TwoItems => f.write_str("is the name of two items"),
             Cause::TooDeep => f.write_str("has more than 128 types or expressions in one another"),

@@ -1,6 +1,6 @@
 // The types that the format has, by the names that they are written with.
 ghost use Rattle.std.specs.Prelude.{◌≡◌, IfSome};
-ghost use Rattle.borsh_source.specs.Formats.{IsFormat, IsOtherKind, non_zero_widths, read_arguments, widths};
+ghost use Rattle.borsh_source.specs.Formats.{IsFormat, IsOtherKind, most_arguments, non_zero_widths, read_arguments, widths};
 ghost use Rattle.borsh_source.specs.Lists.{IsListed};
 
 /// How a type of the format is made of its arguments.
@@ -37,7 +37,7 @@ pub enum Kind {
     Array(usize),
 }
 
-/// How many arguments a type of the format takes at most that are read; a hasher or an allocator behind them isn't.
+/// How many arguments of a type of the format are read.
 pub fn read_arguments(kind: Kind) -> usize
     ensures { result ≡ read_arguments kind }
 {
@@ -45,6 +45,19 @@ pub fn read_arguments(kind: Kind) -> usize
         Kind::Map | Kind::Result => 2,
         Kind::Through | Kind::List | Kind::Option | Kind::Range | Kind::RangeFrom | Kind::RangeTo =>
             1,
+        _ => 0,
+    }
+}
+
+/// How many arguments a type of the format may be written with: a hasher and an allocator stand behind those that are read.
+pub fn most_arguments(kind: Kind) -> usize
+    ensures { result ≡ most_arguments kind }
+{
+    match kind {
+        Kind::Map => 4,
+        Kind::List => 3,
+        Kind::Result | Kind::Through => 2,
+        Kind::Phantom | Kind::Option | Kind::Range | Kind::RangeFrom | Kind::RangeTo => 1,
         _ => 0,
     }
 }

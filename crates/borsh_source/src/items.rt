@@ -1,9 +1,9 @@
 // The definitions of items.
-ghost use Rattle.std.specs.Prelude.{◌≡◌, ◌<◌, ◌++◌, ◌∷◌, [], IfOk, IfSome, OnOk, if◌then◌else◌, map, pos, string_bytes, false};
+ghost use Rattle.std.specs.Prelude.{◌≡◌, ◌<◌, ◌++◌, ◌∷◌, [], IfOk, IfSome, IsTrue, OnOk, if◌then◌else◌, map, pos, string_bytes, false};
 ghost use Rattle.borsh_definitions.specs.Described.{field_bytes, named_definition, unnamed, variant_bytes};
 ghost use Rattle.borsh_definitions.specs.Names.{beside};
 ghost use Rattle.borsh_source.specs.Container.{Brings};
-ghost use Rattle.borsh_source.specs.Meaning.{Defines, FieldsBring, HaveNone, IsDecided, is_explicit, some_definition, IsDiscriminant, SomeVariantsBring, fields_definition, kept_names, kept_types, read_given, variant_type};
+ghost use Rattle.borsh_source.specs.Meaning.{Defines, FieldsBring, HaveNone, IsDecided, is_explicit, some_definition, IsDiscriminant, IsNewTag, SomeVariantsBring, fields_definition, kept_names, kept_types, read_given, variant_type};
 ghost use Rattle.borsh_source.specs.Views.{IsIndexed, given_in, parameters_of, source_of, stands, texts_of, unread, used as used_of};
 
 use crate::adding::{Output, add_all};
@@ -14,9 +14,12 @@ use crate::numbers::value_of;
 use crate::reading::{fields_in, fields_name};
 use crate::tree::{Field, Fields, ItemKind, Parameter, Place, Variant};
 use crate::types::{all_named, name_with};
-use crate::uses::{Given, Scope, Use, copy_given, outside};
+use crate::uses::{Given, Scope, Use, copy_given, given_within, outside};
 use borsh_walks::{Declaration, Definition, DiscriminantValue, FieldName, VariantName};
 use std::alloc::{AllocError, Global};
+
+// A variant of a definition.
+type Row = (DiscriminantValue, VariantName, Declaration);
 
 // The types of the fields that aren't skipped.
 fn kept_types(alloc: Global, fields: &[Field]) -> Result<Vec<usize>, AllocError>
@@ -258,28 +261,40 @@ fn discriminant_of(
     }
 }
 
-// The same, which has to fit into a byte.
+// The same, which has to fit into a byte, and to be none of the variants before it.
 fn tag_of(
     context: &Context<'_>,
     explicit: bool,
     variant: &Variant,
     next: u64,
+    rows: &[Row],
     left: &mut u64,
 ) -> Result<u8, CompileError>
     requires { IsIndexed context.now }
     ensures tag { IfOk result (IsDiscriminant (source_of context.now)
         variant.now.discriminant explicit next) }
     ensures small { IfOk result (λ tag. tag < 256) }
+    ensures new { IfOk result (λ tag. IsNewTag tag (map variant_bytes rows.now)) }
 {
     let tag = discriminant_of(context, explicit, variant, next, left)?;
-    match u8::try_from(tag) {
-        Ok(tag) => Ok(tag),
-        Err(_) => Err(refused(
-            context.alloc,
-            variant.place,
-            Cause::Tag,
-            variant.name.as_str(),
-        )),
+    let name = variant.name.as_str();
+    let Ok(tag) = u8::try_from(tag) else {
+        return Err(refused(context.alloc, variant.place, Cause::Tag, name));
+    };
+    if is_new(tag, rows) {
+        Ok(tag)
+    } else {
+        Err(refused(context.alloc, variant.place, Cause::TwoTags, name))
+    }
+}
+
+// Whether no row has the tag.
+fn is_new(tag: u8, rows: &[Row]) -> bool
+    ensures { IsTrue result → IsNewTag tag (map variant_bytes rows.now) }
+{
+    match rows {
+        [] => true,
+        [row, rows @ ..] => row.0 != i64::from(tag) && is_new(tag, rows),
     }
 }
 
@@ -291,7 +306,7 @@ fn add_variants(
     explicit: bool,
     variants: &[Variant],
     output: &mut Output<'_>,
-) -> Result<Vec<(DiscriminantValue, VariantName, Declaration)>, CompileError>
+) -> Result<Vec<Row>, CompileError>
     requires { IsIndexed context.now }
     ensures { IfOk result (λ rows. Brings (SomeVariantsBring (source_of context.now)
         (parameters_of scope.entry) (given_in scope.entry) item.now explicit variants.now
@@ -300,7 +315,14 @@ fn add_variants(
     let mut rows = Vec::new(context.alloc);
     let mut next: u64 = 0;
     for variant in variants {
-        let tag = tag_of(context, explicit, variant, next, &mut output.left)?;
+        let tag = tag_of(
+            context,
+            explicit,
+            variant,
+            next,
+            rows.as_slice(),
+            &mut output.left,
+        )?;
         let whole = variant_type(context, scope, item, variant, &mut output.left)?;
         let name = String::from_str(context.alloc, whole.as_str())?;
         add_fields(context, scope, variant.place, name, &variant.fields, output)?;
@@ -313,7 +335,7 @@ fn add_variants(
 // The row of a variant at the end of a list.
 fn push_row(
     alloc: Global,
-    rows: &mut Vec<(DiscriminantValue, VariantName, Declaration)>,
+    rows: &mut Vec<Row>,
     tag: u8,
     name: &str,
     whole: Declaration,
@@ -351,11 +373,12 @@ pub fn add_item(
     let Some(item) = element(&context.source.items, used.item) else {
         return Err(nowhere(context));
     };
+    let name = name_with(context.alloc, item.name.as_str(), used.given.as_slice())?;
+    let given = given_within(context.alloc, used.given.as_slice(), name.as_str())?;
     let scope = Scope {
         parameters: item.parameters.as_slice(),
-        given: used.given.as_slice(),
+        given: given.as_slice(),
     };
-    let name = name_with(context.alloc, item.name.as_str(), used.given.as_slice())?;
     match &item.kind {
         ItemKind::Struct(fields) => {
             add_fields(context, scope, item.place, name, fields, output)?;

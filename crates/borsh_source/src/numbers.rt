@@ -98,8 +98,7 @@ pub fn number_named(
             _ => Err(refused(context.alloc, place, Cause::NoNumber, name)),
         };
     }
-    context.once(name, place)?;
-    let Some((_, item)) = context.item(name) else {
+    let Some((_, item)) = context.item(name, place)? else {
         return Err(refused(context.alloc, place, Cause::UnknownConstant, name));
     };
     let ItemKind::Constant(expression) = &item.kind else {

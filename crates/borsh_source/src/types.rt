@@ -8,7 +8,7 @@ ghost use Rattle.borsh_source.specs.Views.{IsIndexed, given_in, named, parameter
 use crate::adding::{Output, add_all, add_use};
 use crate::context::{Context, element, nowhere, spend, within};
 use crate::error::{Cause, CompileError, refused};
-use crate::formats::{Kind, format_of, read_arguments};
+use crate::formats::{Kind, format_of, most_arguments, read_arguments};
 use crate::forms::{form, push_following};
 use crate::numbers::{number_named, value_of};
 use crate::reading::reads;
@@ -54,24 +54,41 @@ fn head_of_path<'a, 'b>(
         (parameters_of scope.entry) (given_in scope.entry) name.now arguments.now) }
 {
     if let Some(given) = given_as(scope.parameters, scope.given, name) {
-        return Ok(Head::Given(given));
+        return match arguments {
+            [] => Ok(Head::Given(given)),
+            _ => Err(other_number(context, place, name, 0, arguments.len())),
+        };
     }
-    context.once(name, place)?;
-    if let Some((at, item)) = context.item(name) {
+    if let Some((at, item)) = context.item(name, place)? {
         return Ok(Head::Item(at, item, arguments));
     }
     let Some((stem, kind)) = format_of(name) else {
         return Err(refused(context.alloc, place, Cause::UnknownType, name));
     };
     let count = read_arguments(kind);
+    if arguments.len() > most_arguments(kind) {
+        return Err(other_number(context, place, name, count, arguments.len()));
+    }
     let Some(read) = arguments.get(..count) else {
-        let cause = Cause::Arguments {
-            expected: count,
-            found: arguments.len(),
-        };
-        return Err(refused(context.alloc, place, cause, name));
+        return Err(other_number(context, place, name, count, arguments.len()));
     };
     Ok(Head::Format(stem, kind, Vec::from_slice(context.alloc, read)?))
+}
+
+// The refusal of a type with another number of arguments.
+fn other_number(
+    context: &Context<'_>,
+    place: Place,
+    name: &str,
+    expected: usize,
+    found: usize,
+) -> CompileError {
+    refused(
+        context.alloc,
+        place,
+        Cause::Arguments { expected, found },
+        name,
+    )
 }
 
 // What a written type is at its outside.
@@ -136,11 +153,8 @@ fn add_form(
 {
     let mut entries = Vec::new(context.alloc);
     let Some(name) = form(context.alloc, stem, kind, names, &mut entries)? else {
-        let cause = Cause::Arguments {
-            expected: read_arguments(kind),
-            found: names.len(),
-        };
-        return Err(refused(context.alloc, place, cause, stem));
+        let count = read_arguments(kind);
+        return Err(other_number(context, place, stem, count, names.len()));
     };
     spend(context, place, name.len() as u64, &mut output.left)?;
     add_all(context, place, entries, output)?;
@@ -357,7 +371,7 @@ fn number_given(
     };
     match &written.kind {
         TypeKind::Constant(expression) => value_of(context, scope, *expression, depth, left),
-        TypeKind::Path { name, .. } => {
+        TypeKind::Path { name, arguments } if arguments.is_empty() => {
             number_named(context, scope, name.as_str(), written.place, depth, left)
         }
         _ => Err(refused(context.alloc, written.place, Cause::NoNumber, "")),
@@ -413,11 +427,8 @@ fn all_given(
         item.now.parameters.items arguments.now (map stands hs.items)) output.old output.new) }
 {
     if item.parameters.len() != arguments.len() {
-        let cause = Cause::Arguments {
-            expected: item.parameters.len(),
-            found: arguments.len(),
-        };
-        return Err(refused(context.alloc, place, cause, item.name.as_str()));
+        let count = item.parameters.len();
+        return Err(other_number(context, place, item.name.as_str(), count, arguments.len()));
     }
     let mut given = Vec::new(context.alloc);
     'arguments: for (at, parameter) in item.parameters.iter().enumerate() {

@@ -1,6 +1,6 @@
 // Items with what their parameters stand for.
-ghost use Rattle.std.specs.Prelude.{◌≡◌, [], IfOk, map, option_map};
-ghost use Rattle.borsh_source.specs.Views.{given_in, given_of, parameters_of, stands, used};
+ghost use Rattle.std.specs.Prelude.{◌≡◌, ◌++◌, ◌∷◌, [], IfOk, map, option_map};
+ghost use Rattle.borsh_source.specs.Views.{given_in, given_of, named, parameters_of, stands, used};
 
 use crate::tree::Parameter;
 use borsh_walks::Declaration;
@@ -30,13 +30,16 @@ pub struct Scope<'a> {
     pub given: &'a [Given],
 }
 
-/// What the parameter of the name stands for, if there is one.
+/// What the parameter of the name stands for, if there is one; `Self` stands for what is behind those of the parameters.
 pub fn given_as<'a>(parameters: &[Parameter], given: &'a [Given], name: &str) -> Option<&'a Given>
     ensures { option_map (λ g. stands g.now) result
         ≡ given_of parameters.now (map stands given.now) name.now }
 {
     match parameters {
-        [] => None,
+        [] => match given {
+            [] => None,
+            [own, ..] => if name == "Self" { Some(own) } else { None },
+        },
         [parameter, parameters @ ..] => match given {
             [] => None,
             [first, others @ ..] => {
@@ -73,15 +76,31 @@ pub fn copy_given(alloc: Global, given: &Given) -> Result<Given, AllocError>
 }
 
 /// The same again.
+pub fn copy_all(alloc: Global, given: &[Given]) -> Result<Vec<Given>, AllocError>
+    ensures { IfOk result (λ gs. map stands gs.items ≡ map stands given.now) }
+{
+    let mut copies = Vec::new(alloc);
+    for stands in given {
+        copies.push(copy_given(alloc, stands)?)?;
+    }
+    Ok(copies)
+}
+
+/// The same again.
 pub fn copy_use(alloc: Global, one: &Use) -> Result<Use, AllocError>
     ensures { IfOk result (λ u. used u ≡ used one.now) }
 {
-    let mut given = Vec::new(alloc);
-    for stands in &one.given {
-        given.push(copy_given(alloc, stands)?)?;
-    }
     Ok(Use {
         item: one.item,
-        given,
+        given: copy_all(alloc, one.given.as_slice())?,
     })
+}
+
+/// What the parameters of an item stand for within it, and behind that its name, for which `Self` stands.
+pub fn given_within(alloc: Global, given: &[Given], name: &str) -> Result<Vec<Given>, AllocError>
+    ensures { IfOk result (λ gs. map stands gs.items ≡ map stands given.now ++ named name.now ∷ []) }
+{
+    let mut within = copy_all(alloc, given)?;
+    within.push(Given::Named(String::from_str(alloc, name)?))?;
+    Ok(within)
 }

@@ -4,13 +4,17 @@ use Rattle.borsh_definitions.specs.Described.{variant_bytes}
 use Rattle.borsh_source.specs.Forms.{entry}
 use Rattle.borsh_source.specs.Meaning.{name_with}
 use Rattle.borsh_source.specs.Views.{source_of, stands, used}
-use Rattle.borsh_source.proofs.Defining.{struct_brought, enum_brought}
+use Rattle.borsh_source.proofs.Defining.{struct_brought, enum_brought, within_at}
 use Rattle.borsh_source.proofs.items.add_item.Goals as goal
 
 pub returns-in_ok-add_fields-in-Struct : goal.returns-in_ok-add_fields-in-Struct
-returns-in_ok-add_fields-in-Struct c = struct_brought (source_of c.args.context.now) (used c.args.used.now) c.in-Some.item.now (sym c.in-Some.ensures) c.as_slice.result.now (map stands c.as_slice-2.result.now) c.as_slice.ensures.value (ap (map stands) c.as_slice-2.ensures.value) (string_bytes c.in_ok-name.name) c.in-Struct.fields c.in-Struct.is
-    (c.in_ok-name.ensures ∙ ap (λ n. name_with n (map stands c.as_slice-3.result.now)) c.as_str.ensures.value ∙ ap (λ l. name_with (string_bytes c.in-Some.item.now.name) (map stands l)) c.as_slice-3.ensures.value) c.in_ok-add_fields-in-Struct.ensures
+returns-in_ok-add_fields-in-Struct c =
+    let n = (c.in_ok-name.ensures ∙ ap (λ n. name_with n (map stands c.as_slice.result.now)) c.as_str.ensures.value ∙ ap (λ l. name_with (string_bytes c.in-Some.item.now.name) (map stands l)) c.as_slice.ensures.value) in
+    let w = (within_at (used c.args.used.now) c.in-Some.item.now (map stands c.as_slice-4.result.now) (map stands c.as_slice-2.result.now) c.as_str-2.result.now (ap (map stands) c.as_slice-4.ensures.value ∙ c.in_ok-given.ensures) (ap (map stands) c.as_slice-2.ensures.value) (c.as_str-2.ensures.value ∙ n)) in
+    struct_brought (source_of c.args.context.now) (used c.args.used.now) c.in-Some.item.now (sym c.in-Some.ensures) c.as_slice-3.result.now (map stands c.as_slice-4.result.now) c.as_slice-3.ensures.value w (string_bytes c.in_ok-name.name) c.in-Struct.fields c.in-Struct.is n c.in_ok-add_fields-in-Struct.ensures
 
 pub returns-in_ok-add_all-in-Enum : goal.returns-in_ok-add_all-in-Enum
-returns-in_ok-add_all-in-Enum c = enum_brought (source_of c.args.context.now) (used c.args.used.now) c.in-Some.item.now (sym c.in-Some.ensures) c.as_slice.result.now (map stands c.as_slice-2.result.now) c.as_slice.ensures.value (ap (map stands) c.as_slice-2.ensures.value) (string_bytes c.in_ok-name.name) c.as_str-item_name.result.now c.in-Enum.use_discriminant c.in-Enum.variants c.as_slice-variants.result.now (map variant_bytes c.in_ok-variants-in-Enum.variants.items) c.in-Some-explicit_tags.explicit (map entry c.in_ok-entries-in-Enum.entries.items) c.in-Enum.is c.as_slice-variants.ensures.value c.in-Some-explicit_tags.ensures.0 c.in-Some-explicit_tags.ensures.1
-    (c.in_ok-name.ensures ∙ ap (λ n. name_with n (map stands c.as_slice-3.result.now)) c.as_str.ensures.value ∙ ap (λ l. name_with (string_bytes c.in-Some.item.now.name) (map stands l)) c.as_slice-3.ensures.value) c.as_str-item_name.ensures.value (ap (map entry) c.in_ok-entries-in-Enum.ensures.items) c.in_ok-variants-in-Enum.ensures c.in_ok-add_all-in-Enum.ensures
+returns-in_ok-add_all-in-Enum c =
+    let n = (c.in_ok-name.ensures ∙ ap (λ n. name_with n (map stands c.as_slice.result.now)) c.as_str.ensures.value ∙ ap (λ l. name_with (string_bytes c.in-Some.item.now.name) (map stands l)) c.as_slice.ensures.value) in
+    let w = (within_at (used c.args.used.now) c.in-Some.item.now (map stands c.as_slice-4.result.now) (map stands c.as_slice-2.result.now) c.as_str-2.result.now (ap (map stands) c.as_slice-4.ensures.value ∙ c.in_ok-given.ensures) (ap (map stands) c.as_slice-2.ensures.value) (c.as_str-2.ensures.value ∙ n)) in
+    enum_brought (source_of c.args.context.now) (used c.args.used.now) c.in-Some.item.now (sym c.in-Some.ensures) c.as_slice-3.result.now (map stands c.as_slice-4.result.now) c.as_slice-3.ensures.value w (string_bytes c.in_ok-name.name) c.as_str-item_name.result.now c.in-Enum.use_discriminant c.in-Enum.variants c.as_slice-variants.result.now (map variant_bytes c.in_ok-variants-in-Enum.variants.items) c.in-Some-explicit_tags.explicit (map entry c.in_ok-entries-in-Enum.entries.items) c.in-Enum.is c.as_slice-variants.ensures.value c.in-Some-explicit_tags.ensures.0 c.in-Some-explicit_tags.ensures.1 n c.as_str-item_name.ensures.value (ap (map entry) c.in_ok-entries-in-Enum.ensures.items) c.in_ok-variants-in-Enum.ensures c.in_ok-add_all-in-Enum.ensures

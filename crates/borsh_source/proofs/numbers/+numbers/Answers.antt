@@ -1,6 +1,6 @@
 use Rattle.std.proofs.Common.{sym, ◌∙◌, ap, subst, Some}
 use Rattle.borsh_source.specs.Numbers.{IsNumber, literal, name, binary, parameter, constant}
-use Rattle.borsh_source.specs.Views.{source_of, parameters_of, given_in, stands}
+use Rattle.borsh_source.specs.Views.{IsFound, source_of, parameters_of, given_in, stands}
 use Rattle.borsh_source.proofs.Results.{ok_map, evaluates_outside}
 use Rattle.borsh_source.proofs.numbers.+numbers.Goals as goal
 
@@ -17,4 +17,4 @@ pub number_named-returns-in-Number : goal.number_named-returns-in-Number
 number_named-returns-in-Number t c = parameter (sym c.in-Some.ensures ∙ ap (λ g. Some (stands g)) c.in-Number.is)
 
 pub number_named-returns : goal.number_named-returns
-number_named-returns t c = ok_map c.value_of.result (λ n h. constant (sym c.in_default.ensures) c.in-Some-item.ensures c.in-Constant.is (evaluates_outside _ _ _ _ n c.outside.ensures.parameters c.outside.ensures.given h)) c.value_of.ensures
+number_named-returns t c = ok_map c.value_of.result (λ n h. constant (sym c.in_default.ensures) (subst (λ o. IsFound (source_of c.args.context.now) c.args.name.now o) c.in-Some-2.is c.in_ok-item.ensures) c.in-Constant.is (evaluates_outside _ _ _ _ n c.outside.ensures.parameters c.outside.ensures.given h)) c.value_of.ensures

@@ -1,8 +1,8 @@
 use Rattle.std.proofs.Common.{◌≡◌, length, Some, None, refl, ap, subst, arith}
 use Rattle.std.specs.Prelude.{slice_get, MatchOption}
-use Rattle.borsh_walks.specs.Tables.{mark_of}
-use Rattle.borsh_walks.proofs.Tables.{Updated, updated_by}
-use Rattle.borsh_source.proofs.Indexed.{Indexing, indexing_more, indexed_all}
+use Rattle.borsh_walks.proofs.Tables.{Updated}
+use Rattle.borsh_source.specs.Views.{mark_of}
+use Rattle.borsh_source.proofs.Indexed.{Indexing, indexing_more, indexed_all, updated_by}
 use Rattle.borsh_source.proofs.Lists.{item_at}
 use Rattle.borsh_source.proofs.context.Context.new.Goals as goal
 

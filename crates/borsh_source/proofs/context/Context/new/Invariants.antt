@@ -1,4 +1,4 @@
-use Rattle.borsh_walks.specs.Tables.{mark_of}
+use Rattle.borsh_source.specs.Views.{mark_of}
 use Rattle.borsh_source.proofs.Indexed.{Indexing}
 use Rattle.borsh_source.proofs.context.Context.new.Given as goal
 

@@ -1,6 +1,0 @@
-use Rattle.std.proofs.Common.{◌≡◌, map, take}
-use Rattle.borsh_source.specs.Views.{stands}
-use Rattle.borsh_source.proofs.uses.copy_use.Given as goal
-
-abbrev pub invariant-loop-stands : goal.invariant-loop-stands
-invariant-loop-stands l = map stands l.given.items ≡ map stands (take l.stands-index l.one.given.items)
