@@ -4,7 +4,7 @@ use crate::error::{Expected, Refusal, Stop};
 use crate::scanner::tokens_of;
 use crate::token::{Kind, Token};
 use borsh_source::{Expression, ExpressionKind, Place, Source, Type, TypeKind};
-use std::alloc::{AllocError, Global};
+use std::alloc::Global;
 use std::str;
 
 /// How deep types, expressions and what is in brackets may nest.
@@ -80,12 +80,7 @@ impl<'a> Cursor<'a> {
 
     /// The refusal of the token that comes next.
     pub fn refused(&self, expected: Expected) -> Stop {
-        let token = self.token(0);
-        Stop::Refused(Refusal {
-            from: token.from,
-            to: token.to,
-            expected,
-        })
+        refusal(self.token(0), expected)
     }
 
     /// The spelling of a token, of a raw word without `r#`.
@@ -168,7 +163,7 @@ impl<'a> Cursor<'a> {
         if token.kind != Kind::Word {
             return Err(self.refused(Expected::Name));
         }
-        let name = text_of(self.alloc, self.spelling(token))?;
+        let name = String::from_str(self.alloc, text_of(self.spelling(token)))?;
         self.skip();
         Ok(name)
     }
@@ -180,6 +175,23 @@ impl<'a> Cursor<'a> {
         Ok(index)
     }
 
+    /// A type of the name without arguments.
+    pub fn named(&mut self, place: Place, name: &str) -> Result<usize, Stop> {
+        let arguments = Vec::new(self.alloc);
+        self.applied(place, name, arguments)
+    }
+
+    /// A type of the name with these arguments.
+    pub fn applied(
+        &mut self,
+        place: Place,
+        name: &str,
+        arguments: Vec<usize>,
+    ) -> Result<usize, Stop> {
+        let name = String::from_str(self.alloc, name)?;
+        self.add_type(place, TypeKind::Path { name, arguments })
+    }
+
     /// Adds an expression to the tree, and gives its index.
     pub fn add_expression(&mut self, place: Place, kind: ExpressionKind) -> Result<usize, Stop> {
         let index = self.source.expressions.len();
@@ -188,9 +200,18 @@ impl<'a> Cursor<'a> {
     }
 }
 
+/// The refusal of a token.
+pub fn refusal(token: Token, expected: Expected) -> Stop {
+    Stop::Refused(Refusal {
+        from: token.from,
+        to: token.to,
+        expected,
+    })
+}
+
 /// The text of a word. A word of a text ends where no character is cut.
-pub fn text_of(alloc: Global, word: &[u8]) -> Result<String, AllocError> {
-    String::from_str(alloc, str::from_utf8(word).unwrap_or(""))
+pub fn text_of(word: &[u8]) -> &str {
+    str::from_utf8(word).unwrap_or("")
 }
 
 /// A tree with nothing in it.

@@ -16,7 +16,7 @@ pub enum TextError<'a> {
         met: &'a str,
         expected: Expected,
     },
-    /// Of JSON: the name of the type that is wrong, empty where there is none, and what would have been right.
+    /// No longer given: an error of JSON has a place too.
     Json {
         within: String,
         expected: Expected,
@@ -100,7 +100,7 @@ impl fmt::Display for Expected {
             Expected::TrueOrFalse => f.write_str("`true` or `false`"),
             Expected::TextEnd => f.write_str("no more"),
             Expected::LessDepth => f.write_str("at most 128 types or brackets in one another"),
-            Expected::Json => f.write_str("JSON"),
+            Expected::Json => f.write_str("a value of JSON"),
         }
     }
 }
@@ -125,12 +125,7 @@ impl<'a> fmt::Display for TextError<'a> {
                 }
                 write!(f, ", expected {expected}")
             }
-            TextError::Json { within, expected } => {
-                if !within.is_empty() {
-                    write!(f, "`{within}`: ")?;
-                }
-                write!(f, "expected {expected}")
-            }
+            TextError::Json { expected, .. } => write!(f, "expected {expected}"),
         }
     }
 }

@@ -5,13 +5,8 @@ use crate::numbers::number_of;
 use crate::token::Kind;
 use borsh_source::{ExpressionKind, Operator};
 
-/// How strongly an operator binds, and how many marks it has.
-#[derive(Clone, Copy)]
-struct Binding {
-    operator: Operator,
-    strength: u8,
-    marks: u8,
-}
+/// An operator, how strongly it binds, and how many marks it has.
+type Binding = (Operator, u8, u8);
 
 /// Above the strength of each operator.
 const TIGHTEST: u8 = 7;
@@ -36,23 +31,22 @@ impl<'a> Cursor<'a> {
         let place = self.place();
         let mut left = self.operand(depth - 1)?;
         for _ in 0..self.most() {
-            let Some(binding) = self.binding() else {
+            let Some((operator, binds, marks)) = self.binding() else {
                 break;
             };
-            if binding.strength < strength {
+            if binds < strength {
                 break;
             }
-            self.skip_marks(binding.marks);
-            let right = self.binary(depth - 1, binding.strength.saturating_add(1))?;
-            let operator = binding.operator;
-            left = self.add_expression(
-                place,
-                ExpressionKind::Binary {
-                    operator,
-                    left,
-                    right,
-                },
-            )?;
+            for _ in 0..marks {
+                self.skip();
+            }
+            let right = self.binary(depth - 1, binds.saturating_add(1))?;
+            let kind = ExpressionKind::Binary {
+                operator,
+                left,
+                right,
+            };
+            left = self.add_expression(place, kind)?;
         }
         Ok(left)
     }
@@ -144,13 +138,6 @@ impl<'a> Cursor<'a> {
         Ok(())
     }
 
-    fn skip_marks(&mut self, marks: u8) {
-        self.skip();
-        if marks == 2 {
-            self.skip();
-        }
-    }
-
     /// The operator that comes next, if one does.
     fn binding(&self) -> Option<Binding> {
         let Kind::Mark(mark) = self.kind() else {
@@ -158,29 +145,21 @@ impl<'a> Cursor<'a> {
         };
         if self.is_pair(mark, mark) {
             return match mark {
-                b'<' => bind(Operator::ShiftLeft, 3, 2),
-                b'>' => bind(Operator::ShiftRight, 3, 2),
+                b'<' => Some((Operator::ShiftLeft, 3, 2)),
+                b'>' => Some((Operator::ShiftRight, 3, 2)),
                 _ => None,
             };
         }
         match mark {
-            b'|' => bind(Operator::Or, 0, 1),
-            b'^' => bind(Operator::Xor, 1, 1),
-            b'&' => bind(Operator::And, 2, 1),
-            b'+' => bind(Operator::Add, 4, 1),
-            b'-' => bind(Operator::Subtract, 4, 1),
-            b'*' => bind(Operator::Multiply, 5, 1),
-            b'/' => bind(Operator::Divide, 5, 1),
-            b'%' => bind(Operator::Remainder, 5, 1),
+            b'|' => Some((Operator::Or, 0, 1)),
+            b'^' => Some((Operator::Xor, 1, 1)),
+            b'&' => Some((Operator::And, 2, 1)),
+            b'+' => Some((Operator::Add, 4, 1)),
+            b'-' => Some((Operator::Subtract, 4, 1)),
+            b'*' => Some((Operator::Multiply, 5, 1)),
+            b'/' => Some((Operator::Divide, 5, 1)),
+            b'%' => Some((Operator::Remainder, 5, 1)),
             _ => None,
         }
     }
-}
-
-fn bind(operator: Operator, strength: u8, marks: u8) -> Option<Binding> {
-    Some(Binding {
-        operator,
-        strength,
-        marks,
-    })
 }

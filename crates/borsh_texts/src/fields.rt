@@ -37,7 +37,7 @@ impl<'a> Cursor<'a> {
         let name = self.field_name(has_name)?;
         let mut written = self.type_index(MAX_DEPTH)?;
         if attributes.has_other_bytes {
-            written = self.named_type("serialize_with")?;
+            written = self.named(self.place(), "serialize_with")?;
         }
         Ok(Field {
             place,

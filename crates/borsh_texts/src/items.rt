@@ -57,7 +57,8 @@ impl<'a> Cursor<'a> {
         self.skip_item(!has_no_body)
     }
 
-    fn add_item(
+    /// Adds an item to the tree.
+    pub fn add_item(
         &mut self,
         place: Place,
         name: String,

@@ -9,6 +9,7 @@ pub mod error;
 mod expressions;
 mod fields;
 mod items;
+mod json;
 mod numbers;
 mod objects;
 mod parse;

@@ -1,4 +1,5 @@
 // Numbers as Rust spells them.
+use crate::cursor::text_of;
 use crate::endings::piece;
 
 /// The number that is spelled so, with its radix, its underscores and its suffix; none if it isn't whole, or above 2^64 - 1.
@@ -45,15 +46,18 @@ fn digit_of(byte: u8, radix: u64) -> Option<u64> {
 
 /// Whether this is the name of a type of whole numbers.
 pub fn is_suffix(word: &[u8]) -> bool {
-    let Some(first) = word.first() else {
-        return false;
-    };
-    let width = piece(word, 1, word.len());
-    let is_width = width == b"8".as_slice()
-        || width == b"16".as_slice()
-        || width == b"32".as_slice()
-        || width == b"64".as_slice()
-        || width == b"128".as_slice()
-        || width == b"size".as_slice();
-    (*first == b'u' || *first == b'i') && is_width
+    matches!(
+        text_of(word),
+        "u8" | "u16"
+            | "u32"
+            | "u64"
+            | "u128"
+            | "usize"
+            | "i8"
+            | "i16"
+            | "i32"
+            | "i64"
+            | "i128"
+            | "isize"
+    )
 }

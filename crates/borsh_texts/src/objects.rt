@@ -1,121 +1,36 @@
 // Anchor IDLs and the schema objects of borsh-js, as a tree.
-use crate::error::Expected;
+use crate::cursor::{Cursor, MAX_DEPTH, refusal};
+use crate::error::{Expected, Stop};
+use crate::json::Value;
 use crate::numbers::number_of;
-use borsh_source::{
-    Expression, ExpressionKind, Field, Fields, Item, ItemKind, Parameter, Place, Source, Type,
-    TypeKind, Variant,
-};
-use json::{Scratch, Value};
-use std::alloc::{AllocError, AllocFailed, Global};
+use crate::token::Kind;
+use borsh_source::{ExpressionKind, Field, Fields, ItemKind, Parameter, Place, TypeKind, Variant};
+use std::alloc::{AllocError, Global};
 
 /// The name of a borsh-js schema's own type.
-pub const ROOT: &str = "Schema";
-
-/// Types may nest so deep.
-const MAX_DEPTH: usize = 64;
-
-/// JSON has no places.
-const NOWHERE: Place = Place { line: 0, column: 0 };
-
-/// Why JSON has no tree: the name of the type in which reading stopped, and what would have been right.
-#[derive(Drop)]
-pub enum JsonStop {
-    OutOfMemory,
-    Refused(String, Expected),
-}
+const ROOT: &str = "Schema";
 
 /// The index of a type or an expression.
-type Indexed = Result<usize, JsonStop>;
+type Indexed = Result<usize, Stop>;
 
-impl From<AllocError> for JsonStop {
-    fn from(_: AllocError) -> JsonStop {
-        JsonStop::OutOfMemory
-    }
-}
-
-impl<T: Drop> From<AllocFailed<T>> for JsonStop {
-    fn from(_: AllocFailed<T>) -> JsonStop {
-        JsonStop::OutOfMemory
-    }
-}
-
-/// The tree of an IDL, or of a schema object.
-pub fn source_in_json(alloc: Global, text: &str) -> Result<Source, JsonStop> {
-    let mut scratch = Scratch::new(alloc);
-    let value = match Value::parse(alloc, text, &mut scratch) {
-        Ok(value) => value,
-        Err(json::Error::OutOfMemory) => return Err(JsonStop::OutOfMemory),
-        Err(_) => return Err(refused(alloc, "", Expected::Json)),
-    };
-    let mut reader = Reader {
-        alloc,
-        source: Source {
-            items: Vec::new(alloc),
-            types: Vec::new(alloc),
-            expressions: Vec::new(alloc),
-        },
-    };
-    reader.whole(&value)?;
-    Ok(reader.source)
-}
-
-fn refused(alloc: Global, within: &str, expected: Expected) -> JsonStop {
-    match String::from_str(alloc, within) {
-        Ok(within) => JsonStop::Refused(within, expected),
-        Err(_) => JsonStop::OutOfMemory,
-    }
-}
-
-/// The elements of the array of this key; none if there is none.
-fn items_at<'v, 'a>(value: &'v Value<'a>, key: &str) -> &'v [Value<'a>] {
-    // An object has no elements.
-    elements_of(value.get(key).unwrap_or(value))
-}
-
-/// The elements of an array; none of anything else.
-fn elements_of<'v, 'a>(value: &'v Value<'a>) -> &'v [Value<'a>] {
-    match value {
-        Value::Array(items) => items.as_slice(),
-        _ => &[],
-    }
-}
-
-/// The members of an object; none of anything else.
-fn members_of<'v, 'a>(value: &'v Value<'a>) -> &'v [(&'a str, Value<'a>)] {
-    match value {
-        Value::Object(members) => members.as_slice(),
-        _ => &[],
-    }
-}
-
-/// The text of this key; empty if there is none.
-fn text_at<'a>(value: &Value<'a>, key: &str) -> &'a str {
-    match value.get(key) {
-        Some(Value::String(text)) => *text,
-        _ => "",
-    }
-}
-
-/// What has been read.
-#[derive(Drop)]
-struct Reader {
-    alloc: Global,
-    source: Source,
-}
-
-impl Reader {
-    fn whole(&mut self, value: &Value<'_>) -> Result<(), JsonStop> {
+impl<'a> Cursor<'a> {
+    /// The items of an IDL, or of a schema object.
+    pub fn objects(&mut self) -> Result<(), Stop> {
+        let value = self.value(MAX_DEPTH)?;
+        if self.kind() != Kind::End {
+            return Err(self.refused(Expected::TextEnd));
+        }
         let is_idl = value.get("types").is_some()
             || value.get("accounts").is_some()
             || value.get("instructions").is_some();
         if !is_idl {
-            let root = self.type_of(value, ROOT, MAX_DEPTH)?;
-            return self.add_root(root);
+            let root = self.type_of(&value, ROOT, MAX_DEPTH)?;
+            return self.add_root(value.token.place, root);
         }
-        for item in items_at(value, "types") {
-            self.definition(item, is_account(value, text_at(item, "name")))?;
+        for item in value.list("types") {
+            self.definition(item, is_account(&value, item.text("name")))?;
         }
-        for item in items_at(value, "accounts") {
+        for item in value.list("accounts") {
             if item.get("type").is_some() {
                 self.definition(item, true)?;
             }
@@ -124,34 +39,31 @@ impl Reader {
     }
 
     /// Names the type of a schema object, unless it has the name already.
-    fn add_root(&mut self, root: usize) -> Result<(), JsonStop> {
-        if self.has_item(ROOT) {
+    fn add_root(&mut self, place: Place, root: usize) -> Result<(), Stop> {
+        let mut items = self.source.items.iter();
+        if items.any(|item| item.name.as_str() == ROOT) {
             return Ok(());
         }
-        self.add_item(ROOT, Vec::new(self.alloc), ItemKind::Alias(root))
-    }
-
-    fn has_item(&self, name: &str) -> bool {
-        self.source
-            .items
-            .iter()
-            .any(|item| item.name.as_str() == name)
+        let name = String::from_str(self.alloc, ROOT)?;
+        self.add_item(place, name, Vec::new(self.alloc), ItemKind::Alias(root))
     }
 
     /// Adds a type of an IDL; the bytes of an account begin with its discriminator.
-    fn definition(&mut self, item: &Value<'_>, is_account: bool) -> Result<(), JsonStop> {
-        let name = text_at(item, "name");
+    fn definition(&mut self, item: &Value<'_>, is_account: bool) -> Result<(), Stop> {
         let Some(body) = item.get("type") else {
-            return Err(refused(self.alloc, name, Expected::Type));
+            return Err(refusal(item.token, Expected::Type));
         };
-        let parameters = self.parameters(item)?;
-        let serialization = text_at(item, "serialization");
-        let kind = if !serialization.is_empty() && serialization != "borsh" {
-            ItemKind::Alias(self.named(serialization)?)
-        } else {
-            self.kind_of(body, name, is_account)?
+        let name = item.text("name");
+        let parameters = self.generics(item)?;
+        let place = item.get("name").unwrap_or(item).token.place;
+        let kind = match item.get("serialization") {
+            Some(other) if other.text != "borsh" => {
+                ItemKind::Alias(self.named(other.token.place, other.text)?)
+            }
+            _ => self.kind_of(body, name, is_account)?,
         };
-        self.add_item(name, parameters, kind)
+        let name = String::from_str(self.alloc, name)?;
+        self.add_item(place, name, parameters, kind)
     }
 
     fn kind_of(
@@ -159,207 +71,156 @@ impl Reader {
         body: &Value<'_>,
         name: &str,
         is_account: bool,
-    ) -> Result<ItemKind, JsonStop> {
-        match text_at(body, "kind") {
+    ) -> Result<ItemKind, Stop> {
+        match body.text("kind") {
             "struct" => {
-                let fields = items_at(body, "fields");
-                Ok(ItemKind::Struct(self.fields(fields, name, is_account)?))
+                let start = if is_account {
+                    Some(body.token.place)
+                } else {
+                    None
+                };
+                Ok(ItemKind::Struct(self.listed_fields(body.list("fields"), name, start)?))
             }
             "enum" => Ok(ItemKind::Enum {
                 use_discriminant: None,
-                variants: self.variants(items_at(body, "variants"), name)?,
+                variants: self.listed_variants(body.list("variants"), name)?,
             }),
             _ => {
                 let Some(alias) = body.get("alias").or(body.get("value")) else {
-                    return Err(refused(self.alloc, name, Expected::Type));
+                    return Err(refusal(body.token, Expected::Type));
                 };
                 Ok(ItemKind::Alias(self.type_of(alias, name, MAX_DEPTH)?))
             }
         }
     }
 
-    fn parameters(&mut self, item: &Value<'_>) -> Result<Vec<Parameter>, JsonStop> {
+    fn generics(&mut self, item: &Value<'_>) -> Result<Vec<Parameter>, Stop> {
         let mut parameters = Vec::new(self.alloc);
-        for generic in items_at(item, "generics") {
+        for generic in item.list("generics") {
             parameters.push(Parameter {
-                name: String::from_str(self.alloc, text_at(generic, "name"))?,
-                constant: text_at(generic, "kind") == "const",
+                name: String::from_str(self.alloc, generic.text("name"))?,
+                constant: generic.text("kind") == "const",
             })?;
         }
         Ok(parameters)
     }
 
-    /// Fields with names, or without.
-    fn fields(
+    /// Fields with names, or without; behind a discriminator, if there is a place for that.
+    fn listed_fields(
         &mut self,
         items: &[Value<'_>],
         within: &str,
-        is_account: bool,
-    ) -> Result<Fields, JsonStop> {
+        discriminator: Option<Place>,
+    ) -> Result<Fields, Stop> {
         let mut fields = Vec::new(self.alloc);
-        let mut has_names = is_account;
-        if is_account {
-            let byte = self.named("u8")?;
-            let discriminator = self.array(byte, 8)?;
-            fields.push(self.field("discriminator", discriminator)?)?;
+        let mut has_names = discriminator.is_some();
+        if let Some(place) = discriminator {
+            let byte = self.named(place, "u8")?;
+            let bytes = self.array(place, byte, 8)?;
+            fields.push(self.field_of(place, "discriminator", bytes)?)?;
         }
         for item in items {
-            let name = text_at(item, "name");
+            let name = item.text("name");
             has_names = has_names || !name.is_empty();
             let written = match item.get("type") {
                 Some(written) if !name.is_empty() => self.type_of(written, within, MAX_DEPTH)?,
                 _ => self.type_of(item, within, MAX_DEPTH)?,
             };
-            fields.push(self.field(name, written)?)?;
+            fields.push(self.field_of(item.token.place, name, written)?)?;
         }
         Ok(fields_of(fields, has_names))
     }
 
-    fn field(&mut self, name: &str, written: usize) -> Result<Field, JsonStop> {
+    fn field_of(&mut self, place: Place, name: &str, written: usize) -> Result<Field, Stop> {
         Ok(Field {
-            place: NOWHERE,
+            place,
             name: String::from_str(self.alloc, name)?,
             written,
             skipped: false,
         })
     }
 
-    fn variants(&mut self, items: &[Value<'_>], within: &str) -> Result<Vec<Variant>, JsonStop> {
+    fn listed_variants(&mut self, items: &[Value<'_>], within: &str) -> Result<Vec<Variant>, Stop> {
         let mut variants = Vec::new(self.alloc);
         for item in items {
-            let fields = self.fields(items_at(item, "fields"), within, false)?;
-            variants.push(self.variant(text_at(item, "name"), fields)?)?;
+            let fields = self.listed_fields(item.list("fields"), within, None)?;
+            variants.push(self.variant_named(item.token.place, item.text("name"), fields)?)?;
         }
         Ok(variants)
     }
 
-    fn variant(&mut self, name: &str, fields: Fields) -> Result<Variant, JsonStop> {
+    fn variant_named(&mut self, place: Place, name: &str, fields: Fields) -> Result<Variant, Stop> {
         Ok(Variant {
-            place: NOWHERE,
+            place,
             name: String::from_str(self.alloc, name)?,
             discriminant: None,
             fields,
         })
     }
 
-    fn add_item(
-        &mut self,
-        name: &str,
-        parameters: Vec<Parameter>,
-        kind: ItemKind,
-    ) -> Result<(), JsonStop> {
-        let name = String::from_str(self.alloc, name)?;
-        self.source.items.push(Item {
-            place: NOWHERE,
-            name,
-            parameters,
-            kind,
-        })?;
-        Ok(())
+    fn of_one(&mut self, place: Place, name: &str, argument: usize) -> Indexed {
+        let arguments = vec![in self.alloc; argument]?;
+        self.applied(place, name, arguments)
     }
 
-    fn add_type(&mut self, kind: TypeKind) -> Indexed {
-        let index = self.source.types.len();
-        self.source.types.push(Type {
-            place: NOWHERE,
-            kind,
-        })?;
-        Ok(index)
-    }
-
-    fn add_expression(&mut self, kind: ExpressionKind) -> Indexed {
-        let index = self.source.expressions.len();
-        self.source.expressions.push(Expression {
-            place: NOWHERE,
-            kind,
-        })?;
-        Ok(index)
-    }
-
-    /// A type by its name in Rust, without arguments.
-    fn named(&mut self, name: &str) -> Indexed {
-        self.applied(name, Vec::new(self.alloc))
-    }
-
-    fn applied(&mut self, name: &str, arguments: Vec<usize>) -> Indexed {
-        let name = String::from_str(self.alloc, name)?;
-        self.add_type(TypeKind::Path { name, arguments })
-    }
-
-    fn of_one(&mut self, name: &str, argument: usize) -> Indexed {
-        let mut arguments = Vec::new(self.alloc);
-        arguments.push(argument)?;
-        self.applied(name, arguments)
-    }
-
-    fn of_two(&mut self, name: &str, first: usize, second: usize) -> Indexed {
-        let mut arguments = Vec::new(self.alloc);
-        arguments.push(first)?;
-        arguments.push(second)?;
-        self.applied(name, arguments)
-    }
-
-    fn array(&mut self, element: usize, count: u64) -> Indexed {
-        let length = self.add_expression(ExpressionKind::Number(count))?;
-        self.add_type(TypeKind::Array { element, length })
+    fn array(&mut self, place: Place, element: usize, count: u64) -> Indexed {
+        let length = self.add_expression(place, ExpressionKind::Number(count))?;
+        self.add_type(place, TypeKind::Array { element, length })
     }
 
     /// A type that is a word.
-    fn word(&mut self, word: &str) -> Indexed {
+    fn type_named(&mut self, place: Place, word: &str) -> Indexed {
         match word {
-            "string" => self.named("String"),
+            "string" => self.named(place, "String"),
             "bytes" => {
-                let byte = self.named("u8")?;
-                self.of_one("Vec", byte)
+                let byte = self.named(place, "u8")?;
+                self.of_one(place, "Vec", byte)
             }
             "pubkey" | "publicKey" => {
-                let byte = self.named("u8")?;
-                self.array(byte, 32)
+                let byte = self.named(place, "u8")?;
+                self.array(place, byte, 32)
             }
-            _ => self.named(word),
+            _ => self.named(place, word),
         }
     }
 
     /// The type that a value is: its index.
-    #[cycle(types)]
+    #[cycle(objects)]
     fn type_of(&mut self, value: &Value<'_>, within: &str, depth: usize) -> Indexed {
         if depth == 0 {
-            return Err(refused(self.alloc, within, Expected::LessDepth));
+            return Err(refusal(value.token, Expected::LessDepth));
         }
-        if let Value::String(word) = value {
-            return self.word(word);
+        if value.is_text() {
+            return self.type_named(value.token.place, value.text);
         }
-        let [(key, inner), ..] = members_of(value) else {
-            return Err(refused(self.alloc, within, Expected::Type));
-        };
-        self.made(key, inner, within, depth - 1)
+        match value.parts.as_slice() {
+            [] => Err(refusal(value.token, Expected::Type)),
+            [inner, ..] => self.made(inner, within, depth - 1),
+        }
     }
 
     /// The type that a word makes of others.
-    #[cycle(types)]
-    fn made(&mut self, key: &str, inner: &Value<'_>, within: &str, depth: usize) -> Indexed {
-        if let Some(name) = list_named(key) {
+    #[cycle(objects)]
+    fn made(&mut self, inner: &Value<'_>, within: &str, depth: usize) -> Indexed {
+        if let Some(name) = list_named(inner.name) {
             let element = self.type_of(inner, within, depth)?;
-            return self.of_one(name, element);
+            return self.of_one(inner.key.place, name, element);
         }
-        match key {
+        match inner.name {
             "map" | "hashMap" => self.made_of_two("HashMap", inner, within, depth),
             "bTreeMap" => self.made_of_two("BTreeMap", inner, within, depth),
             "array" => self.array_of(inner, within, depth),
             "defined" => self.defined(inner, within, depth),
-            "tuple" => self.tuple(inner, within, depth),
-            "struct" => self.structure(inner, within, depth),
-            "enum" => self.enumeration(inner, within, depth),
-            "generic" => match inner {
-                Value::String(name) => self.named(name),
-                _ => Err(refused(self.alloc, within, Expected::Name)),
-            },
-            _ => Err(refused(self.alloc, within, Expected::Type)),
+            "tuple" => self.tuple_of(inner, within, depth),
+            "struct" => self.made_struct(inner, within, depth),
+            "enum" => self.made_enum(inner, within, depth),
+            "generic" if inner.is_text() => self.named(inner.token.place, inner.text),
+            _ => Err(refusal(inner.key, Expected::Type)),
         }
     }
 
     /// A map: `[K, V]`, or `{"key": K, "value": V}`.
-    #[cycle(types)]
+    #[cycle(objects)]
     fn made_of_two(
         &mut self,
         name: &str,
@@ -367,112 +228,111 @@ impl Reader {
         within: &str,
         depth: usize,
     ) -> Indexed {
-        let first = inner.get("key").or(inner.at(0));
-        let second = inner.get("value").or(inner.at(1));
-        let (Some(first), Some(second)) = (first, second) else {
-            return Err(refused(self.alloc, within, Expected::Type));
+        let (Some(first), Some(second)) = (inner.part("key", 0), inner.part("value", 1)) else {
+            return Err(refusal(inner.token, Expected::Type));
         };
         let key = within_part(self.alloc, within, "key")?;
         let value = within_part(self.alloc, within, "value")?;
         let first = self.type_of(first, key.as_str(), depth)?;
         let second = self.type_of(second, value.as_str(), depth)?;
-        self.of_two(name, first, second)
+        let arguments = vec![in self.alloc; first, second]?;
+        self.applied(inner.token.place, name, arguments)
     }
 
     /// `[T, N]`, `{"type": T, "len": N}`; without `len` it is a list.
-    #[cycle(types)]
+    #[cycle(objects)]
     fn array_of(&mut self, inner: &Value<'_>, within: &str, depth: usize) -> Indexed {
-        let Some(element) = inner.get("type").or(inner.at(0)) else {
-            return Err(refused(self.alloc, within, Expected::Type));
+        let place = inner.token.place;
+        let Some(element) = inner.part("type", 0) else {
+            return Err(refusal(inner.token, Expected::Type));
         };
         let element = self.type_of(element, within, depth)?;
-        match inner.get("len").or(inner.at(1)) {
-            None => self.of_one("Vec", element),
+        match inner.part("len", 1) {
+            None => self.of_one(place, "Vec", element),
             Some(length) => {
-                let length = self.length(length, within)?;
-                self.add_type(TypeKind::Array { element, length })
+                let length = self.length(length)?;
+                self.add_type(place, TypeKind::Array { element, length })
             }
         }
     }
 
     /// A number, or the name of a parameter.
-    fn length(&mut self, value: &Value<'_>, within: &str) -> Indexed {
-        let name = text_at(value, "generic");
+    fn length(&mut self, value: &Value<'_>) -> Indexed {
+        let place = value.token.place;
+        let name = value.text("generic");
         if !name.is_empty() {
             let name = String::from_str(self.alloc, name)?;
-            return self.add_expression(ExpressionKind::Name(name));
+            return self.add_expression(place, ExpressionKind::Name(name));
         }
-        match value.as_u64() {
-            Some(number) => self.add_expression(ExpressionKind::Number(number)),
-            None => Err(refused(self.alloc, within, Expected::Number)),
+        match number_of(value.text.as_bytes()) {
+            Some(number) => self.add_expression(place, ExpressionKind::Number(number)),
+            None => Err(refusal(value.token, Expected::Number)),
         }
     }
 
-    /// An argument that is a number.
-    fn constant(&mut self, spelling: &str, within: &str) -> Indexed {
-        let Some(number) = number_of(spelling.as_bytes()) else {
-            return Err(refused(self.alloc, within, Expected::Number));
+    /// `{"kind": "type", "type": T}`, or `{"kind": "const", "value": "8"}`.
+    #[cycle(objects)]
+    fn generic(&mut self, value: &Value<'_>, within: &str, depth: usize) -> Indexed {
+        if let Some(written) = value.get("type") {
+            return self.type_of(written, within, depth);
+        }
+        let Some(number) = number_of(value.text("value").as_bytes()) else {
+            return Err(refusal(value.token, Expected::Number));
         };
-        let length = self.add_expression(ExpressionKind::Number(number))?;
-        self.add_type(TypeKind::Constant(length))
+        let place = value.token.place;
+        let length = self.add_expression(place, ExpressionKind::Number(number))?;
+        self.add_type(place, TypeKind::Constant(length))
     }
 
     /// A type by its name, and its arguments.
-    #[cycle(types)]
+    #[cycle(objects)]
     fn defined(&mut self, inner: &Value<'_>, within: &str, depth: usize) -> Indexed {
-        if let Value::String(name) = inner {
-            return self.named(name);
+        let place = inner.token.place;
+        if inner.is_text() {
+            return self.named(place, inner.text);
         }
         let mut arguments = Vec::new(self.alloc);
-        for generic in items_at(inner, "generics") {
-            // `{"kind": "type", "type": T}`, `{"kind": "const", "value": "8"}`
-            arguments.push(match generic.get("type") {
-                Some(written) => self.type_of(written, within, depth)?,
-                None => self.constant(text_at(generic, "value"), within)?,
-            })?;
+        for argument in inner.list("generics") {
+            arguments.push(self.generic(argument, within, depth)?)?;
         }
-        self.applied(text_at(inner, "name"), arguments)
+        self.applied(place, inner.text("name"), arguments)
     }
 
-    #[cycle(types)]
-    fn tuple(&mut self, inner: &Value<'_>, within: &str, depth: usize) -> Indexed {
+    #[cycle(objects)]
+    fn tuple_of(&mut self, inner: &Value<'_>, within: &str, depth: usize) -> Indexed {
         let mut parts = Vec::new(self.alloc);
-        for part in elements_of(inner) {
+        for part in inner.parts.iter() {
             parts.push(self.type_of(part, within, depth)?)?;
         }
-        self.add_type(TypeKind::Tuple(parts))
+        self.add_type(inner.token.place, TypeKind::Tuple(parts))
     }
 
     /// `{"struct": {"x": T}}`: an item by the names that lead to it.
-    #[cycle(types)]
-    fn structure(&mut self, inner: &Value<'_>, within: &str, depth: usize) -> Indexed {
-        let fields = self.members(inner, within, depth)?;
-        self.add_item(within, Vec::new(self.alloc), ItemKind::Struct(fields))?;
-        self.named(within)
+    #[cycle(objects)]
+    fn made_struct(&mut self, inner: &Value<'_>, within: &str, depth: usize) -> Indexed {
+        let place = inner.token.place;
+        let fields = self.fields_in(inner, within, depth)?;
+        self.add_made(place, within, ItemKind::Struct(fields))
     }
 
     /// The fields of an object of types.
-    #[cycle(types)]
-    fn members(
-        &mut self,
-        inner: &Value<'_>,
-        within: &str,
-        depth: usize,
-    ) -> Result<Fields, JsonStop> {
+    #[cycle(objects)]
+    fn fields_in(&mut self, inner: &Value<'_>, within: &str, depth: usize) -> Result<Fields, Stop> {
         let mut fields = Vec::new(self.alloc);
-        for (name, value) in members_of(inner) {
-            let inside = within_part(self.alloc, within, name)?;
-            let written = self.type_of(value, inside.as_str(), depth)?;
-            fields.push(self.field(name, written)?)?;
+        for part in inner.parts.iter() {
+            let inside = within_part(self.alloc, within, part.name)?;
+            let written = self.type_of(part, inside.as_str(), depth)?;
+            fields.push(self.field_of(part.key.place, part.name, written)?)?;
         }
         Ok(fields_of(fields, true))
     }
 
     /// `{"enum": [{"struct": {"Name": T}}]}`
-    #[cycle(types)]
-    fn enumeration(&mut self, inner: &Value<'_>, within: &str, depth: usize) -> Indexed {
+    #[cycle(objects)]
+    fn made_enum(&mut self, inner: &Value<'_>, within: &str, depth: usize) -> Indexed {
+        let place = inner.token.place;
         let mut variants = Vec::new(self.alloc);
-        for item in elements_of(inner) {
+        for item in inner.parts.iter() {
             let variant = item.get("struct").unwrap_or(item);
             variants.push(self.variant_of(variant, within, depth)?)?;
         }
@@ -480,32 +340,37 @@ impl Reader {
             use_discriminant: None,
             variants,
         };
-        self.add_item(within, Vec::new(self.alloc), kind)?;
-        self.named(within)
+        self.add_made(place, within, kind)
+    }
+
+    /// Adds an item without parameters, and gives the index of the type of its name.
+    fn add_made(&mut self, place: Place, name: &str, kind: ItemKind) -> Indexed {
+        let item = String::from_str(self.alloc, name)?;
+        self.add_item(place, item, Vec::new(self.alloc), kind)?;
+        self.named(place, name)
     }
 
     /// `{"Name": T}`, where the fields of a struct are those of the variant.
-    #[cycle(types)]
+    #[cycle(objects)]
     fn variant_of(
         &mut self,
         value: &Value<'_>,
         within: &str,
         depth: usize,
-    ) -> Result<Variant, JsonStop> {
-        let [(name, written)] = members_of(value) else {
-            return Err(refused(self.alloc, within, Expected::Name));
+    ) -> Result<Variant, Stop> {
+        let [inner] = value.parts.as_slice() else {
+            return Err(refusal(value.token, Expected::Name));
         };
-        let fields = match written.get("struct") {
-            Some(members) => self.members(members, within, depth)?,
+        let place = inner.key.place;
+        let fields = match inner.get("struct") {
+            Some(members) => self.fields_in(members, within, depth)?,
             None => {
-                let mut fields = Vec::new(self.alloc);
-                let inside = within_part(self.alloc, within, name)?;
-                let index = self.type_of(written, inside.as_str(), depth)?;
-                fields.push(self.field("", index)?)?;
-                Fields::Unnamed(fields)
+                let inside = within_part(self.alloc, within, inner.name)?;
+                let written = self.type_of(inner, inside.as_str(), depth)?;
+                Fields::Unnamed(vec![in self.alloc; self.field_of(place, "", written)?]?)
             }
         };
-        self.variant(name, fields)
+        self.variant_named(place, inner.name, fields)
     }
 }
 
@@ -537,7 +402,6 @@ fn within_part(alloc: Global, within: &str, name: &str) -> Result<String, AllocE
 
 /// Whether an IDL has an account of this name.
 fn is_account(idl: &Value<'_>, name: &str) -> bool {
-    items_at(idl, "accounts")
-        .iter()
-        .any(|item| text_at(item, "name") == name)
+    let accounts = idl.list("accounts");
+    accounts.iter().any(|item| item.text("name") == name)
 }

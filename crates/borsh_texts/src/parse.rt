@@ -1,8 +1,6 @@
 // A text as a tree.
 use crate::cursor::{Cursor, MAX_DEPTH};
-use crate::endings::is_blank;
 use crate::error::{Expected, Stop, TextError, error_in};
-use crate::objects::{JsonStop, source_in_json};
 use crate::token::Kind;
 use borsh_source::Source;
 use std::alloc::Global;
@@ -19,13 +17,6 @@ use std::mem;
 /// assert_eq!(rt; source.items.len(), 1);
 /// ```
 pub fn parse_items<'a>(alloc: Global, text: &'a str) -> Result<Source, TextError<'a>> {
-    if is_object(text.as_bytes()) {
-        return match source_in_json(alloc, text) {
-            Ok(source) => Ok(source),
-            Err(JsonStop::OutOfMemory) => Err(TextError::OutOfMemory),
-            Err(JsonStop::Refused(within, expected)) => Err(TextError::Json { within, expected }),
-        };
-    }
     match items_of(alloc, text.as_bytes()) {
         Ok(source) => Ok(source),
         Err(stop) => Err(error_in(text, stop)),
@@ -51,14 +42,13 @@ pub fn parse_type<'a>(
     }
 }
 
-/// Whether the text begins with a brace, as no Rust text does.
-fn is_object(text: &[u8]) -> bool {
-    text.iter().find(|byte| !is_blank(**byte)) == Some(&b'{')
-}
-
 fn items_of(alloc: Global, text: &[u8]) -> Result<Source, Stop> {
     let mut cursor = Cursor::new(alloc, text, 1)?;
-    cursor.items()?;
+    if cursor.is_mark(b'{') {
+        cursor.objects()?;
+    } else {
+        cursor.items()?;
+    }
     Ok(cursor.into_source())
 }
 

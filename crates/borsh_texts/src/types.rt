@@ -37,19 +37,9 @@ impl<'a> Cursor<'a> {
     /// A type of functions, traits or pointers, or of a macro, which has no encoding: by the word or mark that comes next, as if that
     /// were its name.
     fn other_type(&mut self) -> Result<usize, Stop> {
-        let place = self.place();
-        let name = text_of(self.alloc, self.spelling(self.token(0)))?;
+        let token = self.token(0);
         self.skip_type();
-        let arguments = Vec::new(self.alloc);
-        self.add_type(place, TypeKind::Path { name, arguments })
-    }
-
-    /// A type of this name, at the place of the token that comes next.
-    pub fn named_type(&mut self, name: &str) -> Result<usize, Stop> {
-        let place = self.place();
-        let name = String::from_str(self.alloc, name)?;
-        let arguments = Vec::new(self.alloc);
-        self.add_type(place, TypeKind::Path { name, arguments })
+        self.named(token.place, text_of(self.spelling(token)))
     }
 
     /// `&T`, `&'a mut T`.
