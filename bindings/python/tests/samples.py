@@ -47,7 +47,7 @@ except Error as error:
     path: Optional[str] = error.path
     offset: Optional[int] = error.offset
     record: Optional[int] = error.record
-    assert (kind, path, offset, record) == (Kind.NO, "(u8, f64).1", 1, None)
+    assert (kind, path, offset, record) == (Kind.NO, '"(u8, f64)".1', 1, None)
 
 for call, wrong in ((schema.check, "text"), (schema.decode, 7)):
     try:

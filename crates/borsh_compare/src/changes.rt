@@ -3,7 +3,7 @@
 use crate::definitions::{Both, indexes_of, is_product};
 use crate::pairs::{Pair, Pairs};
 use crate::paths::{path_to, written};
-use borsh_values::Path;
+use borsh_values::{Name, Path};
 use borsh_walks::{
     Declaration, Definition, DiscriminantValue, FieldName, Fields, LengthRange, VariantName,
 };
@@ -40,12 +40,27 @@ impl<'a> fmt::Display for Change<'a> {
         let path = &self.path;
         match self.what {
             What::Becomes(old, new) if old == new => write!(f, "{path} has another definition"),
-            What::Becomes(old, new) => write!(f, "{path} is {old} and becomes {new}"),
+            What::Becomes(old, new) => write!(
+                f,
+                "{path} is {} and becomes {}",
+                Name(old),
+                Name(new)
+            ),
             What::Parts(old, new) => write!(f, "{path} has {old} parts and now {new}"),
-            What::VariantAdded(name) => write!(f, "{path}: variant {name} is new"),
-            What::VariantRemoved(name) => write!(f, "{path}: variant {name} is gone"),
-            What::VariantRenamed(old, new) => write!(f, "{path}: variant {old} is now {new}"),
-            What::FieldRenamed(old, new) => write!(f, "{path}.{old} is now {path}.{new}"),
+            What::VariantAdded(name) => write!(f, "{path}: variant {} is new", Name(name)),
+            What::VariantRemoved(name) => write!(f, "{path}: variant {} is gone", Name(name)),
+            What::VariantRenamed(old, new) => write!(
+                f,
+                "{path}: variant {} is now {}",
+                Name(old),
+                Name(new)
+            ),
+            What::FieldRenamed(old, new) => write!(
+                f,
+                "{path}.{} is now {path}.{}",
+                Name(old),
+                Name(new)
+            ),
             What::Counts(old, new) => write!(
                 f,
                 "{path} has {} to {} elements and may now have {} to {}",
