@@ -17,13 +17,13 @@ const MOST_CHANGES: usize = 1000;
 #[derive(Clone, Copy, Debug, PartialEq, Eq)]
 pub enum What<'a> {
     /// Another definition, of another kind or size: the two names.
-    Becomes(&'a str, &'a str),
+    Becomes(Name<'a>, Name<'a>),
     /// How many parts a struct or a tuple has, and now.
     Parts(usize, usize),
-    VariantAdded(&'a str),
-    VariantRemoved(&'a str),
-    VariantRenamed(&'a str, &'a str),
-    FieldRenamed(&'a str, &'a str),
+    VariantAdded(Name<'a>),
+    VariantRemoved(Name<'a>),
+    VariantRenamed(Name<'a>, Name<'a>),
+    FieldRenamed(Name<'a>, Name<'a>),
     /// How many elements a sequence may have, and may have now.
     Counts(&'a LengthRange, &'a LengthRange),
 }
@@ -40,27 +40,12 @@ impl<'a> fmt::Display for Change<'a> {
         let path = &self.path;
         match self.what {
             What::Becomes(old, new) if old == new => write!(f, "{path} has another definition"),
-            What::Becomes(old, new) => write!(
-                f,
-                "{path} is {} and becomes {}",
-                Name(old),
-                Name(new)
-            ),
+            What::Becomes(old, new) => write!(f, "{path} is {old} and becomes {new}"),
             What::Parts(old, new) => write!(f, "{path} has {old} parts and now {new}"),
-            What::VariantAdded(name) => write!(f, "{path}: variant {} is new", Name(name)),
-            What::VariantRemoved(name) => write!(f, "{path}: variant {} is gone", Name(name)),
-            What::VariantRenamed(old, new) => write!(
-                f,
-                "{path}: variant {} is now {}",
-                Name(old),
-                Name(new)
-            ),
-            What::FieldRenamed(old, new) => write!(
-                f,
-                "{path}.{} is now {path}.{}",
-                Name(old),
-                Name(new)
-            ),
+            What::VariantAdded(name) => write!(f, "{path}: variant {name} is new"),
+            What::VariantRemoved(name) => write!(f, "{path}: variant {name} is gone"),
+            What::VariantRenamed(old, new) => write!(f, "{path}: variant {old} is now {new}"),
+            What::FieldRenamed(old, new) => write!(f, "{path}.{old} is now {path}.{new}"),
             What::Counts(old, new) => write!(
                 f,
                 "{path} has {} to {} elements and may now have {} to {}",
@@ -87,15 +72,15 @@ fn of_variants<'a>(
                 if let Some((_, before, _)) = old.get(*index)
                     && before.as_str() != name.as_str()
                 {
-                    found.push(What::VariantRenamed(before.as_str(), name.as_str()))?;
+                    found.push(What::VariantRenamed(Name(before), Name(name)))?;
                 }
             }
-            None => found.push(What::VariantAdded(name.as_str()))?,
+            None => found.push(What::VariantAdded(Name(name)))?,
         }
     }
     for (discriminant, name, _) in old.as_slice() {
         if new_indexes.get(discriminant).is_none() {
-            found.push(What::VariantRemoved(name.as_str()))?;
+            found.push(What::VariantRemoved(Name(name)))?;
         }
     }
     Ok(())
@@ -111,16 +96,21 @@ fn of_fields<'a>(
         if let Some((name, _)) = new.get(index)
             && before.as_str() != name.as_str()
         {
-            found.push(What::FieldRenamed(before.as_str(), name.as_str()))?;
+            found.push(What::FieldRenamed(Name(before), Name(name)))?;
         }
     }
     Ok(())
 }
 
+// That a name became another.
+fn becomes<'a>(both: Both<'_, 'a>, pair: Pair) -> What<'a> {
+    What::Becomes(Name(both.old.name(pair.old)), Name(both.new.name(pair.new)))
+}
+
 // What changed of a pair of names.
 fn of_pair<'a>(alloc: Global, both: Both<'_, 'a>, pair: Pair) -> Result<Vec<What<'a>>, AllocError> {
     let mut found: Vec<What<'a>> = Vec::new(alloc);
-    let becomes = What::Becomes(both.old.name(pair.old), both.new.name(pair.new));
+    let becomes = becomes(both, pair);
     let old = both.old.definition(pair.old);
     let new = both.new.definition(pair.new);
     let (Some(old), Some(new)) = (old, new) else {
@@ -183,7 +173,7 @@ pub fn push_changes<'a>(
     };
     let mut found = of_pair(alloc, both, pair)?;
     if found.is_empty() && is_apart {
-        found.push(What::Becomes(both.old.name(pair.old), both.new.name(pair.new)))?;
+        found.push(becomes(both, pair))?;
     }
     if found.is_empty() {
         return Ok(());

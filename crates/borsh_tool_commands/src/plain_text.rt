@@ -106,7 +106,7 @@ impl PlainText {
     /// Adds a text in quotation marks, with a backslash before each quotation mark and backslash in it.
     pub fn push_quoted(&mut self, text: &str) -> Added
         ensures { OnOk result (self.new.text.items
-            ≡ self.old.text.items ++ (34 ∷ flat_map quoted text.now) ++ (34 ∷ [])) }
+            ≡ self.old.text.items ++ ((34 ∷ flat_map quoted text.now) ++ (34 ∷ []))) }
     {
         self.put(b'"')?;
         self.push_inner(text.as_bytes())?;
@@ -131,10 +131,10 @@ impl PlainText {
     }
 
     /// Adds the bytes of a text that is in quotation marks.
-    fn push_inner(&mut self, text: &[u8]) -> Added
-        ensures { OnOk result (self.new.text.items ≡ self.old.text.items ++ flat_map quoted text.now) }
+    fn push_inner(&mut self, bytes: &[u8]) -> Added
+        ensures { OnOk result (self.new.text.items ≡ self.old.text.items ++ flat_map quoted bytes.now) }
     {
-        for byte in text {
+        for byte in bytes {
             if *byte == b'"' || *byte == b'\\' {
                 self.put(b'\\')?;
             }
