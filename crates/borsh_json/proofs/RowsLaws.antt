@@ -70,7 +70,7 @@ module _ (l : Plan) where
   pass_all (z ∷ zeros) xs ys h t = passing h.0 (pass_all zeros xs ys h.1 t)
 
   goes_on : (xs ys zs : List (List ℕ)) → TakesNothing l xs ys → TakesNothing l ys zs → TakesNothing l xs zs
-  goes_on xs .xs zs nothing t = t
+  goes_on xs _ zs nothing t = t
   goes_on (x ∷ xs) ys zs (passing z s) t = passing z (goes_on xs ys zs s t)
   goes_on (x ∷ xs) ys zs (opening d parts e o s) t = opening d parts e o (goes_on (parts ++ xs) ys zs s t)
 

@@ -50,7 +50,7 @@ fn check_member<'a>(alloc: Global, plan: &Plan<'a>, bytes: &[u8]) -> Result<(), 
     ensures { let l = plan.now in
         IfErr result (IsNoJsonReason (definitions_of l) (root_of l) bytes.now) }
 {
-    let json = Table::with_indexes(alloc, plan, false)?;
+    let json = Table::new(alloc, plan)?;
     let mut nodes = Preorder::new(alloc, plan, bytes)?;
     // Of each node that the next one is in, where its elements have to ascend.
     let mut open: Vec<Option<Ascent>> = Vec::new(alloc);

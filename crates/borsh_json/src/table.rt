@@ -6,11 +6,10 @@ ghost use Rattle.std.specs.Prelude.{◌≡◌, ℕ, List, Decides, IfOk, IfSome,
 use crate::definitions::Definitions;
 use crate::kinds::Kind;
 use crate::order::Ordered;
-use crate::variants::{Index, indexes_of};
+use crate::variants::{Indexes, indexes_of};
 use borsh_values::{Membership, Plan, is_member_of};
 use borsh_walks::Definition;
 use std::alloc::{AllocError, Global};
-use std::collections::BTreeMap;
 use std::marker::Model;
 
 /// A plan, and how the values of its names are written as JSON. The functions [`to_json`](crate::to_json) and
@@ -22,7 +21,7 @@ pub struct Table<'a, 'l> {
     definitions: Definitions<'a, 'l>,
     /// Of each name its definition, if it has one, and how its values are written.
     kinds: Vec<Option<(&'a Definition, Kind<'a>)>>,
-    indexes: BTreeMap<usize, Index<'a>>,
+    indexes: Indexes<'a>,
 }
 
 impl<'a, 'l> Model for Table<'a, 'l> {
@@ -56,17 +55,6 @@ impl<'a, 'l> Table<'a, 'l> {
     pub fn new(alloc: Global, plan: &'l Plan<'a>) -> Result<Table<'a, 'l>, AllocError>
         ensures { IfOk result (λ j. j.plan.now ≡ plan.now) }
     {
-        Table::with_indexes(alloc, plan, true)
-    }
-
-    /// The same, of which only [`Table::from_json`] makes use of indexes.
-    pub(crate) fn with_indexes(
-        alloc: Global,
-        plan: &'l Plan<'a>,
-        is_for_reading: bool,
-    ) -> Result<Table<'a, 'l>, AllocError>
-        ensures { IfOk result (λ j. j.plan.now ≡ plan.now) }
-    {
         let mut definitions = Definitions::new(alloc, plan);
         let count = plan.len();
         let mut kinds = Vec::with_capacity(alloc, count)?;
@@ -74,7 +62,7 @@ impl<'a, 'l> Table<'a, 'l> {
             let kind = definitions.find_kind(at)?;
             kinds.push(kind)?;
         }
-        let indexes = indexes_of(alloc, kinds.as_slice(), is_for_reading)?;
+        let indexes = indexes_of(alloc, kinds.as_slice())?;
         Ok(Table {
             definitions,
             kinds,

@@ -1,6 +1,6 @@
 // Variants by their names.
 
-use crate::kinds::{Kind, Variants};
+use crate::kinds::Kind;
 use borsh_walks::Definition;
 use std::alloc::{AllocError, Global};
 use std::collections::BTreeMap;
@@ -8,35 +8,25 @@ use std::collections::BTreeMap;
 /// An enum with at most so many variants has no index.
 const FEW: usize = 16;
 
-/// The index of each variant of an enum by its name. It says where to look first, and no contract is needed of it: what
-/// is found by it is compared.
-pub type Index<'a> = BTreeMap<&'a str, usize>;
+/// Of enums, by their places, the index of each variant by its name. It says where to look first: what is found by it is compared.
+pub type Indexes<'a> = BTreeMap<usize, BTreeMap<&'a str, usize>>;
 
-/// The indexes of those kinds that are enums of many variants, by their places; none where nothing is read by them.
+/// The indexes of those of the kinds that are enums of many variants.
 pub fn indexes_of<'a>(
     alloc: Global,
     kinds: &[Option<(&'a Definition, Kind<'a>)>],
-    is_for_reading: bool,
-) -> Result<BTreeMap<usize, Index<'a>>, AllocError> {
-    let mut indexes: BTreeMap<usize, Index<'a>> = BTreeMap::new(alloc);
-    if !is_for_reading {
-        return Ok(indexes);
-    }
+) -> Result<Indexes<'a>, AllocError> {
+    let mut indexes: Indexes<'a> = BTreeMap::new(alloc);
     for (at, kind) in kinds.iter().enumerate() {
         if let Some((_, Kind::Choice(_, variants))) = kind
             && variants.len() > FEW
         {
-            let index = index_of(alloc, variants)?;
+            let mut index: BTreeMap<&'a str, usize> = BTreeMap::new(alloc);
+            for (place, (_, name, _)) in variants.iter().enumerate() {
+                index.insert(name.as_str(), place)?;
+            }
             indexes.insert(at, index)?;
         }
     }
     Ok(indexes)
-}
-
-fn index_of<'a>(alloc: Global, variants: &'a Variants) -> Result<Index<'a>, AllocError> {
-    let mut index: Index<'a> = BTreeMap::new(alloc);
-    for (at, (_, name, _)) in variants.iter().enumerate() {
-        index.insert(name.as_str(), at)?;
-    }
-    Ok(index)
 }

@@ -67,7 +67,7 @@ pub fn to_json<'a>(
     ensures refused { IfErr result (λ e. ShowsNoJson (forms_in map.now) root.now bytes.now e) }
 {
     let plan = Plan::new(alloc, root, map)?;
-    let json = Table::with_indexes(alloc, &plan, false)?;
+    let json = Table::new(alloc, &plan)?;
     json.to_json(bytes, style)
 }
 

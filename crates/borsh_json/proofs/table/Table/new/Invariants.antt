@@ -1,7 +1,7 @@
 use Rattle.std.proofs.Common.{◌≡◌, length}
 use Rattle.borsh_json.specs.Found.{forms_of, names_of}
 use Rattle.borsh_json.specs.Orders.{AreFoundKinds, HasOrders, KnowsNone}
-use Rattle.borsh_json.proofs.table.Table.with_indexes.Given as goal
+use Rattle.borsh_json.proofs.table.Table.new.Given as goal
 
 abbrev pub invariant-loop-at : goal.invariant-loop-at
 invariant-loop-at l =

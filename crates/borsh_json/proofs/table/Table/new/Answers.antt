@@ -4,7 +4,7 @@ use Rattle.borsh_plan.specs.Plan.{names_of as plan_names}
 use Rattle.borsh_json.specs.Found.{forms_of, names_of}
 use Rattle.borsh_json.proofs.KindOrders.{more_found, no_kinds, no_orders}
 use Rattle.borsh_json.proofs.KindTells.{none_begins}
-use Rattle.borsh_json.proofs.table.Table.with_indexes.Goals as goal
+use Rattle.borsh_json.proofs.table.Table.new.Goals as goal
 
 pub loop-at-init : goal.loop-at-init
 loop-at-init c =
