@@ -1,5 +1,5 @@
 """Types that hold a text, a list, or one value, and are encoded as what they hold."""
-from registered.layout import Part, key
+from registered.layout import Part, key, ser_methods
 
 
 class Holder:
@@ -112,21 +112,7 @@ KEY_SLICES = "".join(
 def ser_holder(head, write, put, length):
     return f"""
 {head} {{
-    #[inline]
-    fn serialize<W: Write>(&self, alloc: Global, writer: &mut W) -> Result<()> {{
-        {write}
-    }}
-
-    #[inline]
-    fn put(&self, room: &mut [u8]) -> Option<usize> {{
-        {put}
-    }}
-
-    #[inline]
-    fn encoded_length(&self) -> Option<u32> {{
-        {length}
-    }}
-}}
+{ser_methods(write, put, length)}}}
 """
 
 

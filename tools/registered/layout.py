@@ -41,3 +41,22 @@ def nested(parts, end=None):
 def key(type_name, ordered, law="Self.ordered.key", bounds=""):
     """A type that can be a key of a map."""
     return f"\nimpl{bounds} BorshKey for {type_name} {{\n    ghost ordered = {{ {ordered} }};\n\n    ghost key = {{ {law} }};\n}}\n"
+
+
+def ser_methods(write, put, length, alloc="alloc"):
+    """The three methods of `BorshSerialize`, by their bodies."""
+    return f"""    #[inline]
+    fn serialize<W: Write>(&self, {alloc}: Global, writer: &mut W) -> Result<()> {{
+        {write}
+    }}
+
+    #[inline]
+    fn put(&self, room: &mut [u8]) -> Option<usize> {{
+        {put}
+    }}
+
+    #[inline]
+    fn encoded_length(&self) -> Option<u32> {{
+        {length}
+    }}
+"""

@@ -1,5 +1,5 @@
 """Whole numbers, and those that aren't zero."""
-from registered.layout import Part, key
+from registered.layout import Part, key, ser_methods
 
 
 class Number:
@@ -94,22 +94,10 @@ def put_number(number, value):
     return f"put_bytes(&bytes_of_{number.written_as}({number.cast(value)}), room)"
 
 
-def ser_methods(number, value):
-    return f"""    #[inline]
-    fn serialize<W: Write>(&self, _alloc: Global, writer: &mut W) -> Result<()> {{
-        write_bytes(&bytes_of_{number.written_as}({number.cast(value)}), writer)
-    }}
-
-    #[inline]
-    fn put(&self, room: &mut [u8]) -> Option<usize> {{
-        {put_number(number, value)}
-    }}
-
-    #[inline]
-    fn encoded_length(&self) -> Option<u32> {{
-        bytes_length(&bytes_of_{number.written_as}({number.cast(value)}))
-    }}
-"""
+def methods(number, value):
+    """The methods of a number, whose value that is."""
+    given = f"bytes_of_{number.written_as}({number.cast(value)})"
+    return ser_methods(f"write_bytes(&{given}, writer)", put_number(number, value), f"bytes_length(&{given})", "_alloc")
 
 
 def ser_number(number):
@@ -124,7 +112,7 @@ def ser_number(number):
         Some(slice)
     }
 """ if number.name == "u8" else ""
-    return f"\nimpl BorshSerialize for {number.name} {{\n{before}{ser_methods(number, '*self')}{after}}}\n"
+    return f"\nimpl BorshSerialize for {number.name} {{\n{before}{methods(number, '*self')}{after}}}\n"
 
 
 SER_NUMBERS = """// Whole numbers, the lowest byte first, and with a sign in two's complement. A `usize` is
@@ -320,7 +308,7 @@ use super::types::BorshType;
 
 
 def ser_non_zero(number):
-    return f"\nimpl BorshSerialize for {number.non_zero} {{\n{ser_methods(number, 'self.get()')}}}\n"
+    return f"\nimpl BorshSerialize for {number.non_zero} {{\n{methods(number, 'self.get()')}}}\n"
 
 
 SER_NON_ZEROS = f"""// Whole numbers that are not zero: their number.
@@ -533,27 +521,12 @@ def unless_nan(given):
 
 
 def ser_float(number):
-    return f"""
-impl BorshSerialize for {number.name} {{
-    #[inline]
-    fn serialize<W: Write>(&self, _alloc: Global, writer: &mut W) -> Result<()> {{
-        {unless_nan("Err(Error::new(ErrorKind::InvalidData, ERROR_NAN_NOT_SERIALIZED))")}
-        write_bytes(&bytes_of_{number.name}(value), writer)
-    }}
-
-    #[inline]
-    fn put(&self, room: &mut [u8]) -> Option<usize> {{
-        {unless_nan("None")}
-        put_bytes(&bytes_of_{number.name}(value), room)
-    }}
-
-    #[inline]
-    fn encoded_length(&self) -> Option<u32> {{
-        {unless_nan("None")}
-        bytes_length(&bytes_of_{number.name}(value))
-    }}
-}}
-"""
+    given = f"bytes_of_{number.name}(value)"
+    refused = unless_nan("Err(Error::new(ErrorKind::InvalidData, ERROR_NAN_NOT_SERIALIZED))")
+    write, put, length = f"write_bytes(&{given}, writer)", f"put_bytes(&{given}, room)", f"bytes_length(&{given})"
+    none = unless_nan("None")
+    all_three = ser_methods(f"{refused}\n        {write}", f"{none}\n        {put}", f"{none}\n        {length}", "_alloc")
+    return f"\nimpl BorshSerialize for {number.name} {{\n{all_three}}}\n"
 
 
 def de_float(number):

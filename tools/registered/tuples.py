@@ -1,5 +1,5 @@
 """Tuples, and the calls that write so many parts: of one to twelve places."""
-from registered.layout import Part, filled, key, member, nested
+from registered.layout import Part, filled, key, member, nested, ser_methods
 
 # The most places that a tuple has.
 PLACES = 12
@@ -103,21 +103,7 @@ def ser_tuple(it):
         write, put = f"write_{NUMBERS[it.places]}({parts}, alloc, writer)", f"put_{NUMBERS[it.places]}({parts}, room)"
         length = joined([f"{field}.encoded_length()" for field in it.fields("self")])
     return f"""
-{it.bound("BorshSerialize")}    #[inline]
-    fn serialize<W: Write>(&self, alloc: Global, writer: &mut W) -> Result<()> {{
-        {write}
-    }}
-
-    #[inline]
-    fn put(&self, room: &mut [u8]) -> Option<usize> {{
-        {put}
-    }}
-
-    #[inline]
-    fn encoded_length(&self) -> Option<u32> {{
-        {length}
-    }}
-}}
+{it.bound("BorshSerialize")}{ser_methods(write, put, length)}}}
 """
 
 
