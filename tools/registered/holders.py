@@ -1,5 +1,5 @@
-"""Types that hold a text, a list, or one value, and are encoded as what they hold."""
-from registered.layout import Part, key, ser_methods
+"""Types that hold a text, a list, or one value, and are encoded as what they hold; and ranges of one end."""
+from registered.layout import Part, key, member, ser_methods
 
 
 class Holder:
@@ -233,6 +233,90 @@ impl<T: BorshSchema> BorshSchema for {it.name} {{
 """
 
 
+# ---- ranges of one end
+
+
+class End:
+    """A range that has one end: its name, the field of the end, and how it is made."""
+
+    def __init__(self, name, field, made):
+        self.name, self.field, self.made = name, field, made
+        self.type, self.view = f"{name}<T>", f"(λ r. r.{field})"
+
+    def head(self, trait):
+        return f"impl<T: {trait}> {trait} for {self.type}"
+
+
+ENDS = [End("RangeFrom", "start", "start.."), End("RangeTo", "end", "..end"), End("RangeToInclusive", "end", "..=end")]
+
+
+def types_end(it):
+    law = f"from (contramap-lawful {it.view}) T.lawful_if"
+    return types_holder(it.head("BorshType"), f"contramap {it.view} T.codec", law, "T.premises", "T::encodes_empty()", "T::element_size()")
+
+
+def key_end(it):
+    law = f"λ a b. T.key a.{it.field} b.{it.field}"
+    return key(it.type, f"contramap_ordered {it.view} T.ordered", law, "<T: BorshKey>")
+
+
+def ser_end(it):
+    value = f"self.{it.field}"
+    return ser_holder(it.head("BorshSerialize"), f"{value}.serialize(alloc, writer)", f"{value}.put(room)", f"{value}.encoded_length()")
+
+
+def de_end(it):
+    return f"""
+impl<T: BorshDeserialize> FromParts for {it.type} {{
+    type Parts = T;
+
+    ghost view = {{ {it.view[1:-1]} }};
+
+    #[inline]
+    fn from_parts({it.field}: T) -> {it.type} {{
+        {it.made}
+    }}
+}}
+
+{it.head("BorshDeserialize")} {{
+    #[inline]
+    fn deserialize_reader<R: Read>(alloc: Global, reader: &mut R) -> Result<{it.type}> {{
+        read_parts(alloc, reader)
+    }}
+}}
+"""
+
+
+def schema_end(it):
+    begin = f'(codes "{it.name}<")'
+    definition = "range_from" if it.field == "start" else "range_to"
+    parts = ["defined", f"(applied {begin} T.name)", f"({definition} T.name)", "(both T.parts none)"]
+    # A line may have 106 columns here, as those of the first ranges had.
+    return f"""
+{it.head("BorshSchema")} {{
+    ghost name = {{ applied {begin} T.name }};
+
+{member("parts", parts, 106)}
+    ghost described = {{ struct_described (λ r. (r.{it.field}, tt))
+        (fields_described T.described no_fields_described) refl }};
+
+    fn declaration(alloc: Global) -> SchemaResult<Declaration> {{
+        let {it.field} = T::declaration(alloc)?;
+        Ok(format!(in alloc; "{it.name}<{{{it.field}}}>")?)
+    }}
+
+    fn add_definitions_recursively(alloc: Global, map: &mut DefinitionMap) -> SchemaResult<()> {{
+        let fields = Fields::NamedFields(vec![in alloc; field::<T>(alloc, "{it.field}")?]?);
+        let definition = Definition::Struct {{ fields }};
+        add_with_parts::<(T, ())>(alloc, Self::declaration(alloc)?, definition, map)
+    }}
+
+    ghost describes = {{ λ C h. describes_contramap {it.view}
+        (describes_parts h.0 (all_one (T.describes C h.1.0))) }};
+}}
+"""
+
+
 # ---- what is written
 
 
@@ -242,6 +326,10 @@ def part(first, behind, template, holders):
 
 FILES = {}
 PARTS = {
+    "borsh_types/src/ranges.rt": [part(f"{ENDS[0].head('BorshType')} {{", None, types_end, ENDS)],
+    "borsh_ser/src/ranges.rt": [part(f"{ENDS[0].head('BorshSerialize')} {{", None, ser_end, ENDS)],
+    "borsh_de/src/ranges.rt": [part("impl<T: BorshDeserialize> FromParts for RangeFrom<T> {", None, de_end, ENDS)],
+    "borsh_schema/src/ranges.rt": [part(f"{ENDS[0].head('BorshSchema')} {{", None, schema_end, ENDS)],
     "borsh_types/src/texts.rt": [part("impl BorshType for String {", None, types_text, TEXTS)],
     "borsh_types/src/lists.rt": [
         part("impl<T: BorshType> BorshType for Vec<T> {", "impl<T: BorshType> BorshType for LinkedList<T> {", types_list, VECTORS),
@@ -258,6 +346,7 @@ PARTS = {
     "borsh_types/src/keys.rt": [
         Part("impl BorshKey for String {", "impl<T: BorshKey> BorshKey for &T {", KEY_TEXTS),
         Part("impl<T: BorshKey> BorshKey for Box<T> {", "impl<T: BorshKey> BorshKey for Cow<'_, T> {", KEY_POINTERS),
+        part("impl<T: BorshKey> BorshKey for RangeFrom<T> {", "impl<A: BorshKey> BorshKey for (A,) {", key_end, ENDS),
         Part("impl<T: BorshKey> BorshKey for BoxedSlice<T> {", "impl<K: BorshKey + Ord, V: BorshKey> BorshKey for BTreeMap<K, V> {", KEY_SLICES),
     ],
     "borsh_ser/src/texts.rt": [part("impl BorshSerialize for String {", None, ser_text, TEXTS)],

@@ -14,11 +14,11 @@ class Part:
         return whole[:start], whole[start:end], whole[end:]
 
 
-def filled(words, column):
-    """The words in lines of at most 100 columns, the first one from that column on."""
+def filled(words, column, width=100):
+    """The words in lines of at most so many columns, the first one from that column on."""
     lines = [[]]
     for word in words:
-        if column + len(word) > 100:
+        if column + len(word) > width:
             lines.append([])
             column = 8
         lines[-1].append(word)
@@ -26,10 +26,10 @@ def filled(words, column):
     return "\n        ".join(" ".join(line) for line in lines)
 
 
-def member(name, words):
+def member(name, words, width=100):
     """A ghost member of an implementation, filled."""
     head = f"    ghost {name} = {{ "
-    return f"{head}{filled(words, len(head))} }};\n"
+    return f"{head}{filled(words, len(head), width)} }};\n"
 
 
 def nested(parts, end=None):
