@@ -454,10 +454,6 @@ returns c =
 """
 
 
-def width_folder(number):
-    return f"borsh_de/proofs/numbers/{number.name.capitalize()}BorshDeserialize/width/Answers.antt"
-
-
 def width_proof(number):
     """That each of so many bytes are a number's encoding."""
     goal = f"use Rattle.borsh_de.proofs.numbers.{number.name.capitalize()}BorshDeserialize.width.Goals as goal\n\npub returns : goal.returns\n"
@@ -561,13 +557,11 @@ FILES = {
     "borsh_de/src/non_zeros.rt": DE_NON_ZEROS,
     "borsh_schema/src/numbers.rt": SCHEMA_NUMBERS,
     "borsh_schema/src/non_zeros.rt": SCHEMA_NON_ZEROS,
+    # Those of `u8` and `u16` need no answers: a lemma proves them.
+    **{f"borsh_ser/proofs/numbers/bytes_of_{it.name}/Answers.antt": bytes_of_proof(it) for it in FIXED if it.name not in ("u8", "u16")},
+    **{f"borsh_de/proofs/numbers/{it.name}_of/Answers.antt": number_of_proof(it) for it in FIXED},
+    **{f"borsh_de/proofs/numbers/{it.name.capitalize()}BorshDeserialize/width/Answers.antt": width_proof(it) for it in WHOLE},
 }
-# `byte_of` and `bytes_of`, which proofs use by themselves, prove the first two.
-FILES.update(
-    {f"borsh_ser/proofs/numbers/bytes_of_{number.name}/Answers.antt": bytes_of_proof(number) for number in FIXED if number.name not in ("u8", "u16")}
-)
-FILES.update({f"borsh_de/proofs/numbers/{number.name}_of/Answers.antt": number_of_proof(number) for number in FIXED})
-FILES.update({width_folder(number): width_proof(number) for number in WHOLE})
 
 PARTS = {
     "borsh_types/src/keys.rt": [Part("impl BorshKey for u8 {", "impl BorshKey for bool {", KEYS)],

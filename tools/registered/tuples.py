@@ -358,20 +358,17 @@ returns g c h = contramap_fixed {as_pair(it)} (λ a x p. ((a.0, {others}), refl)
 # ---- what is written
 
 
+LONGER = TUPLES[2:]
 FILES = {
     "borsh_types/src/tuples.rt": TYPES_TUPLES,
     "borsh_ser/src/tuples.rt": SER_TUPLES,
     "borsh_de/src/tuples.rt": DE_TUPLES,
     "borsh_schema/src/tuples.rt": SCHEMA_TUPLES,
+    **{f"borsh_ser/proofs/puts/put_{NUMBERS[it.places]}/Answers.antt": put_proof(it) for it in LONGER},
+    **{f"borsh_ser/proofs/parts/write_{NUMBERS[it.places]}/Answers.antt": write_proof(it) for it in TUPLES[1:]},
+    **{f"borsh_de/proofs/tuples/Tuple{it.places}BorshDeserialize/deserialize_reader/Answers.antt": de_proof(it) for it in LONGER},
+    **{f"borsh_de/proofs/tuples/Tuple{it.places}BorshDeserialize/width/Answers.antt": width_proof(it) for it in LONGER},
 }
-LONGER = TUPLES[2:]
-for longer in LONGER:
-    name, folder = NUMBERS[longer.places], f"borsh_de/proofs/tuples/Tuple{longer.places}BorshDeserialize"
-    FILES[f"borsh_ser/proofs/puts/put_{name}/Answers.antt"] = put_proof(longer)
-    FILES[f"{folder}/deserialize_reader/Answers.antt"] = de_proof(longer)
-    FILES[f"{folder}/width/Answers.antt"] = width_proof(longer)
-for it in TUPLES[1:]:
-    FILES[f"borsh_ser/proofs/parts/write_{NUMBERS[it.places]}/Answers.antt"] = write_proof(it)
 
 PARTS = {
     "borsh_types/src/keys.rt": [
