@@ -49,7 +49,8 @@ def written():
 
 
 def read(name):
-    return (TOP / "crates" / name).read_text(encoding="utf-8")
+    file = TOP / "crates" / name
+    return file.read_text(encoding="utf-8") if file.exists() else ""
 
 
 def written_lines(crate):
@@ -68,7 +69,9 @@ def main():
     if is_check and others:
         sys.exit("".join(f"crates/{name} isn't what tools/registers.py writes\n" for name in others))
     for name in others:
-        (TOP / "crates" / name).write_text(whole[name], encoding="utf-8")
+        file = TOP / "crates" / name
+        file.parent.mkdir(parents=True, exist_ok=True)
+        file.write_text(whole[name], encoding="utf-8")
     print(f"tools/registers.py: {len(whole)} files" + ("" if is_check else f", {len(others)} written anew"))
 
 

@@ -1,4 +1,5 @@
 """How what is written stands in its file, and how terms are laid out there."""
+import sys
 
 
 class Part:
@@ -9,6 +10,9 @@ class Part:
 
     def split(self, whole):
         """The file's text before the part, the part as it stands, and what is behind it."""
+        for line in filter(None, (self.first, self.behind)):
+            if "\n" + line not in whole:
+                sys.exit(f"tools/registers.py finds no line `{line.strip()}`, between which and others it writes")
         start = whole.index("\n" + self.first) + 1
         end = whole.index("\n" + self.behind, start) + 1 if self.behind else len(whole)
         return whole[:start], whole[start:end], whole[end:]
