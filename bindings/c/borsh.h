@@ -47,8 +47,7 @@ struct borsh_buffer {
     /* Never null after a call, and behind the last byte is a zero byte that isn't counted. */
     const uint8_t *data;
     size_t length;
-    /* After BORSH_NO or BORSH_SHORT of a call about values: the path of the part that the text is about, as `A.y[3]` or
-     * `"x y".z`, which lies in `data`, or null. */
+    /* After BORSH_NO or BORSH_SHORT of a call about values: the path of the part that the text is about, as `A.y[3]`, which lies in `data`, or null. */
     const uint8_t *path;
     size_t path_length;
     /* If `has_offset`, the byte at which the value has no such part, or near which the JSON is wrong. */
