@@ -53,6 +53,12 @@ static void check_null(void) {
     refuses("borsh_json_lines, lengths", borsh_json_lines(byte, n, byte, n, NULL, 2, false, &number, &text), &text);
     refuses("borsh_json_lines, count", borsh_json_lines(byte, n, byte, n, lengths, 2, false, NULL, &text), &text);
     refuses("borsh_json_lines, lines", borsh_json_lines(byte, n, byte, n, lengths, 2, false, &number, NULL), NULL);
+    refuses("borsh_compile, text", borsh_compile(NULL, 1, byte, n, &text), &text);
+    refuses("borsh_compile, type_text", borsh_compile(byte, n, NULL, 1, &text), &text);
+    refuses("borsh_compile, container", borsh_compile(byte, n, byte, n, NULL), NULL);
+    refuses("borsh_compare, old_schema", borsh_compare(NULL, 1, byte, n, &text), &text);
+    refuses("borsh_compare, new_schema", borsh_compare(byte, n, NULL, 1, &text), &text);
+    refuses("borsh_compare, text", borsh_compare(byte, n, byte, n, NULL), NULL);
     /* tools/calls.py: end */
 }
 
