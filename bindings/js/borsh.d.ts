@@ -7,7 +7,10 @@ export class BorshError extends Error {
   );
 
   readonly kind: ErrorKind;
-  /** The path of the part that the error is about, as `A.y[3]` or `A.y[3]::V.0`. A name is written in it as it is in the schema. */
+  /**
+   * The path of the part that the error is about, as `A.y[3]` or `A.y[3]::V.0`, where a name is written as it is in the schema; `text` or
+   * `type`, of {@link Schema.parse}.
+   */
   readonly path: string | undefined;
   /** The name of the part's type, of an error about bytes. */
   readonly type: string | undefined;

@@ -9,7 +9,7 @@ function readRust(text, { format, literal }) {
   if (literal !== undefined || text.startsWith("{")) return undefined;
   if (/\b(struct|enum|type)\s+\w/.test(text)) {
     const types = typesOfRust(text);
-    return { types, meant: types.at(-1), make: (type) => Schema.parse(text, type ?? "") };
+    return { types, meant: types.at(-1), make: (type) => schemaOfType(text, type) };
   }
   const isWord = format === "any" && text.length < LEAST_BASE64 && /^[a-z_]\w*$/i.test(text) && bytesOfDigits(text, HEX) === undefined;
   const isType = isWord || /^[&([]|^(::)?[a-z_]\w*\s*(<|::)/i.test(text);
@@ -56,7 +56,12 @@ function readIdl(literal) {
   const accounts = listOf("accounts").map((it) => it?.name);
   const plain = listOf("types").filter((it) => !(it?.generics?.length > 0)).map((it) => it?.name);
   const types = [...new Set([...plain, ...accounts])].filter((it) => typeof it === "string");
-  return { types, meant: accounts.find((it) => types.includes(it)) ?? types.at(-1), make: (type) => Schema.parse(literal.text, type ?? "") };
+  return { types, meant: accounts.find((it) => types.includes(it)) ?? types.at(-1), make: (type) => schemaOfType(literal.text, type) };
+}
+
+function schemaOfType(text, type) {
+  if (type === undefined) throw new Error("this text has no type without parameters");
+  return Schema.parse(text, type);
 }
 
 function readObject(literal) {

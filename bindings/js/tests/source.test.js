@@ -24,27 +24,28 @@ test(`${types.size} types have the containers that they state, or break a rule`,
     const broken = attempt(() => wanted.validate());
     const found = attempt(() => Schema.parse(ITEMS, written));
     if (broken === undefined) assert.deepEqual(found.bytes, bytesOfHex(container), `${written}: ${found}`);
-    else assertRefused(found, new RegExp(` breaks the rule ${broken.message.split(" ")[1]}$`));
+    else assertRefused(found, new RegExp(`^type: .* breaks the rule ${broken.message.split(" ")[1]}$`), found.offset);
   }
 });
 
 function assertRefused(error, says, offset) {
   assert.ok(error instanceof BorshError, `${error}`);
-  assert.deepEqual([error.kind, error.path, error.reason], ["no", undefined, error.message]);
   assert.match(error.message, says);
-  if (offset !== undefined) assert.equal(error.offset, offset);
+  const path = /^(text|type): /.exec(error.message)?.[1];
+  assert.deepEqual([error.kind, error.path, error.offset], ["no", path, offset]);
+  assert.equal(path === undefined ? error.reason : `${path}: ${error.reason}`, error.message);
 }
 
 test("texts without a schema say what is wrong, and where", () => {
   for (const [given, says, offset] of [
-    [["struct A {\n  x u8,\n}", "A"], /^line 2, column 5: met `u8`, expected `:`$/, 15],
-    [["/* é */ struct B(u8)", "B"], /^line 1, column 21: the text ends, expected `;`$/, 21],
-    [["struct Vault;", "Valt"], /^column 1: `Valt` is no type that has a schema; `Vault` is$/],
-    [["Vec<()>"], /^column 1: `Vec<\(\)>` breaks the rule ZSTSequence$/],
-    [['{"types": }', "A"], /^expected JSON$/],
-    [[{ strcut: {} }], /^`Schema`: expected a type$/],
-    [["", undefined], /^line 1, column 1: the text ends, expected a type$/],
-    [["\ud800", "A"], /UTF-8/],
+    [["struct A {\n  x u8,\n}", "A"], /^text: line 2, column 5: met `u8`, expected `:`$/, 15],
+    [["/* é */ struct B(u8)", "B"], /^text: line 1, column 21: the text ends, expected `;`$/, 21],
+    [["struct Vault;", "Vec<Valt>"], /^type: column 5: `Valt` is no type that has a schema; `Vault` is$/, 4],
+    [["Vec<()>"], /^type: column 1: `Vec<\(\)>` breaks the rule ZSTSequence$/, 0],
+    [['{"types": }', "A"], /^text: expected JSON$/],
+    [[{ strcut: {} }], /^text: `Schema`: expected a type$/],
+    [["", undefined], /^type: line 1, column 1: the text ends, expected a type$/, 0],
+    [["\ud800", "A"], /^text: not UTF-8$/, 0],
     [[own({ struct: () => { throw new Error(); } })], /^the object can't be read$/],
   ]) {
     assertRefused(attempt(() => Schema.parse(...given)), says, offset);

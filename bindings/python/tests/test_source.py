@@ -36,7 +36,8 @@ class Source(unittest.TestCase):
         with self.assertRaises(Error) as raised:
             Schema.parse(*given)
         error = raised.exception
-        self.assertEqual((str(error), error.kind, error.path), (says or str(error), Kind.NO, None))
+        self.assertRegex(str(error), says)
+        self.assertEqual((error.kind, error.path), (Kind.NO, str(error).split(": ")[0]))
         return error
 
     def test_types_have_the_containers_that_they_state_or_break_a_rule(self):
@@ -49,24 +50,21 @@ class Source(unittest.TestCase):
                 try:
                     wanted.validate()
                 except Error as broken:
-                    error = self.refused(None, items, written)
-                    self.assertTrue(str(error).endswith(f" breaks the rule {str(broken).split(' ')[1]}"), error)
+                    self.refused(f"^type: .* breaks the rule {str(broken).split(' ')[1]}$", items, written)
                     continue
                 self.assertEqual(Schema.parse(items, written), wanted)
 
     def test_texts_without_a_schema_say_what_is_wrong_and_where(self):
         for given, says, offset in [
-            (("struct A {\n  x u8,\n}", "A"), "line 2, column 5: met `u8`, expected `:`", 15),
-            (("/* é */ struct B(u8)", "B"), "line 1, column 21: the text ends, expected `;`", 21),
-            (("struct Vault;", "Valt"), "column 1: `Valt` is no type that has a schema; `Vault` is", None),
-            (("Vec<()>",), "column 1: `Vec<()>` breaks the rule ZSTSequence", None),
-            (('{"types": }', "A"), "expected JSON", None),
-            (("",), "line 1, column 1: the text ends, expected a type", None),
+            (("struct A {\n  x u8,\n}", "A"), "^text: line 2, column 5: met `u8`, expected `:`$", 15),
+            (("/* é */ struct B(u8)", "B"), "^text: line 1, column 21: the text ends, expected `;`$", 21),
+            (("struct Vault;", "Vec<Valt>"), "^type: column 5: `Valt` is no type that has a schema; `Vault` is$", 4),
+            (("Vec<()>",), r"^type: column 1: `Vec<\(\)>` breaks the rule ZSTSequence$", 0),
+            (('{"types": }', "A"), "^text: expected JSON$", None),
+            (("",), "^type: line 1, column 1: the text ends, expected a type$", 0),
+            (("\ud800", "A"), "^text: not UTF-8$", 0),
         ]:
-            error = self.refused(says, *given)
-            if offset is not None:
-                self.assertEqual(error.offset, offset)
-        self.refused(None, "\ud800", "A")
+            self.assertEqual(self.refused(says, *given).offset, offset)
         for given in ((b"u8",), (7, "A"), ("u8", 7)):
             with self.assertRaises(TypeError):
                 Schema.parse(*given)

@@ -119,7 +119,8 @@ impl Error {
         }
     }
 
-    /// The path of the part that the error is about, as `A.y[3]`, of an error about a part of a value.
+    /// The path of the part that the error is about, as `A.y[3]`, of an error about a part of a value; `text` or `type`, of one of
+    /// [`Schema::parse`].
     pub fn path(&self) -> Option<&str> {
         self.path.as_deref()
     }
@@ -177,15 +178,15 @@ impl Schema {
     /// Rust's words. Without one the text is itself a type, or a schema object.
     ///
     /// ```
-    /// # use borsh_proved::{ErrorKind, Schema, Style};
+    /// # use borsh_proved::{Schema, Style};
     /// let source = "pub enum State { Empty, Open(u64) } pub struct Vault { owner: [u8; 4], state: State }";
     /// let vault = Schema::parse(source, "Vault")?;
     /// assert_eq!(vault.to_json(&[1, 2, 3, 4, 0], Style::COMPACT)?, r#"{"owner":"0x01020304","state":"Empty"}"#);
     /// assert_eq!(Schema::parse("HashMap<u32, u64>", None)?.max_size()?, 51539607544);
     ///
     /// let error = Schema::parse("struct A { x u8 }", "A").unwrap_err();
-    /// assert_eq!((error.kind(), error.offset()), (ErrorKind::No, Some(13)));
-    /// assert_eq!(error.to_string(), "line 1, column 14: met `u8`, expected `:`");
+    /// assert_eq!(error.to_string(), "text: line 1, column 14: met `u8`, expected `:`");
+    /// assert_eq!((error.path(), error.offset()), (Some("text"), Some(13)));
     /// # Ok::<(), borsh_proved::Error>(())
     /// ```
     ///

@@ -47,62 +47,32 @@ fn types_have_the_containers_that_they_state_or_break_a_rule() {
             Err(broken) => {
                 let error = found.unwrap_err();
                 let rule = broken.to_string().split(' ').nth(1).unwrap().to_owned();
-                assert!(error
-                    .to_string()
-                    .ends_with(&format!(" breaks the rule {rule}")));
-                assert_eq!(error.kind(), ErrorKind::No);
+                let says = error.to_string();
+                assert!(says.ends_with(&format!(" breaks the rule {rule}")), "{says}");
+                assert_eq!((error.kind(), error.path()), (ErrorKind::No, Some("type")));
             }
         }
     }
 }
 
-/// Each text with a type, and what is said of it, with the byte.
-const REFUSED: [(&str, Option<&str>, &str, Option<usize>); 6] = [
-    (
-        "struct A {\n  x u8,\n}",
-        Some("A"),
-        "line 2, column 5: met `u8`, expected `:`",
-        Some(15),
-    ),
-    (
-        "/* é */ struct B(u8)",
-        Some("B"),
-        "line 1, column 21: the text ends, expected `;`",
-        Some(21),
-    ),
-    (
-        "struct Vault;",
-        Some("Valt"),
-        "column 1: `Valt` is no type that has a schema; `Vault` is",
-        None,
-    ),
-    (
-        "Vec<()>",
-        None,
-        "column 1: `Vec<()>` breaks the rule ZSTSequence",
-        None,
-    ),
-    ("{\"types\": }", Some("A"), "expected JSON", None),
-    (
-        "",
-        None,
-        "line 1, column 1: the text ends, expected a type",
-        None,
-    ),
-];
+/// Texts, each with a type, which of the two is wrong, why, and at which byte.
+const REFUSED: &str = r#"
+struct A {\n  x u8,\n}|A|text: line 2, column 5: met `u8`, expected `:`|15
+/* é */ struct B(u8)|B|text: line 1, column 21: the text ends, expected `;`|21
+struct Vault;|Vec<Valt>|type: column 5: `Valt` is no type that has a schema; `Vault` is|4
+|Vec<()>|type: column 1: `Vec<()>` breaks the rule ZSTSequence|0
+{"types": }|A|text: expected JSON|
+||type: line 1, column 1: the text ends, expected a type|0"#;
 
 #[test]
 fn texts_without_a_schema_say_what_is_wrong_and_where() {
-    for (text, name, says, offset) in REFUSED {
-        let error = Schema::parse(text, name).unwrap_err();
-        assert_eq!(
-            (error.kind(), error.to_string().as_str()),
-            (ErrorKind::No, says)
-        );
-        assert_eq!(error.path(), None);
-        if offset.is_some() {
-            assert_eq!(error.offset(), offset, "{text}");
-        }
+    for row in REFUSED.lines().skip(1) {
+        let columns: Vec<&str> = row.split('|').collect();
+        let error = Schema::parse(&columns[0].replace("\\n", "\n"), columns[1]).unwrap_err();
+        assert_eq!(error.kind(), ErrorKind::No);
+        assert_eq!(error.to_string(), columns[2]);
+        assert_eq!(error.path(), columns[2].split(": ").next());
+        assert_eq!(error.offset(), columns[3].parse().ok(), "{row}");
     }
 }
 

@@ -38,7 +38,7 @@ class Error(ValueError):
     """What kind of error it is."""
 
     path: Optional[str]
-    """The part that the error is about, as `A.y[3]`; None where the error isn't about a part of a value."""
+    """The part of a value that the error is about, as `A.y[3]`; `text` or `type`, of `Schema.parse`; else None."""
 
     offset: Optional[int]
     """The byte of the value at which that part begins, or near which the text stops being JSON or types; None where that isn't told."""

@@ -67,7 +67,7 @@ class Schema:
         >>> Schema.parse("struct A { x u8 }", "A")
         Traceback (most recent call last):
             ...
-        borsh_proved.Error: line 1, column 14: met `u8`, expected `:`
+        borsh_proved.Error: text: line 1, column 14: met `u8`, expected `:`
         """
         if type is None:
             text, type = (text, "Schema") if str.lstrip(text).startswith("{") else ("", text)
