@@ -48,7 +48,10 @@ fn types_have_the_containers_that_they_state_or_break_a_rule() {
                 let error = found.unwrap_err();
                 let rule = broken.to_string().split(' ').nth(1).unwrap().to_owned();
                 let says = error.to_string();
-                assert!(says.ends_with(&format!(" breaks the rule {rule}")), "{says}");
+                assert!(
+                    says.ends_with(&format!(" breaks the rule {rule}")),
+                    "{says}"
+                );
                 assert_eq!((error.kind(), error.path()), (ErrorKind::No, Some("type")));
             }
         }
