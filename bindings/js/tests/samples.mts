@@ -67,7 +67,7 @@ const ofObject: Schema = Schema.parse({ struct: { x: "u64", y: "string" } });
 const compared: Comparison = compare(written, ofObject);
 const changes: readonly string[] = compared.changes;
 const evidence: string | undefined = compared.evidence;
-assert(String(written.bytes) === String(container) && Schema.parse("Vec<u8>").root === "Vec<u8>");
+assert(String(written.bytes) === String(Schema.of("A", written.definitions).bytes) && Schema.parse("Vec<u8>").root === "Vec<u8>");
 assert(compared.answer === "the same" && compared.isCompatible && changes.length === 0 && evidence === undefined && compared.text !== "");
 // @ts-expect-error: a text is no schema
 assert(attempt(() => compare(written, "u8")) instanceof TypeError);
