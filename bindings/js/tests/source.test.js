@@ -63,6 +63,21 @@ function own(getters) {
   return Object.defineProperties({}, Object.fromEntries(Object.entries(getters).map(([name, get]) => [name, { get, enumerable: true }])));
 }
 
+test("texts that nest deep, or are long", () => {
+  const nested = (open, close, count) => `${open.repeat(count)}u8${close.repeat(count)}`;
+  assert.equal(Schema.parse(nested("Box<", ">", 120)).root, "u8");
+  for (const count of [200, 100000]) {
+    for (const [open, close] of [["Box<", ">"], ["(", ")"], ["[", "; 1]"], ["&", ""]]) {
+      assertRefused(attempt(() => Schema.parse(nested(open, close, count))), /at most 128 types or brackets in one another$/, 128 * open.length);
+    }
+    for (const text of [nested('{"option":', "}", count).replace("u8", '"u8"'), `{"struct":${"[".repeat(count)}`]) {
+      assertRefused(attempt(() => Schema.parse(text)), /^text: (expected JSON|`Schema`: expected at most 128)/);
+    }
+  }
+  const items = Array.from({ length: 10000 }, (_, index) => `struct S${index} { x: u8, next: Vec<S${(index + 1) % 10000}> }`).join("\n");
+  assert.equal(Schema.parse(items, "S0").definitions.size, 20001);
+});
+
 /** Each schema object, and the same in Rust. */
 const OBJECTS = [
   [{ struct: { x: "u8", y: { array: { type: "u8", len: 4 } } } }, "struct Schema { x: u8, y: [u8; 4] }"],
