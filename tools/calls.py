@@ -330,7 +330,8 @@ def split(head, items, tail, indent="", width=100, items_width=100):
 
 
 def h_codes():
-    parts = [f"    {comment(code.says)}    BORSH_{code.name} = {code.number},\n" for code in CODES]
+    parts = [f"{comment(code.says, WIDTH - 4)}BORSH_{code.name} = {code.number},\n" for code in CODES]
+    parts = [textwrap.indent(part, "    ") for part in parts]
     return "enum borsh_code {\n" + "".join(parts) + "};\n"
 
 

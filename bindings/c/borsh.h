@@ -28,8 +28,8 @@ extern "C" {
 enum borsh_code {
     /* Yes; the buffer has what was asked for. */
     BORSH_YES = 0,
-    /* No: the container breaks a rule or has no size, the bytes are no value, the JSON says none, the type has no container, or the
- * new schema hasn't all values of the old one. */
+    /* No: the container breaks a rule or has no size, the bytes are no value, the JSON says none, the type has no container, or
+     * the new schema hasn't all values of the old one. */
     BORSH_NO = 1,
     /* The bytes of the schema aren't the encoding of a container. */
     BORSH_MALFORMED = 2,
@@ -38,7 +38,7 @@ enum borsh_code {
     /* A pointer is null: that of an input whose length isn't 0, or that of a result. */
     BORSH_NULL = 4,
     /* The container allows two values for the same bytes, or breaks a rule of widths, so it has no answer; of `borsh_compare`:
- * neither answer was found. */
+     * neither answer was found. */
     BORSH_UNDECIDED = 5,
     /* The bytes end within a value, of which more bytes may make one: of `borsh_records` alone. */
     BORSH_SHORT = 6,
@@ -49,10 +49,11 @@ struct borsh_buffer {
     /* Never null after a call, and behind the last byte is a zero byte that isn't counted. */
     const uint8_t *data;
     size_t length;
-    /* After BORSH_NO or BORSH_SHORT of a call about values: the path of the part that the text is about, as `A.y[3]`, which lies in `data`, or null. */
+    /* After BORSH_NO or BORSH_SHORT of a call about values: the path of the part that the text is about, as `A.y[3]`, which lies in `data`, or null;
+     * of `borsh_compile`: the input that is wrong, `text` or `type`. */
     const uint8_t *path;
     size_t path_length;
-    /* If `has_offset`, the byte at which the value has no such part, or near which the JSON is wrong. */
+    /* If `has_offset`, the byte at which the value has no such part, or near which the JSON is wrong, or which is wrong in that input. */
     size_t offset;
     bool has_offset;
     /* What `borsh_free` frees. */

@@ -59,6 +59,12 @@ static const size_t lengths[] = {15, 12};
 /* The beginning of a value. */
 static const uint8_t cut[] = "\14\0\0";
 
+/* The text of a type, a name, one that isn't there, and a container that has other values: `u8`. */
+static const uint8_t source[] = "struct A { x: u64, y: String }";
+static const uint8_t type[] = "A";
+static const uint8_t unknown[] = "Strin";
+static const uint8_t other[] = "\2\0\0\0u8\1\0\0\0\2\0\0\0u8\0\1";
+
 #define COUNT(list) (sizeof(list) / sizeof((list)[0]))
 
 /* The calls that `ask` makes: the code that each returns, and whether it may give fewer lines where memory is refused. */

@@ -1,4 +1,9 @@
 // The container of a type by its text.
+ghost use Rattle.borsh_c.specs.Answers.{About};
+ghost use Rattle.borsh_c.specs.Types.{IsOfType, TellsNoType};
+ghost use Rattle.borsh_definitions.specs.Codecs.{root_and_map};
+ghost use Rattle.std.specs.Prelude.{◌≡◌, IfErr, IfOk, Some};
+
 use super::answers::cut;
 use super::place::Span;
 use super::refusal::{Refusal, Said};
@@ -9,18 +14,20 @@ use std::alloc::{AllocError, Global};
 use std::fmt::Display;
 use std::str;
 
-/// One of the two texts: what it is called, and the number of its first line.
+/// One of the two texts, and what it is called.
 #[derive(Clone, Copy)]
 struct Input<'a> {
     name: &'static str,
     text: &'a str,
-    first_line: u32,
 }
 
 /// The encoding of the container of a type by its text, which may name the items of another.
-pub fn container_of(alloc: Global, text: &[u8], type_text: &[u8]) -> Result<Vec<u8>, Refusal> {
-    let items = input_of(alloc, "text", text, 1)?;
-    let written = input_of(alloc, "type", type_text, 0)?;
+pub fn container_of(alloc: Global, text: &[u8], type_text: &[u8]) -> Result<Vec<u8>, Refusal>
+    ensures ok { IfOk result (λ bytes. About bytes.items IsOfType) }
+    ensures err { IfErr result TellsNoType }
+{
+    let items = input_of(alloc, "text", text)?;
+    let written = input_of(alloc, "type", type_text)?;
     let mut source = match parse_items(alloc, items.text) {
         Ok(source) => source,
         Err(error) => return Err(no_tree(alloc, items, &error)?),
@@ -35,18 +42,11 @@ pub fn container_of(alloc: Global, text: &[u8], type_text: &[u8]) -> Result<Vec<
     }
 }
 
-fn input_of<'a>(
-    alloc: Global,
-    name: &'static str,
-    text: &'a [u8],
-    first_line: u32,
-) -> Result<Input<'a>, Refusal> {
+fn input_of<'a>(alloc: Global, name: &'static str, text: &'a [u8]) -> Result<Input<'a>, Refusal>
+    ensures { IfErr result TellsNoType }
+{
     match str::from_utf8(text) {
-        Ok(text) => Ok(Input {
-            name,
-            text,
-            first_line,
-        }),
+        Ok(text) => Ok(Input { name, text }),
         Err(error) => {
             let offset = Some(error.valid_up_to());
             Err(refusal_in(alloc, name, offset, &"not UTF-8")?)
@@ -60,7 +60,9 @@ fn refusal_in<D: Display>(
     name: &str,
     offset: Option<usize>,
     why: &D,
-) -> Result<Refusal, AllocError> {
+) -> Result<Refusal, AllocError>
+    ensures { IfOk result TellsNoType }
+{
     let path = Some(Span {
         start: 0,
         length: name.len(),
@@ -69,7 +71,9 @@ fn refusal_in<D: Display>(
     Ok(Refusal::No(Said { text, offset, path }))
 }
 
-fn no_tree(alloc: Global, input: Input<'_>, error: &TextError<'_>) -> Result<Refusal, AllocError> {
+fn no_tree(alloc: Global, input: Input<'_>, error: &TextError<'_>) -> Result<Refusal, AllocError>
+    ensures { IfOk result TellsNoType }
+{
     let offset = match error {
         TextError::OutOfMemory => return Err(AllocError),
         TextError::Refused { place, .. } => offset_at(input.text, 1, *place),
@@ -85,21 +89,19 @@ fn no_container(
     items: Input<'_>,
     written: Input<'_>,
     error: &CompileError,
-) -> Result<Refusal, AllocError> {
+) -> Result<Refusal, AllocError>
+    ensures { IfOk result TellsNoType }
+{
     let CompileError::Refused { place, cause, name } = error else {
         return Err(AllocError);
     };
-    let input = if place.line == 0 && place.column > 0 {
-        written
+    let (input, offset) = if place.line == 0 && place.column > 0 {
+        (written, offset_at(written.text, 0, *place))
+    } else if written.text.contains('\n') {
+        // Its further lines look like lines of the items.
+        (items, None)
     } else {
-        items
-    };
-    // Of a type in several lines those behind the first look like lines of the items.
-    let is_known = place.line == 0 || !written.text.contains('\n');
-    let offset = if is_known {
-        offset_at(input.text, input.first_line, *place)
-    } else {
-        None
+        (items, offset_at(items.text, 1, *place))
     };
     if *cause == Cause::UnknownType
         && let Some(near) = nearest_name(alloc, source, name.as_str())?
@@ -135,7 +137,11 @@ fn offset_at(text: &str, first_line: u32, place: Place) -> Option<usize> {
     }
 }
 
-fn encoding_of(alloc: Global, compiled: &Compiled) -> Result<Vec<u8>, Refusal> {
+fn encoding_of(alloc: Global, compiled: &Compiled) -> Result<Vec<u8>, Refusal>
+    ensures ok { let c = (compiled.now.declaration, compiled.now.definitions) in
+        IfOk result (λ bytes. root_and_map.encoding c ≡ Some bytes.items) }
+    ensures err { IfErr result TellsNoType }
+{
     let mut bytes = Vec::new(alloc);
     // A container that was compiled has an encoding.
     match write_two(

@@ -35,11 +35,6 @@ fn headed(alloc: Global, word: &str, changes: &[Change<'_>]) -> Result<String, A
     }
 }
 
-// All but the first.
-fn others<'a, 'b>(changes: &'b [Change<'a>]) -> &'b [Change<'a>] {
-    changes.get(1..).unwrap_or(&[])
-}
-
 /// The answer and the changes as lines, without their ends. Names are as the schemas have them: escape these before they go to a
 /// terminal. The only error is that an allocation failed. Left open: the lines: tested.
 ///
@@ -53,7 +48,9 @@ pub fn comparison_lines(
     compared: &Comparison<'_>,
 ) -> Result<Vec<String>, AllocError> {
     let mut lines: Vec<String> = Vec::new(alloc);
-    let mut changes = compared.changes.as_slice();
+    let changes = compared.changes.as_slice();
+    // How many changes the answer's own line has.
+    let mut told = 0;
     match &compared.answer {
         Answer::Same => {
             let same = "the same: the two schemas have the same values";
@@ -66,14 +63,14 @@ pub fn comparison_lines(
         Answer::Incompatible(evidence) => {
             lines.push(headed(alloc, "incompatible", changes)?)?;
             lines.push(format!(in alloc; "  {evidence}")?)?;
-            changes = others(changes);
+            told = 1;
         }
         Answer::NotKnown => {
             lines.push(headed(alloc, "not known", changes)?)?;
-            changes = others(changes);
+            told = 1;
         }
     }
-    for change in changes {
+    for change in changes.get(told..).unwrap_or(&[]) {
         lines.push(format!(in alloc; "  {change}")?)?;
     }
     Ok(lines)
