@@ -224,7 +224,7 @@ export class Schema {
   rowsBefore(bytes: Source): Row[];
 }
 
-/** What {@link compare} says. What isn't printable ASCII in its texts is escaped. */
+/** What {@link compare} says. Names are as they are in the schemas, but for line ends, which are `\x0a`. */
 export interface Comparison {
   /** `"not known"` if neither bytes nor a proof were found. */
   readonly answer: "the same" | "compatible" | "incompatible" | "not known";
@@ -232,9 +232,9 @@ export interface Comparison {
   readonly isCompatible: boolean;
   /** What changed, as `A.kind: variant Frozen is new`: all, or where the schemas aren't compatible what that was found by. */
   readonly changes: readonly string[];
-  /** Of incompatible schemas the digits of bytes that are a value of the old one and none of the new, and why. */
+  /** Of incompatible schemas the digits of bytes, of many the first, that are a value of the old one and none of the new, and why. */
   readonly evidence: string | undefined;
-  /** All of it, as the tool's `borsh compare` prints it. */
+  /** All of it in lines, in the words of the tool's `borsh compare`. */
   readonly text: string;
 }
 

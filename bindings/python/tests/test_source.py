@@ -102,6 +102,13 @@ class Compared(unittest.TestCase):
             count += 1
         self.assertGreaterEqual(count, 60)
 
+    def test_a_line_end_in_a_name_ends_no_line(self):
+        old, new = (
+            Schema.of("\n  A", {"\n  A": {"Struct": {"fields": {"NamedFields": [[field, "u8"]]}}}, "u8": {"Primitive": 1}})
+            for field in (" x\n  y\r", "z")
+        )
+        self.assertEqual(compare(old, new).changes, ["\\x0a  A. x\\x0a  y\r is now \\x0a  A.z"])
+
     def test_only_schemas_are_compared(self):
         for pair in ((7, Schema.parse("u8")), (Schema.parse("u8"), b"")):
             with self.assertRaises(TypeError):

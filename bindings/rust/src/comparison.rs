@@ -16,7 +16,8 @@ pub enum Answer {
     NotKnown,
 }
 
-/// What [`compare`] says. It is displayed as the tool's `borsh compare` prints it; what isn't printable ASCII in it is escaped.
+/// What [`compare`] says. It is displayed in lines, in the words of the tool's `borsh compare`. Names are as they are in the schemas, but
+/// for line ends, which are `\x0a`: escape them before they go to a terminal.
 #[derive(Clone, Debug, PartialEq, Eq)]
 pub struct Comparison {
     answer: Answer,
@@ -36,22 +37,31 @@ impl Comparison {
 
     /// What changed, as `A.kind: variant Frozen is new`: all, or where the schemas aren't compatible what that was found by.
     pub fn changes(&self) -> Vec<&str> {
-        let mut lines = self.text.lines();
-        let first = lines.next().unwrap_or_default();
         let mut changes = Vec::new();
         if !self.is_compatible() {
-            changes.extend(first.split_once(": ").map(|(_, change)| change));
+            let first = self
+                .text
+                .split('\n')
+                .next()
+                .and_then(|it| it.split_once(": "));
+            changes.extend(first.map(|(_, change)| change));
         }
         let behind = usize::from(self.evidence().is_some());
-        changes.extend(lines.skip(behind).map(str::trim_start));
+        changes.extend(self.lines_behind().skip(behind));
         changes
     }
 
-    /// Of incompatible schemas the digits of bytes that are a value of the old one and none of the new, and why.
+    /// Of incompatible schemas the digits of bytes, of many the first, that are a value of the old one and none of the new, and why.
     pub fn evidence(&self) -> Option<&str> {
         let is_there = self.answer == Answer::Incompatible;
-        let line = self.text.lines().nth(1).filter(|_| is_there);
-        line.map(str::trim_start)
+        self.lines_behind().next().filter(|_| is_there)
+    }
+
+    /// The lines behind the first, which are indented by two spaces.
+    fn lines_behind(&self) -> impl Iterator<Item = &str> {
+        self.text
+            .split_terminator('\n')
+            .filter_map(|it| it.strip_prefix("  "))
     }
 }
 

@@ -27,7 +27,7 @@ class Answer(enum.Enum):
 
 
 class Comparison(NamedTuple):
-    """What `compare` says. What isn't printable ASCII in its texts is escaped."""
+    """What `compare` says. Names are as they are in the schemas, but for line ends, which are `\\x0a`."""
 
     answer: Answer
     """The answer."""
@@ -36,10 +36,10 @@ class Comparison(NamedTuple):
     """What changed, a line each: all, or where the schemas aren't compatible what that was found by."""
 
     evidence: Optional[str]
-    """Of incompatible schemas the digits of bytes that are a value of the old one and none of the new, and why."""
+    """Of incompatible schemas the digits of bytes, of many the first, that are a value of the old one and none of the new, and why."""
 
     text: str
-    """All of it, as the tool's `borsh compare` prints it."""
+    """All of it in lines, in the words of the tool's `borsh compare`."""
 
     @property
     def is_compatible(self) -> bool:
@@ -74,9 +74,9 @@ def compare(old: Schema, new: Schema) -> Comparison:
     except Error as error:
         text = str(error)
         answer = Answer.INCOMPATIBLE if error.kind is Kind.NO else Answer.NOT_KNOWN
-    first, *lines = text.rstrip("\n").split("\n")
-    evidence = lines.pop(0).strip() if answer is Answer.INCOMPATIBLE else None
-    changes = [line.strip() for line in lines]
+    first, *lines, _ = text.split("\n")
+    changes = [line[2:] for line in lines]
+    evidence = changes.pop(0) if answer is Answer.INCOMPATIBLE else None
     if answer in (Answer.INCOMPATIBLE, Answer.NOT_KNOWN):
         changes.insert(0, first.partition(": ")[2])
     return Comparison(answer, changes, evidence, text)
