@@ -151,12 +151,12 @@ const TEXTS = [
   ["struct A {\n  x u8,\n}", "Rust source", "text: line 2, column 5: met `u8`, expected `:`"],
   [
     `mod m { /* enum No { A } */ pub struct Pair<T>(T); }
-     impl Iterator for It { type Item = u8; fn f() { struct Inner; let open = '{'; } }
+     impl Iterator for [It; 2] { type Item = u8; fn f() { struct Inner; let open = '{'; } }
      struct Held<'a> { text: &'a str } const TEXT: &str = "struct Not;"; macro_rules! m { () => { enum Nor {} } }
-     type Both = m::Pair<u8>; impl Held<'_> {}`,
+     struct Callback { f: fn() } type Both = m::Pair<u8>; impl Held<'_> {}`,
     "Rust source",
     "struct Pair<u8> { 0: u8 }",
-    ["Held", "Both"],
+    ["Held", "Callback", "Both"],
   ],
   ["struct Pair<A, B>(A, B);", "Rust source", "this text has no type without parameters"],
   ["export const schema: Schema = {struct: {'a-b': {array: {type: 'u8', len: 2}}, c: \"string\",},};", "a schema of borsh-js", "struct Schema { a-b: [u8; 2], c: String }"],

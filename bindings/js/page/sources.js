@@ -16,37 +16,33 @@ function readRust(text, { format, literal }) {
   return isType ? { make: () => Schema.parse(text) } : undefined;
 }
 
-/** What has no items: comments, strings, characters. */
-const NO_ITEMS = /\/\/.*|\/\*[^]*?\*\/|r(#*)"[^]*?"\1|"(?:[^"\\]|\\[^])*"|'(?:[^'\\]|\\.[^']*)'/g;
+/** What has no items: comments, strings, characters; of one that isn't closed all that follows. */
+const NO_ITEMS = /\/\/.*|\/\*[^]*?(?:\*\/|$)|r(#*)"[^]*?(?:"\1|$)|"(?:[^"\\]|\\[^])*(?:"|$)|'(?:[^'\\]|\\.[^']*)'/g;
 
-/** The names of the items that are types without parameters, in order. */
+/** The names of the items that are types without parameters, in order: those in braces behind `impl`, `trait`, `fn` or a macro are none. */
 function typesOfRust(text) {
-  const code = withoutBodies(text.replace(NO_ITEMS, " "));
-  const found = code.matchAll(/\b(?:struct|enum|type)\s+([a-z_]\w*)\s*(?:<([^>]*)>)?/gi);
-  const hasParameters = (parameters = "") => parameters.split(",").some((it) => /^\s*[^\s']/.test(it));
-  return [...new Set([...found].filter(([, , parameters]) => !hasParameters(parameters)).map(([, name]) => name))];
+  const code = text.replace(NO_ITEMS, " ");
+  const names = new Set();
+  let depth = 0;
+  let skipped = 0; // how deep the braces are that have no items
+  let isHead = false; // of what has braces without items
+  let last = "";
+  // A semicolon in an array's type ends nothing.
+  for (const { 0: token, index } of code.matchAll(/[a-z_]\w*!?|;\s*[\w:]+\s*\]|[{};]/gi)) {
+    if (token === "{" && ++depth && isHead && skipped === 0) skipped = depth;
+    if (token === "}" && depth-- === skipped) skipped = 0;
+    if (["{", "}", ";"].includes(token)) isHead = false;
+    else if (/!$|^(impl|trait|fn)$/.test(token)) isHead = true;
+    else if (!isHead && skipped === 0 && ["struct", "enum", "type"].includes(last) && !hasParameters(code, index + token.length)) names.add(token);
+    last = token;
+  }
+  return [...names];
 }
 
-/** The code without what stands in braces behind `impl`, `trait`, `fn` or a macro's name, which has no items of the file. */
-function withoutBodies(code) {
-  let kept = "";
-  for (let rest = code; ; ) {
-    const head = /(?:\b(?:impl|trait|fn)\b|\w!)[^{;]*[{;]/.exec(rest);
-    if (head === null) return kept + rest;
-    kept += rest.slice(0, head.index);
-    rest = rest.slice(head.index + head[0].length);
-    if (head[0].endsWith("{")) rest = rest.slice(endOfBraces(rest));
-  }
-}
-
-/** Where the brace closes that was opened before the text. */
-function endOfBraces(text) {
-  let depth = 1;
-  for (const { 0: brace, index } of text.matchAll(/[{}]/g)) {
-    depth += brace === "{" ? 1 : -1;
-    if (depth === 0) return index + 1;
-  }
-  return text.length;
+/** Whether the name that ends there has parameters beside lifetimes. */
+function hasParameters(code, end) {
+  const [, parameters = ""] = /^\s*(?:<([^>]*)>)?/.exec(code.slice(end, end + 1000));
+  return parameters.split(",").some((it) => /^\s*[^\s']/.test(it));
 }
 
 function readIdl(literal) {
@@ -85,10 +81,10 @@ function literalIn(text) {
 
 /** JSON of an object as JavaScript writes it: with names and strings in other quotation marks or in none, comments, and commas at ends. */
 function jsonOfLiteral(text) {
-  const quoted = text.replace(/"(?:[^"\\]|\\.)*"|'((?:[^'\\]|\\.)*)'|\/\/.*|\/\*[^]*?\*\/|[a-z_$][\w$]*/gi, (found, inner) => {
+  const quoted = text.replace(/"(?:[^"\\]|\\[^])*"|'((?:[^'\\]|\\[^])*)'|\/\/.*|\/\*[^]*?(?:\*\/|$)|[a-z_$][\w$]*/gi, (found, inner) => {
     if (inner !== undefined) return `"${inner.replace(/\\'/g, "'").replace(/"/g, '\\"')}"`;
     if (found.startsWith("/")) return "";
     return found.startsWith('"') || ["true", "false", "null"].includes(found) ? found : `"${found}"`;
   });
-  return quoted.replace(/"(?:[^"\\]|\\.)*"|,(?=\s*[}\]])/g, (found) => (found === "," ? "" : found));
+  return quoted.replace(/"(?:[^"\\]|\\[^])*"|,(?=\s*[}\]])/g, (found) => (found === "," ? "" : found));
 }
