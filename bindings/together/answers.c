@@ -45,17 +45,22 @@ static void tell_refusal(uint32_t code, const struct borsh_buffer *text) {
     print_plain(text->data, text->length);
 }
 
+/* Tells a yes, or why not, before another answer. */
+static void tell_verdict(uint32_t code, struct borsh_buffer *text) {
+    if (code == BORSH_YES)
+        fprintf(answers, "0");
+    else
+        tell_refusal(code, text);
+    borsh_free(text);
+    fputs(" ; ", answers);
+}
+
 /* Whether the bytes are a schema. */
 static bool ask_schema(struct bytes schema) {
     struct borsh_buffer text;
     size_t size = 0;
     uint32_t code = borsh_valid(schema.data, schema.length, &text);
-    if (code == BORSH_YES)
-        fprintf(answers, "0");
-    else
-        tell_refusal(code, &text);
-    borsh_free(&text);
-    fputs(" ; ", answers);
+    tell_verdict(code, &text);
     code = borsh_size(schema.data, schema.length, &size, &text);
     if (code == BORSH_YES)
         fprintf(answers, "0 %zu", size);
@@ -89,12 +94,7 @@ static void ask_types(struct bytes items, struct bytes type, struct bytes old, s
 static void ask_value(struct bytes schema, struct bytes value) {
     struct borsh_buffer text, again;
     uint32_t code = borsh_member(schema.data, schema.length, value.data, value.length, &text);
-    if (code == BORSH_YES)
-        fprintf(answers, "0");
-    else
-        tell_refusal(code, &text);
-    borsh_free(&text);
-    fputs(" ; ", answers);
+    tell_verdict(code, &text);
     code = borsh_to_json(schema.data, schema.length, value.data, value.length, true, false, &text);
     if (code == BORSH_YES) {
         fwrite(text.data, 1, text.length, answers);

@@ -564,57 +564,32 @@ impl Parts<'_> {
     }
 }
 
-impl ser::SerializeSeq for Parts<'_> {
-    type Ok = ();
-    type Error = Fault;
+/// Parts that come one by one, as serde names them: of elements, each by its value, and of fields, each by its name too.
+macro_rules! one_by_one {
+    ($($kind:ident $method:ident($($name:ident: $type:ty)?) $put:ident),*) => {
+        $(impl ser::$kind for Parts<'_> {
+            type Ok = ();
+            type Error = Fault;
 
-    fn serialize_element<T: Serialize + ?Sized>(&mut self, value: &T) -> Outcome {
-        self.put_element(value)
-    }
+            fn $method<T: Serialize + ?Sized>(&mut self, $($name: $type,)? value: &T) -> Outcome {
+                self.$put($($name,)? value)
+            }
 
-    fn end(self) -> Outcome {
-        self.finish()
-    }
+            fn end(self) -> Outcome {
+                self.finish()
+            }
+        })*
+    };
 }
 
-impl ser::SerializeTuple for Parts<'_> {
-    type Ok = ();
-    type Error = Fault;
-
-    fn serialize_element<T: Serialize + ?Sized>(&mut self, value: &T) -> Outcome {
-        self.put_element(value)
-    }
-
-    fn end(self) -> Outcome {
-        self.finish()
-    }
-}
-
-impl ser::SerializeTupleStruct for Parts<'_> {
-    type Ok = ();
-    type Error = Fault;
-
-    fn serialize_field<T: Serialize + ?Sized>(&mut self, value: &T) -> Outcome {
-        self.put_element(value)
-    }
-
-    fn end(self) -> Outcome {
-        self.finish()
-    }
-}
-
-impl ser::SerializeTupleVariant for Parts<'_> {
-    type Ok = ();
-    type Error = Fault;
-
-    fn serialize_field<T: Serialize + ?Sized>(&mut self, value: &T) -> Outcome {
-        self.put_element(value)
-    }
-
-    fn end(self) -> Outcome {
-        self.finish()
-    }
-}
+one_by_one!(
+    SerializeSeq serialize_element() put_element,
+    SerializeTuple serialize_element() put_element,
+    SerializeTupleStruct serialize_field() put_element,
+    SerializeTupleVariant serialize_field() put_element,
+    SerializeStruct serialize_field(name: &'static str) put_field,
+    SerializeStructVariant serialize_field(name: &'static str) put_field
+);
 
 impl ser::SerializeMap for Parts<'_> {
     type Ok = ();
@@ -626,32 +601,6 @@ impl ser::SerializeMap for Parts<'_> {
 
     fn serialize_value<T: Serialize + ?Sized>(&mut self, value: &T) -> Outcome {
         self.put_value(value)
-    }
-
-    fn end(self) -> Outcome {
-        self.finish()
-    }
-}
-
-impl ser::SerializeStruct for Parts<'_> {
-    type Ok = ();
-    type Error = Fault;
-
-    fn serialize_field<T: Serialize + ?Sized>(&mut self, name: &'static str, value: &T) -> Outcome {
-        self.put_field(name, value)
-    }
-
-    fn end(self) -> Outcome {
-        self.finish()
-    }
-}
-
-impl ser::SerializeStructVariant for Parts<'_> {
-    type Ok = ();
-    type Error = Fault;
-
-    fn serialize_field<T: Serialize + ?Sized>(&mut self, name: &'static str, value: &T) -> Outcome {
-        self.put_field(name, value)
     }
 
     fn end(self) -> Outcome {
