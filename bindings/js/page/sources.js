@@ -9,7 +9,7 @@ function readRust(text, { format, literal }) {
   if (literal !== undefined || text.startsWith("{")) return undefined;
   if (/\b(struct|enum|type)\s+\w/.test(text)) {
     const types = typesOfRust(text);
-    return { types, meant: types.at(-1), make: (type) => schemaOfType(text, type) };
+    return { types, meant: types[types.length - 1], make: (type) => schemaOfType(text, type) };
   }
   const isWord = format === "any" && text.length < LEAST_BASE64 && /^[a-z_]\w*$/i.test(text) && bytesOfDigits(text, HEX) === undefined;
   const isType = isWord || /^[&([]|^(::)?[a-z_]\w*\s*(<|::)/i.test(text);
@@ -47,12 +47,12 @@ function hasParameters(code, end) {
 
 function readIdl(literal) {
   const idl = literal?.object;
-  if (!["types", "accounts", "instructions"].some((name) => Object.hasOwn(idl ?? {}, name))) return undefined;
+  if (!hasOne(idl, ["types", "accounts", "instructions"])) return undefined;
   const listOf = (name) => (Array.isArray(idl[name]) ? idl[name] : []);
   const accounts = listOf("accounts").map((it) => it?.name);
   const plain = listOf("types").filter((it) => !(it?.generics?.length > 0)).map((it) => it?.name);
   const types = [...new Set([...plain, ...accounts])].filter((it) => typeof it === "string");
-  return { types, meant: accounts.find((it) => types.includes(it)) ?? types.at(-1), make: (type) => schemaOfType(literal.text, type) };
+  return { types, meant: accounts.find((it) => types.includes(it)) ?? types[types.length - 1], make: (type) => schemaOfType(literal.text, type) };
 }
 
 function schemaOfType(text, type) {
@@ -61,8 +61,12 @@ function schemaOfType(text, type) {
 }
 
 function readObject(literal) {
-  const isOther = literal === undefined || ["declaration", "definitions"].some((name) => Object.hasOwn(literal.object, name));
+  const isOther = literal === undefined || hasOne(literal.object, ["declaration", "definitions"]);
   return isOther ? undefined : { make: () => Schema.parse(literal.text) };
+}
+
+function hasOne(object, names) {
+  return Object.keys(object ?? {}).some((name) => names.includes(name));
 }
 
 /** The object that a text is as JSON, or as JavaScript writes it, and its JSON. */
