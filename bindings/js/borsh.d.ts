@@ -8,8 +8,8 @@ export class BorshError extends Error {
 
   readonly kind: ErrorKind;
   /**
-   * The path of the part that the error is about, as `A.y[3]` or `A.y[3]::V.0`, where a name is written as it is in the schema; `text` or
-   * `type`, of {@link Schema.parse}.
+   * The path of the part that the error is about, as `A.y[3]` or `A.y[3]::V.0`, where a name that isn't an identifier is in quotation
+   * marks; `text` or `type`, of {@link Schema.parse}.
    */
   readonly path: string | undefined;
   /** The name of the part's type, of an error about bytes. */
@@ -224,7 +224,7 @@ export class Schema {
   rowsBefore(bytes: Source): Row[];
 }
 
-/** What {@link compare} says. Names are as they are in the schemas, but for line ends, which are `\x0a`. */
+/** What {@link compare} says. Names that aren't identifiers are in quotation marks, and a line end in one is `\x0a`. */
 export interface Comparison {
   /** `"not known"` if neither bytes nor a proof were found. */
   readonly answer: "the same" | "compatible" | "incompatible" | "not known";

@@ -55,7 +55,7 @@ except Error as error:
     path: Optional[str] = error.path
     offset: Optional[int] = error.offset
     record: Optional[int] = error.record
-    assert (kind, path, offset, record) == (Kind.NO, "(u8, f64).1", 1, None)
+    assert (kind, path, offset, record) == (Kind.NO, '"(u8, f64)".1', 1, None)
 
 try:
     Schema.parse("struct A { x u8 }", "A")

@@ -64,8 +64,8 @@ pub enum ErrorKind {
     Unknown,
 }
 
-/// Why there is no answer, or why it is no. Its text names the place: `A.y (`String` at byte 8): too few bytes are left`. Names in it
-/// are as they are in the schema: escape them before they go to a terminal.
+/// Why there is no answer, or why it is no. Its text names the place: `A.y (`String` at byte 8): too few bytes are left`. Of names
+/// only `"` and `\` are escaped: escape other characters before they go to a terminal.
 #[derive(Clone, Debug, PartialEq, Eq)]
 pub struct Error {
     code: u32,

@@ -31,7 +31,7 @@ class Error(ValueError):
     ...     schema.check(b"\\x07")
     ... except Error as error:
     ...     print(error, error.kind, error.path, error.offset, sep=" | ")
-    no member: (u8, bool).1 (`bool` at byte 1): too few bytes are left | Kind.NO | (u8, bool).1 | 1
+    no member: "(u8, bool)".1 (`bool` at byte 1): too few bytes are left | Kind.NO | "(u8, bool)".1 | 1
     """
 
     kind: Kind
