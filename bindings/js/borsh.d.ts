@@ -129,7 +129,7 @@ export class Schema {
    * eight bytes of discriminator; or a schema object of borsh-js, whose own type is `Schema`. The last two are JSON, or an object of it.
    * `type` is any type in Rust's words. Without it the source is itself a type, or a schema object.
    *
-   * The error is `"no"`, with line and column, but of JSON, if the text can't be read, or the type has no schema.
+   * The error is `"no"`, with line and column, if the text can't be read, or the type has no schema.
    *
    * ```js
    * Schema.parse("struct Vault { owner: [u8; 32], open: bool }", "Vault");

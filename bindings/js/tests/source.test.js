@@ -42,8 +42,8 @@ test("texts without a schema say what is wrong, and where", () => {
     [["/* é */ struct B(u8)", "B"], /^text: line 1, column 21: the text ends, expected `;`$/, 21],
     [["struct Vault;", "Vec<Valt>"], /^type: column 5: `Valt` is no type that has a schema; `Vault` is$/, 4],
     [["Vec<()>"], /^type: column 1: `Vec<\(\)>` breaks the rule ZSTSequence$/, 0],
-    [['{"types": }', "A"], /^text: expected JSON$/],
-    [[{ strcut: {} }], /^text: `Schema`: expected a type$/],
+    [['{"types": }', "A"], /^text: line 1, column 11: met `}`, expected a value of JSON$/, 10],
+    [[{ strcut: {} }], /^text: line 1, column 2: met `"strcut"`, expected a type$/, 1],
     [["", undefined], /^type: line 1, column 1: the text ends, expected a type$/, 0],
     [["\ud800", "A"], /^text: not UTF-8$/, 0],
     [[own({ struct: () => { throw new Error(); } })], /^the object can't be read$/],
@@ -70,8 +70,8 @@ test("texts that nest deep, or are long", () => {
     for (const [open, close] of [["Box<", ">"], ["(", ")"], ["[", "; 1]"], ["&", ""]]) {
       assertRefused(attempt(() => Schema.parse(nested(open, close, count))), /at most 128 types or brackets in one another$/, 128 * open.length);
     }
-    for (const text of [nested('{"option":', "}", count).replace("u8", '"u8"'), `{"struct":${"[".repeat(count)}`]) {
-      assertRefused(attempt(() => Schema.parse(text)), /^text: (expected JSON|`Schema`: expected at most 128)/);
+    for (const [text, offset] of [[nested('{"option":', "}", count), 1280], [`{"struct":${"[".repeat(count)}`, 137]]) {
+      assertRefused(attempt(() => Schema.parse(text)), /^text: line 1, column \d+: met `[{[]`, expected at most 128/, offset);
     }
   }
   const items = Array.from({ length: 10000 }, (_, index) => `struct S${index} { x: u8, next: Vec<S${(index + 1) % 10000}> }`).join("\n");

@@ -60,7 +60,7 @@ class Source(unittest.TestCase):
             (("/* é */ struct B(u8)", "B"), "^text: line 1, column 21: the text ends, expected `;`$", 21),
             (("struct Vault;", "Vec<Valt>"), "^type: column 5: `Valt` is no type that has a schema; `Vault` is$", 4),
             (("Vec<()>",), r"^type: column 1: `Vec<\(\)>` breaks the rule ZSTSequence$", 0),
-            (('{"types": }', "A"), "^text: expected JSON$", None),
+            (('{"types": }', "A"), "^text: line 1, column 11: met `}`, expected a value of JSON$", 10),
             (("",), "^type: line 1, column 1: the text ends, expected a type$", 0),
             (("\ud800", "A"), "^text: not UTF-8$", 0),
         ]:

@@ -192,7 +192,7 @@ impl Schema {
     ///
     /// # Errors
     ///
-    /// [`ErrorKind::No`] with line and column, but of JSON, if the text can't be read, or the type has no schema;
+    /// [`ErrorKind::No`] with line and column, if the text can't be read, or the type has no schema;
     /// [`ErrorKind::OutOfMemory`].
     pub fn parse<'a>(text: &str, type_name: impl Into<Option<&'a str>>) -> Result<Schema, Error> {
         let (items, name) = match type_name.into() {

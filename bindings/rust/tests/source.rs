@@ -64,7 +64,7 @@ struct A {\n  x u8,\n}|A|text: line 2, column 5: met `u8`, expected `:`|15
 /* é */ struct B(u8)|B|text: line 1, column 21: the text ends, expected `;`|21
 struct Vault;|Vec<Valt>|type: column 5: `Valt` is no type that has a schema; `Vault` is|4
 |Vec<()>|type: column 1: `Vec<()>` breaks the rule ZSTSequence|0
-{"types": }|A|text: expected JSON|
+{"types": }|A|text: line 1, column 11: met `}`, expected a value of JSON|10
 ||type: line 1, column 1: the text ends, expected a type|0"#;
 
 #[test]

@@ -1,7 +1,7 @@
 // Texts with errors, and texts that were changed at random.
 use crate::error::TextError;
 use crate::parse::parse_items;
-use borsh_source::{CompileError, Source, compile};
+use borsh_source::{CompileError, Compiled, Source, compile};
 use std::alloc::{AllocError, Global};
 use std::str;
 use std::test::Fail;
@@ -56,17 +56,21 @@ fn changed(alloc: Global, text: &[u8], seed: u64) -> Result<Vec<u8>, AllocError>
     Ok(bytes)
 }
 
-/// Whether compiling each type says what can be: a root that is defined, or a place in the text.
+/// Whether compiling says what can be: a root that is defined, or a place in the text.
+fn is_told(compiled: &Result<Compiled, CompileError>, lines: usize) -> bool {
+    match compiled {
+        Ok(compiled) => compiled
+            .definitions
+            .contains_key(compiled.declaration.as_str()),
+        Err(CompileError::Refused { place, .. }) => place.line as usize <= lines,
+        Err(CompileError::OutOfMemory) => false,
+    }
+}
+
 fn are_compiled(alloc: Global, source: &Source, lines: usize) -> bool {
     for root in 0..source.types.len() {
-        let is_told = match compile(alloc, source, root) {
-            Ok(compiled) => compiled
-                .definitions
-                .contains_key(compiled.declaration.as_str()),
-            Err(CompileError::Refused { place, .. }) => place.line as usize <= lines,
-            Err(CompileError::OutOfMemory) => false,
-        };
-        if !is_told {
+        let compiled = compile(alloc, source, root);
+        if !is_told(&compiled, lines) {
             return false;
         }
     }

@@ -57,7 +57,7 @@ class Schema:
         discriminator; or a schema object of borsh-js as JSON, whose own type is `Schema`. The type is any in Rust's words. Without one
         the text is itself a type, or a schema object.
 
-        Raises an `Error` with line and column, but of JSON, if the text can't be read, or the type has no schema.
+        Raises an `Error` with line and column, if the text can't be read, or the type has no schema.
 
         >>> source = "pub enum State { Empty, Open(u64) } pub struct Vault { owner: [u8; 4], state: State }"
         >>> Schema.parse(source, "Vault").decode(bytes([1, 2, 3, 4, 0]))
