@@ -363,35 +363,33 @@ def refuse_type(marked, field, place):
             raise Refusal(field.line, reason % (marked.name, name, field.name, NO_ENCODING[name]))
 
 
+def refuse_parameters(marked, field, names, is_length, reason):
+    """Refuses the parameters of that kind, lengths or types, that are among the names."""
+    for parameter in marked.parameters:
+        if (parameter.constant if is_length else parameter.is_type) and parameter.name in names:
+            raise Refusal(field.line, reason % parameter.name)
+
+
 def refuse_array_of_parameter(marked, field):
     """An array whose elements hold a parameter by itself: that it fits in memory doesn't follow."""
     for array in arrays_in(field.type):
-        names = bare_names(array.element)
-        for parameter in marked.parameters:
-            if parameter.is_type and parameter.name in names:
-                reason = ('the parameter `%s` is by itself in an array, and the proofs need an array of a known size: '
+        refuse_parameters(marked, field, bare_names(array.element), False,
+                          'the parameter `%s` is by itself in an array, and the proofs need an array of a known size: '
                           'write `Vec<..>`, or a tuple')
-                raise Refusal(field.line, reason % parameter.name)
 
 
 def refuse_length_on_the_heap(marked, field):
     """A parameter that is a length, within a list: that an element fits in memory doesn't follow."""
-    names = names_on_the_heap(field.type)
-    for parameter in marked.parameters:
-        if parameter.constant and parameter.name in names:
-            reason = ('the length `%s` is within a type like `Vec`, and the proofs need elements of a known size: write '
+    refuse_parameters(marked, field, names_on_the_heap(field.type), True,
+                      'the length `%s` is within a type like `Vec`, and the proofs need elements of a known size: write '
                       'the length as a number, or hold the array by itself')
-            raise Refusal(field.line, reason % parameter.name)
 
 
 def refuse_bare_length(marked, field):
     """A length as a parameter by itself in a variant: that the variants fit in memory doesn't follow."""
-    names = [] if field.skipped else bare_names(field.type)
-    for parameter in marked.parameters:
-        if parameter.constant and parameter.name in names:
-            reason = ('the length `%s` is by itself in a variant, and the proofs need an enum of a known size: write the '
+    refuse_parameters(marked, field, [] if field.skipped else bare_names(field.type), True,
+                      'the length `%s` is by itself in a variant, and the proofs need an enum of a known size: write the '
                       'length as a number')
-            raise Refusal(field.line, reason % parameter.name)
 
 
 def refuse_files(sources, files):

@@ -619,48 +619,46 @@ def read_where(reader):
     return joined(reader.until('{', ';')).rstrip(',').strip()
 
 
-def read_named_fields(reader, what):
-    reader.take('{')
+def read_fields(reader, kind, brackets, read_field):
+    """Fields between two brackets. `read_field` reads one, behind its attributes, and gives its name, its type and whether it is public."""
+    reader.take(brackets[0])
     found = []
-    while not reader.is_next('}'):
+    while not reader.is_next(brackets[1]):
         last_line = reader.last_line()
         skip_behind(reader, found, last_line)
         attributes, comments = above(reader)
         skipped = is_skipped(reader, comments, last_line)
         check_attributes(attributes, FIELD_ATTRIBUTES, 'field')
         line = reader.peek().line
+        name, type_of, is_public = read_field(len(found))
+        found.append(Field(name, type_of, line, is_public, skipped))
+        if not reader.skip(','):
+            break
+    skip_behind(reader, found, reader.last_line())
+    reader.take(brackets[1])
+    return Fields(kind, found)
+
+
+def read_named_fields(reader, what):
+    def read_field(_place):
         if reader.is_next('ghost'):
             reason = ('a ghost field says which values there are, which a decoder has to prove: implement the traits by '
                       'hand, with `TryFromParts` (docs/IMPLEMENTING.md)')
-            raise Refusal(line, reason)
-        public = skip_visibility(reader) or what == 'variant'
+            raise Refusal(reader.peek().line, reason)
+        is_public = skip_visibility(reader) or what == 'variant'
         name = reader.word()
         reader.take(':')
-        found.append(Field(name, parse_type(reader), line, public, skipped))
-        if not reader.skip(','):
-            break
-    skip_behind(reader, found, reader.last_line())
-    reader.take('}')
-    return Fields('named', found)
+        return name, parse_type(reader), is_public
+
+    return read_fields(reader, 'named', '{}', read_field)
 
 
 def read_tuple_fields(reader, public=False):
-    reader.take('(')
-    found = []
-    while not reader.is_next(')'):
-        last_line = reader.last_line()
-        skip_behind(reader, found, last_line)
-        attributes, comments = above(reader)
-        skipped = is_skipped(reader, comments, last_line)
-        check_attributes(attributes, FIELD_ATTRIBUTES, 'field')
-        line = reader.peek().line
+    def read_field(place):
         is_public = skip_visibility(reader) or public
-        found.append(Field(str(len(found)), parse_type(reader), line, is_public, skipped))
-        if not reader.skip(','):
-            break
-    skip_behind(reader, found, reader.last_line())
-    reader.take(')')
-    return Fields('tuple', found)
+        return str(place), parse_type(reader), is_public
+
+    return read_fields(reader, 'tuple', '()', read_field)
 
 
 def skip_behind(reader, fields, last_line):

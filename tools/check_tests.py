@@ -1,5 +1,5 @@
 #!/usr/bin/env python3
-"""Checks docs/TESTS.md and docs/original-tests.txt against the tests.
+"""Checks docs/TESTS.md and docs/original-tests.txt against the tests. With --write it writes the numbers of docs/TESTS.md first.
 
 The tables of docs/TESTS.md have each file of rows, `| `CRATE/FILE` | NUMBER/SECTIONS | ..`, and each crate with test
 functions, `| `CRATE` | NUMBER | ..`, once with the number of its rows, and of their sections, or of its functions; and each reason
@@ -16,7 +16,10 @@ import re
 import sys
 
 TOP = pathlib.Path(__file__).resolve().parent.parent
+PAGE = TOP / "docs/TESTS.md"
 TEST = re.compile(r"#\[test\]\s+fn (\w+)\(")
+# A row of the page's tables: a name, a number, and perhaps that of sections.
+ROW = re.compile(r"^(\| `?([^`|]+?)`? \| )([\d,]+)(?:/(\d+))? \|", re.M)
 
 
 def sections(file):
@@ -88,9 +91,20 @@ def original_tests(rows, wrong):
 
 def told():
     """Of each row of the tables in docs/TESTS.md that has a number: the name, the number, and that of sections, or 0."""
-    text = (TOP / "docs/TESTS.md").read_text(encoding="utf-8")
-    rows = re.findall(r"^\| `?([^`|]+?)`? \| ([\d,]+)(?:/(\d+))? \|", text, re.M)
-    return [(name, int(number.replace(",", "")), int(count or 0)) for name, number, count in rows]
+    rows = ROW.findall(PAGE.read_text(encoding="utf-8"))
+    return [(name, int(number.replace(",", "")), int(count or 0)) for _, name, number, count in rows]
+
+
+def write(numbers, in_sections):
+    """Writes the numbers of the rows whose names there are."""
+
+    def row(it):
+        if it[2] not in numbers:
+            return it[0]
+        count = f"/{in_sections[it[2]]}" if it[2] in in_sections else ""
+        return f"{it[1]}{numbers[it[2]]:,}{count} |"
+
+    PAGE.write_text(ROW.sub(row, PAGE.read_text(encoding="utf-8")), encoding="utf-8")
 
 
 def main():
@@ -113,6 +127,8 @@ def main():
                 left_out += 1
             elif place not in there and not place.startswith("differs: "):
                 wrong.append(f"docs/original-tests.txt: there is no `{place}`")
+    if sys.argv[1:] == ["--write"]:
+        write(numbers, in_sections)
     rows = told()
     if len(rows) != len({name for name, *_ in rows}):
         wrong.append("docs/TESTS.md: a name stands there twice")

@@ -7,6 +7,8 @@ import re
 import subprocess
 import sys
 
+import registers
+
 CLAUSE = re.compile(r"\s*(ensures|requires|ghost (?!use)\w+)\b[^{;]*\{")
 TOP = pathlib.Path(__file__).resolve().parent.parent
 
@@ -20,6 +22,11 @@ BARS = {
     "must-fail edits": 75,
     "crates with must-fail edits": 8,
 }
+
+# The crates whose code tools/registers.py writes in part, and how many lines of them may be kept by hand.
+WRITTEN = ("borsh_types", "borsh_ser", "borsh_de", "borsh_schema")
+BY_HAND = f"lines kept by hand of {', '.join(WRITTEN)}"
+BARS[BY_HAND] = 6000
 
 # Of crates together, in lines of code, definitions and proofs; the gate fails past those that are `KEPT`.
 TOGETHER = {
@@ -102,6 +109,7 @@ def main():
         "of these, tests and examples": sum(weight[0] for name, weight in crates.items() if is_test(name)),
         "must-fail edits": sum(weight[3] for weight in crates.values()),
         "crates with must-fail edits": sum(1 for weight in crates.values() if weight[3]),
+        BY_HAND: sum(crates[name][0] - registers.written_lines(name) for name in WRITTEN),
     }
     passed = [name for name, figure in figures.items() if figure > BARS[name]]
     for name, figure in figures.items():

@@ -4,3 +4,5 @@ pub mod Keeping
 pub mod Parts
 pub mod Reading
 pub mod Included
+pub mod Tables
+pub mod Staying

@@ -88,3 +88,7 @@ definitions_at old new pairs i j g x y p q = by_definition (record {
 pub ok_map : {A E : Type 0} (P Q : A → Type 0) (r : Result A E) → ((a : A) → P a → Q a) → IfOk r P → IfOk r Q
 ok_map P Q (Ok a) f h = f a h
 ok_map P Q (Err e) f h = h
+
+pub ok_any : {A E : Type 0} (P : A → Type 0) (r : Result A E) → ((a : A) → P a) → IfOk r P
+ok_any P (Ok a) f = f a
+ok_any P (Err e) f = tt

@@ -1,10 +1,11 @@
 -- What the answers of a comparison mean.
-use Rattle.std.specs.Prelude.{⊤, ℕ, List}
+use Rattle.std.specs.Prelude.{ℕ, List}
 use Rattle.borsh_walks.specs.Container.{Member}
 use Rattle.borsh_plan.specs.declared.plan.Plan.{Plan}
 use Rattle.borsh_plan.specs.Plan.{definitions_of, root_of}
 use Rattle.borsh_values.specs.Faults.{IsFault}
 use Rattle.borsh_values.specs.declared.faults.Fault.{Fault}
+use Rattle.borsh_compare.specs.Corresponding.{RootsCorrespond}
 use Rattle.borsh_compare.specs.Walks.{Includes}
 use Rattle.borsh_compare.specs.declared.compare.Answer.{Answer}
 use Rattle.borsh_compare.specs.declared.compare.Answer.TheVariants.{Same, Compatible, Incompatible, NotKnown}
@@ -20,4 +21,4 @@ abbrev pub IsAnswer : Plan → Plan → Answer → Type 0
 IsAnswer old new Same = Includes old new × Includes new old
 IsAnswer old new Compatible = Includes old new
 IsAnswer old new (Incompatible e) = IsEvidence old new e.bytes.items e.fault
-IsAnswer old new NotKnown = ⊤
+IsAnswer old new NotKnown = RootsCorrespond old new → ⊥

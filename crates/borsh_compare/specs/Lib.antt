@@ -1,3 +1,5 @@
 pub mod Together
 pub mod Walks
+pub mod Indexed
+pub mod Corresponding
 pub mod Answers

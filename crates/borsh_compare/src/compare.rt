@@ -19,7 +19,7 @@ pub enum Answer<'a> {
     Compatible,
     /// These bytes are one of the old, and none of the new.
     Incompatible(Evidence<'a>),
-    /// Neither was found.
+    /// Neither was found: the definitions don't correspond part by part.
     NotKnown,
 }
 
@@ -54,7 +54,7 @@ fn included<'a>(
 /// and what values mean, is not compared.
 ///
 /// The definitions may be any. Names that lead back to themselves are no obstacle. The only error is that an allocation failed.
-/// Left open: memory; `NotKnown` in place of another answer; the changes: tested.
+/// Left open: memory; `NotKnown` where parts don't correspond; the changes: tested.
 ///
 /// ```
 /// let old = Plan::new(alloc, "A", &old_definitions)?;

@@ -1,5 +1,6 @@
 // Whether two definitions go together, if their parts do.
 ghost use Rattle.borsh_compare.specs.Together.{HasNone, NamesGo, VariantsGo, unnamed};
+ghost use Rattle.borsh_compare.specs.Corresponding.{DefinitionsIn, IsIndexFor, Listing, Lists, PartIn, Stays, VariantsCorrespond};
 ghost use Rattle.borsh_compare.specs.Walks.{DefinitionsGoAt, Keeps, Paired, PartGoes};
 ghost use Rattle.borsh_plan.specs.Names.{name_at, parts_in, shape_at};
 ghost use Rattle.borsh_plan.specs.Plan.{definitions_of, names_of};
@@ -7,7 +8,7 @@ ghost use Rattle.borsh_plan.specs.Zeros.{IsProduct};
 ghost use Rattle.borsh_values.specs.Free.{FreeSize};
 ghost use Rattle.borsh_walks.specs.Container.{variant_names};
 ghost use Rattle.borsh_walks.specs.Definitions.{shape_of};
-ghost use Rattle.std.specs.Prelude.{IfOk, IfSome, List, OnOk, Some, length, slice_get, true, ℕ, ◌≤◌, ◌≡◌};
+ghost use Rattle.std.specs.Prelude.{IfOk, IfSome, List, None, OnOk, Some, false, length, slice_get, true, ℕ, ◌≤◌, ◌≡◌};
 
 use crate::pairs::{Pair, Pairs};
 use borsh_plan::Plan;
@@ -35,7 +36,8 @@ pub fn has_none(definition: &Definition) -> bool
 
 /// Whether the parts of the definition come one after another.
 pub fn is_product(definition: &Definition) -> bool
-    ensures { result ≡ true → IsProduct (shape_of definition.now) }
+    ensures is { result ≡ true → IsProduct (shape_of definition.now) }
+    ensures isnt { result ≡ false → IsProduct (shape_of definition.now) → ⊥ }
 {
     match definition {
         Definition::Tuple { .. } | Definition::Struct { .. } => true,
@@ -96,6 +98,9 @@ fn part_goes(
     ensures kept { OnOk result (Keeps pairs.old.list.items pairs.new.list.items) }
     ensures go { IfOk result (λ b. b ≡ true → PartGoes both.entry.old.now both.entry.new.now
         pairs.new.list.items owners.old owners.new old_index new_index) }
+    ensures stays { let old = both.entry.old.now in let new = both.entry.new.now in
+        IfOk result (λ b. (S : Listing) → PartIn old new S owners.old owners.new old_index new_index
+        → Stays old new S pairs.old.list.items pairs.new.list.items b) }
 {
     let Some(old) = both.old.part(owners.old, old_index) else {
         return Ok(false);
@@ -113,6 +118,11 @@ fn parts_go(both: Both<'_, '_>, pairs: &mut Pairs, owners: Owners) -> Result<boo
         IfOk result (λ b. b ≡ true → NamesGo (Paired old new pairs.new.list.items)
         (parts_in (shape_at (names_of old) owners.old))
         (parts_in (shape_at (names_of new) owners.new))) }
+    ensures stays { let old = both.entry.old.now in let new = both.entry.new.now in
+        IfOk result (λ b. (S : Listing) → NamesGo (Lists S)
+        (parts_in (shape_at (names_of old) owners.old))
+        (parts_in (shape_at (names_of new) owners.new))
+        → Stays old new S pairs.old.list.items pairs.new.list.items b) }
 {
     let count = both.old.parts(owners.old).len();
     if both.new.parts(owners.new).len() != count {
@@ -147,15 +157,18 @@ fn is_with(
     variant: &(DiscriminantValue, VariantName, Declaration),
     discriminant: &DiscriminantValue,
 ) -> bool
-    ensures { result ≡ true → variant.now.0 ≡ discriminant.now }
+    ensures is { result ≡ true → variant.now.0 ≡ discriminant.now }
+    ensures isnt { result ≡ false → variant.now.0 ≡ discriminant.now → ⊥ }
 {
     variant.0 == *discriminant
 }
 
 // Whether the variant at an index has the discriminant.
 fn has_discriminant(variants: &Variants, index: usize, discriminant: &DiscriminantValue) -> bool
-    ensures { let us = unnamed variants.now.items in
+    ensures has { let us = unnamed variants.now.items in
         result ≡ true → (q : List ℕ) × (slice_get us index ≡ Some (discriminant.now, q)) }
+    ensures hasnt { let us = unnamed variants.now.items in result ≡ false → (q : List ℕ)
+        → slice_get us index ≡ Some (discriminant.now, q) → ⊥ }
 {
     match variants.get(index) {
         Some(variant) => is_with(variant, discriminant),
@@ -181,16 +194,17 @@ fn variants_go(
         let us = unnamed others.now.items in
         let R = Paired both.entry.old.now both.entry.new.now pairs.new.list.items in
         IfOk result (λ b. b ≡ true → VariantsGo R (length vs) vs us) }
+    ensures stays { let old = both.entry.old.now in let new = both.entry.new.now in
+        let vs = unnamed variants.now.items in let us = unnamed others.now.items in
+        IfOk result (λ b. (S : Listing) → VariantsCorrespond (Lists S) vs us
+        → Stays old new S pairs.old.list.items pairs.new.list.items b) }
 {
     let indexes = indexes_of(alloc, others)?;
     let mut index: usize = 0;
     while let Some((discriminant, _, _)) = variants.get(index) {
-        let Some(at) = index_in(&indexes, discriminant) else {
+        let Some(at) = index_for(others, &indexes, index, discriminant) else {
             return Ok(false);
         };
-        if !has_discriminant(others, at, discriminant) {
-            return Ok(false);
-        }
         if !part_goes(both, pairs, owners, index, at)? {
             return Ok(false);
         }
@@ -206,6 +220,36 @@ fn index_in(
     indexes.get(discriminant).copied()
 }
 
+// The index of a variant that has the discriminant: the one given, if its variant has it.
+fn index_for(
+    variants: &Variants,
+    indexes: &BTreeMap<DiscriminantValue, usize>,
+    index: usize,
+    discriminant: &DiscriminantValue,
+) -> Option<usize>
+    ensures some { IfSome result (IsIndexFor (unnamed variants.now.items) index discriminant.now) }
+    ensures none { result ≡ None → (j : ℕ) (q : List ℕ)
+        → slice_get (unnamed variants.now.items) j ≡ Some (discriminant.now, q) → ⊥ }
+{
+    if has_discriminant(variants, index, discriminant) {
+        return Some(index);
+    }
+    if let Some(at) = index_in(indexes, discriminant)
+        && has_discriminant(variants, at, discriminant)
+    {
+        return Some(at);
+    }
+    // The table has each discriminant, so this finds none.
+    let mut at = variants.len();
+    while at > 0 {
+        at -= 1;
+        if has_discriminant(variants, at, discriminant) {
+            return Some(at);
+        }
+    }
+    None
+}
+
 /// Whether the definitions of two names go together, if their parts do, which are paired then.
 pub fn definitions_go(
     alloc: Global,
@@ -216,6 +260,9 @@ pub fn definitions_go(
     ensures kept { OnOk result (Keeps pairs.old.list.items pairs.new.list.items) }
     ensures go { IfOk result (λ b. b ≡ true → DefinitionsGoAt both.entry.old.now both.entry.new.now
         pairs.new.list.items owners.old owners.new) }
+    ensures stays { let old = both.entry.old.now in let new = both.entry.new.now in
+        IfOk result (λ b. (S : Listing) → DefinitionsIn old new S owners.old owners.new
+        → Stays old new S pairs.old.list.items pairs.new.list.items b) }
 {
     let Some(old) = both.old.definition(owners.old) else {
         return Ok(false);
@@ -273,6 +320,8 @@ pub fn definitions_go(
 fn lies_in(range: &LengthRange, other: &LengthRange) -> bool
     ensures start { result ≡ true → other.now.start ≤ range.now.start }
     ensures end { result ≡ true → range.now.end ≤ other.now.end }
+    ensures isnt { result ≡ false → other.now.start ≤ range.now.start
+        → range.now.end ≤ other.now.end → ⊥ }
 {
     other.start <= range.start && range.end <= other.end
 }

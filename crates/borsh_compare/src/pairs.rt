@@ -1,6 +1,7 @@
 // Pairs of names, one of the old definitions and one of the new.
+ghost use Rattle.borsh_compare.specs.Indexed.{AddsOnly, IsIndexed, IsIndexed-prop, LacksPair, index_in};
 ghost use Rattle.borsh_compare.specs.Walks.{HasPair, Keeps};
-ghost use Rattle.std.specs.Prelude.{IfOk, OnOk, [], true, ◌≡◌, slice_get};
+ghost use Rattle.std.specs.Prelude.{IfOk, OnOk, Some, [], false, length, true, ◌≡◌, ◌≤◌, slice_get};
 
 use std::alloc::{AllocError, Global};
 use std::collections::BTreeMap;
@@ -26,6 +27,7 @@ pub struct Pairs {
     pub(crate) list: Vec<Pair>,
     // The index of each.
     pub(crate) table: BTreeMap<(usize, usize), usize>,
+    pub ghost indexed: { IsIndexed list.items table } by { IsIndexed-prop list.items table },
 }
 
 impl Pairs {
@@ -51,7 +53,9 @@ impl Pairs {
 
     // Whether the pair at an index is of these places.
     fn is_at(&self, index: usize, old: usize, new: usize) -> bool
-        ensures { result ≡ true → HasPair self.now.list.items old new }
+        ensures is { result ≡ true → HasPair self.now.list.items old new }
+        ensures isnt { result ≡ false → (p : Pair) → slice_get self.now.list.items index ≡ Some p
+            → p.old ≡ old → p.new ≡ new → ⊥ }
     {
         match self.get(index) {
             Some(pair) => pair.old == old && pair.new == new,
@@ -60,24 +64,39 @@ impl Pairs {
     }
 
     // The index that the table has for a pair.
-    fn index_of(&self, old: usize, new: usize) -> Option<usize> {
+    fn index_of(&self, old: usize, new: usize) -> Option<usize>
+        ensures { result ≡ index_in self.now.table old new }
+    {
         self.table.get(&(old, new)).copied()
+    }
+
+    // Whether there is a pair of these places.
+    fn has(&self, old: usize, new: usize) -> bool
+        ensures is { result ≡ true → HasPair self.now.list.items old new }
+        ensures isnt { result ≡ false → LacksPair self.now.list.items old new }
+    {
+        match self.index_of(old, new) {
+            Some(index) => self.is_at(index, old, new),
+            None => false,
+        }
     }
 
     /// Adds a pair, unless it is there. `false` if there are too many.
     pub fn add(&mut self, pair: Pair) -> Result<bool, AllocError>
         ensures kept { OnOk result (Keeps self.old.list.items self.new.list.items) }
         ensures added { IfOk result (λ b. b ≡ true → HasPair self.new.list.items pair.old pair.new) }
+        ensures full { IfOk result (λ b. b ≡ false → 1048576 ≤ length self.new.list.items) }
+        ensures only { OnOk result (AddsOnly pair self.old.list.items self.new.list.items) }
     {
-        if let Some(index) = self.index_of(pair.old, pair.new) {
-            return Ok(self.is_at(index, pair.old, pair.new));
+        if self.has(pair.old, pair.new) {
+            return Ok(true);
         }
         let index = self.list.len();
         if index >= MOST_PAIRS {
             return Ok(false);
         }
-        self.list.push(pair)?;
         self.table.insert((pair.old, pair.new), index)?;
+        self.list.push(pair)?;
         Ok(true)
     }
 }

@@ -1,11 +1,16 @@
 // The walk over pairs of names: whether all members of the old root are members of the new one.
+ghost use Rattle.borsh_compare.specs.Corresponding.{CorrespondAt, DefinitionsIn, Listing, RootsCorrespond, Stays};
 ghost use Rattle.borsh_compare.specs.Walks.{GoAt, HaveOneSize, Includes, Keeps};
-ghost use Rattle.std.specs.Prelude.{IfOk, OnOk, true, ◌≡◌};
+ghost use Rattle.borsh_plan.specs.Names.{shape_at};
+ghost use Rattle.borsh_plan.specs.Plan.{names_of};
+ghost use Rattle.borsh_walks.specs.Definitions.{shape_of};
+ghost use Rattle.std.specs.Prelude.{IfOk, OnOk, Some, false, true, ◌≡◌};
 
 use crate::definitions::{Both, Owners, definitions_go, free_size, has_none, is_product};
 use crate::pairs::{MOST_PAIRS, Pair, Pairs};
 use crate::through::go_through;
 use borsh_plan::Plan;
+use borsh_walks::Definition;
 use std::alloc::{AllocError, Global};
 
 /// The pairs that were compared, and the indexes of those that don't go together, as far as that was found.
@@ -27,6 +32,28 @@ fn have_one_size(both: Both<'_, '_>, old: usize, new: usize) -> bool
     }
 }
 
+// Whether one is a struct or tuple and the other none, or one with more parts or fewer.
+fn has_other_parts(both: Both<'_, '_>, owners: Owners, old: &Definition, new: &Definition) -> bool
+    requires old { shape_at (names_of both.old.now) owners.old ≡ Some (shape_of old.now) }
+    requires new { shape_at (names_of both.new.now) owners.new ≡ Some (shape_of new.now) }
+    ensures { let p = both.entry.old.now in let q = both.entry.new.now in
+        result ≡ true → (S : Listing) → DefinitionsIn p q S owners.old owners.new → ⊥ }
+{
+    let is_old = is_product(old);
+    let is_new = is_product(new);
+    if !is_old {
+        return is_new;
+    }
+    if !is_new {
+        return true;
+    }
+    let count = both.old.parts(owners.old).len();
+    if both.new.parts(owners.new).len() != count {
+        return true;
+    }
+    false
+}
+
 /// Whether the names at two places go together, if the pairs of their parts do, which are added.
 fn names_go(
     alloc: Global,
@@ -37,6 +64,9 @@ fn names_go(
     ensures kept { OnOk result (Keeps pairs.old.list.items pairs.new.list.items) }
     ensures go { IfOk result (λ b. b ≡ true → GoAt both.entry.old.now both.entry.new.now
         pairs.new.list.items owners.old owners.new) }
+    ensures stays { let old = both.entry.old.now in let new = both.entry.new.now in
+        IfOk result (λ b. (S : Listing) → CorrespondAt old new S owners.old owners.new
+        → Stays old new S pairs.old.list.items pairs.new.list.items b) }
 {
     let Some(old) = both.old.definition(owners.old) else {
         return Ok(true);
@@ -50,11 +80,7 @@ fn names_go(
     let Some(new) = both.new.definition(owners.new) else {
         return Ok(false);
     };
-    let old_count = both.old.parts(owners.old).len();
-    let new_count = both.new.parts(owners.new).len();
-    let is_through = is_product(old) != is_product(new)
-        || is_product(old) && old_count != new_count;
-    if is_through {
+    if has_other_parts(both, owners, old, new) {
         return go_through(alloc, both, pairs, owners);
     }
     definitions_go(alloc, both, pairs, owners)
@@ -62,7 +88,8 @@ fn names_go(
 
 /// Compares the pairs of names that lead from the two roots.
 pub fn walk_pairs(alloc: Global, old: &Plan<'_>, new: &Plan<'_>) -> Result<Walked, AllocError>
-    ensures { IfOk result (λ w. w.is_included ≡ true → Includes old.now new.now) }
+    ensures included { IfOk result (λ w. w.is_included ≡ true → Includes old.now new.now) }
+    ensures apart { IfOk result (λ w. w.is_included ≡ false → RootsCorrespond old.now new.now → ⊥) }
 {
     let both = Both { old, new };
     let mut pairs = Pairs::new(alloc);

@@ -233,25 +233,13 @@ fn perform_on_value<'a, R: Files + Env + Input + AllocGlobal, W: Write>(
     };
     if request.action == Action::Encode {
         let value = file(rt, request.value)?;
-        return answer_bytes(
-            rt,
-            request,
-            schema.as_ref(),
-            value.as_slice(),
-            is_terminal,
-            out,
-        );
+        let bytes = value.as_slice();
+        return answer_bytes(rt, request, schema.as_ref(), bytes, is_terminal, out);
     }
     if request.is_hex || request.value.starts_with("0x") {
         let value = input(rt, request.value, request.is_hex)?;
-        return answer_bytes(
-            rt,
-            request,
-            schema.as_ref(),
-            value.as_slice(),
-            is_terminal,
-            out,
-        );
+        let bytes = value.as_slice();
+        return answer_bytes(rt, request, schema.as_ref(), bytes, is_terminal, out);
     }
     if request.value == "-" {
         return answer_read(rt, request, schema.as_ref(), rt.reader(), is_terminal, out);

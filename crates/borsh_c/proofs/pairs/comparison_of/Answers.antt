@@ -1,4 +1,4 @@
-use Rattle.std.proofs.Common.{string_bytes, subst}
+use Rattle.std.proofs.Common.{subst}
 use Rattle.std.proofs.lemmas.Result.{IfErr-weaker, IfOk-weaker}
 use Rattle.borsh_plan.specs.Plan.{IsPlanOf}
 use Rattle.borsh_c.specs.Pairs.{AreAny, IsLost, IsOneMalformed, IsStillRead, NoText}
