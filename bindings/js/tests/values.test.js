@@ -73,13 +73,14 @@ function judge({ kind, columns, schema }) {
     case "value":
       return text.startsWith("! ") ? assertNoMember(it, bytesOf(first), text.slice(2)) : assertValue(it, bytesOf(first), text);
     case "nojson":
-    case "refused":
+    case "refused": {
       it.check(bytesOf(first));
       // A part within 128 others has a row, also if it is a list, which in JSON would be one more.
       const rows = attempt(() => it.rows(bytesOf(first)));
       if (rows instanceof Error) assert.ok(text.endsWith(TOO_DEEP) && rows.message.endsWith(TOO_DEEP));
       else assertRows(it, bytesOf(first));
       return assertRefused(attempt(() => it.decode(bytesOf(first))), text.slice(2));
+    }
     case "quoted":
       assert.deepEqual(it.fromJson(text), bytesOf(first));
       return assert.equal(it.toJson(bytesOf(first), { longNumbers: "string" }), text);
