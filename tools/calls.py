@@ -28,7 +28,13 @@ class Code:
 
 CODES = [
     Code("YES", 0, "yes", "Yes; the buffer has what was asked for."),
-    Code("NO", 1, "no", "No: the container breaks a rule or has no size, the bytes are no value, or the JSON says none."),
+    Code(
+        "NO",
+        1,
+        "no",
+        """No: the container breaks a rule or has no size, the bytes are no value, the JSON says none, the type has no container, or the new
+schema hasn't all values of the old one.""",
+    ),
     Code("MALFORMED", 2, "malformed", "The bytes of the schema aren't the encoding of a container."),
     Code("OUT_OF_MEMORY", 3, "out of memory", "An allocation failed."),
     # Which no proved function returns.
@@ -37,7 +43,8 @@ CODES = [
         "UNDECIDED",
         5,
         "undecided",
-        "The container allows two values for the same bytes, or breaks a rule of widths, so it has no answer.",
+        """The container allows two values for the same bytes, or breaks a rule of widths, so it has no answer; of `borsh_compare`: neither
+answer was found.""",
     ),
     Code("SHORT", 6, "short", "The bytes end within a value, of which more bytes may make one: of `borsh_records` alone."),
 ]
@@ -132,13 +139,15 @@ class Count(Number):
 
 
 class Call:
-    """A call: its name; what it is given after the schema; what it gives, which is `json`, `lines` or the like, or nothing;
-    whether that is a text or bytes; whether a refusal has a place; of which argument the answer's length depends; what it says to
-    C; and what is so after BORSH_YES, and in its text after BORSH_NO."""
+    """A call: its name; what it is given, after the schema if it has one; what it gives, which is `json`, `lines` or the like, or
+    nothing; whether that is a text or bytes; whether a refusal has a place; of which argument the answer's length depends; what it
+    says to C; and what is so after BORSH_YES, and in its text after BORSH_NO."""
 
-    def __init__(self, name, *arguments, gives=None, is_text=True, has_place=True, long_of=None, says, yes, no):
+    def __init__(
+        self, name, *arguments, has_schema=True, gives=None, is_text=True, has_place=True, long_of=None, says, yes, no
+    ):
         self.name = name
-        self.arguments = [Bytes("schema"), *arguments]
+        self.arguments = [Bytes("schema"), *arguments] if has_schema else list(arguments)
         self.gives, self.is_text, self.has_place, self.long_of = gives, is_text, has_place, long_of
         self.says, self.yes, self.no = says, yes, no
         self.out = gives or "text"
@@ -228,6 +237,35 @@ reaches beyond the bytes is cut.""",
         yes="a line of JSON for each value, up to one that has none",
         no="why the first has none",
     ),
+    Call(
+        "compile",
+        Bytes("text"),
+        Bytes("type_text"),
+        has_schema=False,
+        gives="container",
+        is_text=False,
+        long_of="text",
+        says="""The encoded container of a type, which `type_text` names in Rust's words, as `Vec<Account>`. `text` has the items that
+it may name: Rust source text, an Anchor IDL, or a schema object of borsh-js, whose own type is named `Schema`; it may be empty. Both are
+UTF-8. After BORSH_NO the text says what is wrong, as the tool does, behind `text` or `type`, which `path` is; `offset` is the byte of
+that input, where it is known. The container keeps the rules of schemas.""",
+        yes="the encoded container of the type",
+        no="why there is none",
+    ),
+    Call(
+        "compare",
+        Bytes("old_schema"),
+        Bytes("new_schema"),
+        has_schema=False,
+        gives="text",
+        has_place=False,
+        says="""Whether each value of the old schema is a value of the new one, by the definitions alone. The text is what the tool
+prints: a line with `the same`, `compatible`, `incompatible` or `not known`, and what changed. BORSH_YES says that each is, BORSH_NO that
+one is not, whose bytes the text has, and BORSH_UNDECIDED that neither was found. After BORSH_MALFORMED the text begins with `old` or
+`new`.""",
+        yes="`the same` or `compatible`, and what changed",
+        no="`incompatible`, what changed, and bytes that show it",
+    ),
 ]
 
 # Of each call, arguments by which C tests that every request for memory may be refused, and the code that is wanted. The names
@@ -243,6 +281,12 @@ SAMPLES = [
     ("records", "schema values found &size", 0),
     ("records", "schema cut found &size", 6),
     ("json_lines", "schema values lengths false &size", 0),
+    ("compile", "source type", 0),
+    ("compile", "source unknown", 1),
+    ("compile", "source cut", 1),
+    ("compare", "schema schema", 0),
+    ("compare", "schema other", 1),
+    ("compare", "schema value", 2),
 ]
 
 
@@ -286,7 +330,8 @@ def split(head, items, tail, indent="", width=100, items_width=100):
 
 
 def h_codes():
-    parts = [f"    {comment(code.says)}    BORSH_{code.name} = {code.number},\n" for code in CODES]
+    parts = [f"{comment(code.says, WIDTH - 4)}BORSH_{code.name} = {code.number},\n" for code in CODES]
+    parts = [textwrap.indent(part, "    ") for part in parts]
     return "enum borsh_code {\n" + "".join(parts) + "};\n"
 
 

@@ -34,6 +34,11 @@ uint32_t borsh_c_records(const uint8_t *schema, size_t schema_length, const uint
 uint32_t borsh_c_json_lines(const uint8_t *schema, size_t schema_length, const uint8_t *values, size_t values_length,
                             const size_t *lengths, size_t lengths_count, bool has_quoted_numbers, size_t *count,
                             struct place *place, uint8_t *room, size_t room_length, size_t *needed);
+uint32_t borsh_c_compile(const uint8_t *text, size_t text_length, const uint8_t *type_text, size_t type_text_length,
+                         struct place *place, uint8_t *room, size_t room_length, size_t *needed);
+uint32_t borsh_c_compare(const uint8_t *old_schema, size_t old_schema_length,
+                         const uint8_t *new_schema, size_t new_schema_length,
+                         uint8_t *room, size_t room_length, size_t *needed);
 /* tools/calls.py: end */
 
 /* How many inputs and flags a call has at most. */
@@ -235,5 +240,28 @@ uint32_t borsh_json_lines(const uint8_t *schema, size_t schema_length, const uin
         .long_of = 2,
     };
     return ask_number(&q, count, true, lines);
+}
+
+static uint32_t call_compile(ASKED) {
+    return borsh_c_compile(q->bytes[0].start, q->bytes[0].length, q->bytes[1].start, q->bytes[1].length, place, room,
+                           room_length, needed);
+}
+
+uint32_t borsh_compile(const uint8_t *text, size_t text_length, const uint8_t *type_text, size_t type_text_length,
+                       struct borsh_buffer *container) {
+    struct question q = {.call = call_compile, .bytes = {{text, text_length}, {type_text, type_text_length}}, .long_of = 1};
+    return ask(&q, container);
+}
+
+static uint32_t call_compare(ASKED) {
+    (void)place;
+    return borsh_c_compare(q->bytes[0].start, q->bytes[0].length, q->bytes[1].start, q->bytes[1].length, room, room_length,
+                           needed);
+}
+
+uint32_t borsh_compare(const uint8_t *old_schema, size_t old_schema_length,
+                       const uint8_t *new_schema, size_t new_schema_length, struct borsh_buffer *text) {
+    struct question q = {.call = call_compare, .bytes = {{old_schema, old_schema_length}, {new_schema, new_schema_length}}};
+    return ask(&q, text);
 }
 /* tools/calls.py: end */

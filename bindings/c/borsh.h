@@ -28,7 +28,8 @@ extern "C" {
 enum borsh_code {
     /* Yes; the buffer has what was asked for. */
     BORSH_YES = 0,
-    /* No: the container breaks a rule or has no size, the bytes are no value, or the JSON says none. */
+    /* No: the container breaks a rule or has no size, the bytes are no value, the JSON says none, the type has no container, or
+     * the new schema hasn't all values of the old one. */
     BORSH_NO = 1,
     /* The bytes of the schema aren't the encoding of a container. */
     BORSH_MALFORMED = 2,
@@ -36,7 +37,8 @@ enum borsh_code {
     BORSH_OUT_OF_MEMORY = 3,
     /* A pointer is null: that of an input whose length isn't 0, or that of a result. */
     BORSH_NULL = 4,
-    /* The container allows two values for the same bytes, or breaks a rule of widths, so it has no answer. */
+    /* The container allows two values for the same bytes, or breaks a rule of widths, so it has no answer; of `borsh_compare`:
+     * neither answer was found. */
     BORSH_UNDECIDED = 5,
     /* The bytes end within a value, of which more bytes may make one: of `borsh_records` alone. */
     BORSH_SHORT = 6,
@@ -47,10 +49,11 @@ struct borsh_buffer {
     /* Never null after a call, and behind the last byte is a zero byte that isn't counted. */
     const uint8_t *data;
     size_t length;
-    /* After BORSH_NO or BORSH_SHORT of a call about values: the path of the part that the text is about, as `A.y[3]`, which lies in `data`, or null. */
+    /* After BORSH_NO or BORSH_SHORT of a call about values: the path of the part that the text is about, as `A.y[3]`, which lies in `data`, or null;
+     * of `borsh_compile`: the input that is wrong, `text` or `type`. */
     const uint8_t *path;
     size_t path_length;
-    /* If `has_offset`, the byte at which the value has no such part, or near which the JSON is wrong. */
+    /* If `has_offset`, the byte at which the value has no such part, or near which the JSON is wrong, or which is wrong in that input. */
     size_t offset;
     bool has_offset;
     /* What `borsh_free` frees. */
@@ -101,6 +104,20 @@ uint32_t borsh_records(const uint8_t *schema, size_t schema_length, const uint8_
 uint32_t borsh_json_lines(const uint8_t *schema, size_t schema_length, const uint8_t *values, size_t values_length,
                           const size_t *lengths, size_t lengths_count, bool has_quoted_numbers, size_t *count,
                           struct borsh_buffer *lines);
+
+/* The encoded container of a type, which `type_text` names in Rust's words, as `Vec<Account>`. `text` has the items that it may
+ * name: Rust source text, an Anchor IDL, or a schema object of borsh-js, whose own type is named `Schema`; it may be empty. Both
+ * are UTF-8. After BORSH_NO the text says what is wrong, as the tool does, behind `text` or `type`, which `path` is; `offset` is
+ * the byte of that input, where it is known. The container keeps the rules of schemas. */
+uint32_t borsh_compile(const uint8_t *text, size_t text_length, const uint8_t *type_text, size_t type_text_length,
+                       struct borsh_buffer *container);
+
+/* Whether each value of the old schema is a value of the new one, by the definitions alone. The text is what the tool prints: a
+ * line with `the same`, `compatible`, `incompatible` or `not known`, and what changed. BORSH_YES says that each is, BORSH_NO
+ * that one is not, whose bytes the text has, and BORSH_UNDECIDED that neither was found. After BORSH_MALFORMED the text begins
+ * with `old` or `new`. */
+uint32_t borsh_compare(const uint8_t *old_schema, size_t old_schema_length,
+                       const uint8_t *new_schema, size_t new_schema_length, struct borsh_buffer *text);
 /* tools/calls.py: end */
 
 #ifdef __cplusplus

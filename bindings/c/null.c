@@ -53,6 +53,12 @@ static void check_null(void) {
     refuses("borsh_json_lines, lengths", borsh_json_lines(byte, n, byte, n, NULL, 2, false, &number, &text), &text);
     refuses("borsh_json_lines, count", borsh_json_lines(byte, n, byte, n, lengths, 2, false, NULL, &text), &text);
     refuses("borsh_json_lines, lines", borsh_json_lines(byte, n, byte, n, lengths, 2, false, &number, NULL), NULL);
+    refuses("borsh_compile, text", borsh_compile(NULL, 1, byte, n, &text), &text);
+    refuses("borsh_compile, type_text", borsh_compile(byte, n, NULL, 1, &text), &text);
+    refuses("borsh_compile, container", borsh_compile(byte, n, byte, n, NULL), NULL);
+    refuses("borsh_compare, old_schema", borsh_compare(NULL, 1, byte, n, &text), &text);
+    refuses("borsh_compare, new_schema", borsh_compare(byte, n, NULL, 1, &text), &text);
+    refuses("borsh_compare, text", borsh_compare(byte, n, byte, n, NULL), NULL);
     /* tools/calls.py: end */
 }
 
@@ -86,6 +92,14 @@ int main(void) {
     borsh_free(&text);
     if (!is(borsh_records(byte, n, byte, n, lengths, 2, &count, &text), BORSH_YES, &text, "")) return 34;
     if (count != 2 || lengths[0] != 1 || lengths[1] != 1) return 35;
+
+    /* A type without items, and containers compared. */
+    const uint8_t u8[] = {'u', '8'};
+    if (borsh_compile(NULL, 0, u8, sizeof u8, &text) != BORSH_YES || text.length != n || memcmp(text.data, byte, n) != 0) return 40;
+    borsh_free(&text);
+    if (!is(borsh_compile(NULL, 0, NULL, 0, &text), BORSH_NO, &text, "type: line 1, column 1: the text ends, expected a type")) return 41;
+    if (!is(borsh_compare(byte, n, byte, n, &text), BORSH_YES, &text, "the same: the two schemas have the same values\n")) return 42;
+    if (!is(borsh_compare(byte, n, NULL, 0, &text), BORSH_MALFORMED, &text, "new: not a schema container: Unexpected length of input")) return 43;
 
     /* A buffer may be freed twice, and a null pointer be freed. */
     if (!is(borsh_size(byte, sizeof byte, &size, &text), BORSH_YES, &text, "") || size != 1) return 14;

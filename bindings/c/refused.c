@@ -59,6 +59,12 @@ static const size_t lengths[] = {15, 12};
 /* The beginning of a value. */
 static const uint8_t cut[] = "\14\0\0";
 
+/* The text of a type, a name, one that isn't there, and a container that has other values: `u8`. */
+static const uint8_t source[] = "struct A { x: u64, y: String }";
+static const uint8_t type[] = "A";
+static const uint8_t unknown[] = "Strin";
+static const uint8_t other[] = "\2\0\0\0u8\1\0\0\0\2\0\0\0u8\0\1";
+
 #define COUNT(list) (sizeof(list) / sizeof((list)[0]))
 
 /* The calls that `ask` makes: the code that each returns, and whether it may give fewer lines where memory is refused. */
@@ -78,6 +84,12 @@ static const struct {
     {"borsh_records", 0, false},
     {"borsh_records", 6, false},
     {"borsh_json_lines", 0, true},
+    {"borsh_compile", 0, false},
+    {"borsh_compile", 1, false},
+    {"borsh_compile", 1, false},
+    {"borsh_compare", 0, false},
+    {"borsh_compare", 1, false},
+    {"borsh_compare", 2, false},
     /* tools/calls.py: end */
 };
 
@@ -105,6 +117,18 @@ static uint32_t ask(size_t call, struct borsh_buffer *out) {
         return borsh_records(schema, LENGTH(schema), cut, LENGTH(cut), found, COUNT(found), &size, out);
     case 9:
         return borsh_json_lines(schema, LENGTH(schema), values, LENGTH(values), lengths, COUNT(lengths), false, &size, out);
+    case 10:
+        return borsh_compile(source, LENGTH(source), type, LENGTH(type), out);
+    case 11:
+        return borsh_compile(source, LENGTH(source), unknown, LENGTH(unknown), out);
+    case 12:
+        return borsh_compile(source, LENGTH(source), cut, LENGTH(cut), out);
+    case 13:
+        return borsh_compare(schema, LENGTH(schema), schema, LENGTH(schema), out);
+    case 14:
+        return borsh_compare(schema, LENGTH(schema), other, LENGTH(other), out);
+    case 15:
+        return borsh_compare(schema, LENGTH(schema), value, LENGTH(value), out);
     /* tools/calls.py: end */
     }
     return BORSH_NULL;

@@ -7,11 +7,14 @@ export class BorshError extends Error {
   );
 
   readonly kind: ErrorKind;
-  /** The path of the part that the error is about, as `A.y[3]` or `A.y[3]::V.0`. A name is written in it as it is in the schema. */
+  /**
+   * The path of the part that the error is about, as `A.y[3]` or `A.y[3]::V.0`, where a name that isn't an identifier is in quotation
+   * marks; `text` or `type`, of {@link Schema.parse}.
+   */
   readonly path: string | undefined;
   /** The name of the part's type, of an error about bytes. */
   readonly type: string | undefined;
-  /** The byte at which bytes stop being a value, or near which a text stops being JSON. */
+  /** The byte at which bytes stop being a value, or near which a text stops being JSON or types. */
   readonly offset: number | undefined;
   /** Of an error of {@link Schema.records}: the byte of the stream at which the value begins. The offset is within the value. */
   readonly record: number | undefined;
@@ -28,7 +31,7 @@ export interface ArgumentError extends TypeError {
 }
 
 /**
- * - `"no"`: the schema breaks a rule or has no greatest size, the bytes are no value, or the JSON describes none
+ * - `"no"`: the text is no type, the schema breaks a rule or has no greatest size, the bytes are no value, or the JSON describes none
  * - `"malformed"`: the bytes aren't the encoding of a schema container
  * - `"undecided"`: the schema allows two values for the same bytes, or breaks a rule of widths
  * - `"out of memory"`: the module's memory, of at most 4 GiB, doesn't suffice; it can be used further
@@ -121,6 +124,21 @@ export type Definition =
 export class Schema {
   private constructor();
 
+  /**
+   * The schema of a type by its text. `source` has items that the type may name: Rust source; an Anchor IDL, whose accounts begin with their
+   * eight bytes of discriminator; or a schema object of borsh-js, whose own type is `Schema`. The last two are JSON, or an object of it.
+   * `type` is any type in Rust's words. Without it the source is itself a type, or a schema object.
+   *
+   * The error is `"no"`, with line and column, but of JSON, if the text can't be read, or the type has no schema.
+   *
+   * ```js
+   * Schema.parse("struct Vault { owner: [u8; 32], open: bool }", "Vault");
+   * Schema.parse("HashMap<String, u64>");
+   * Schema.parse({ struct: { x: "u8", y: { array: { type: "u8", len: 4 } } } });
+   * ```
+   */
+  static parse(source: string | object, type?: string): Schema;
+
   /** The schema of an encoded container, of which a copy is kept. The error is `"malformed"` or `"out of memory"`. */
   static from(container: Source): Schema;
 
@@ -205,3 +223,27 @@ export class Schema {
   /** The rows up to where the bytes stop being a value, or their end: of bytes that {@link Schema.check} refuses. */
   rowsBefore(bytes: Source): Row[];
 }
+
+/** What {@link compare} says. Names that aren't identifiers are in quotation marks, and a line end in one is `\x0a`. */
+export interface Comparison {
+  /** `"not known"` if neither bytes nor a proof were found. */
+  readonly answer: "the same" | "compatible" | "incompatible" | "not known";
+  /** Whether old data is still read. */
+  readonly isCompatible: boolean;
+  /** What changed, as `A.kind: variant Frozen is new`: all, or where the schemas aren't compatible what that was found by. */
+  readonly changes: readonly string[];
+  /** Of incompatible schemas the digits of bytes, of many the first, that are a value of the old one and none of the new, and why. */
+  readonly evidence: string | undefined;
+  /** All of it in lines, in the words of the tool's `borsh compare`. */
+  readonly text: string;
+}
+
+/**
+ * Whether data of the old schema is still read by the new one: whether every value of it is one of the new. Only the definitions count, and
+ * not what a type refuses beyond them, nor what values mean.
+ *
+ * ```js
+ * if (!compare(deployed, built).isCompatible) throw new Error("accounts can't be read any more");
+ * ```
+ */
+export function compare(old: Schema, now: Schema): Comparison;

@@ -1,7 +1,7 @@
 // The package: Borsh bytes by their schema. See borsh.d.ts for what each call does.
 import { useModule } from "./schema.js";
 
-export { BorshError, Schema } from "./schema.js";
+export { BorshError, Schema, compare } from "./schema.js";
 
 const place = new URL("./out/borsh.wasm", import.meta.url);
 

@@ -87,6 +87,14 @@ export class Calls {
   jsonLines(schema, values, lengths, hasQuotedNumbers) {
     return this.#call("borsh_c_json_lines", [schema, values, lengths, Number(hasQuotedNumbers), RESULT, PLACE], roomFor(values));
   }
+
+  compile(text, typeText) {
+    return this.#call("borsh_c_compile", [text, typeText, PLACE], roomFor(text));
+  }
+
+  compare(oldSchema, newSchema) {
+    return this.#call("borsh_c_compare", [oldSchema, newSchema], 256);
+  }
   // tools/calls.py: end
 
   /** What the module exports, for tests. */

@@ -1,5 +1,10 @@
 // What a container defines, and what of it decides how values are written in JSON.
 
+/** A name as it stands in a path: an identifier as it is, any other in quotation marks. */
+export function nameText(name) {
+  return /^[A-Za-z_][A-Za-z0-9_]*$/.test(name) ? name : `"${name.replace(/["\\]/g, "\\$&")}"`;
+}
+
 /** Whole numbers by the names of their types: how many bytes they have, and whether they have a sign. */
 const NUMBERS = new Map([["NonZeroUsize", { size: 8, isSigned: false }]]);
 for (const size of [1, 2, 4, 8, 16]) {
@@ -115,8 +120,8 @@ export class Definitions {
     const definition = this.map.get(name);
     if (definition?.kind !== "enum" || definition.tagWidth !== 1 || definition.variants.length !== 2) return undefined;
     const [none, some] = definition.variants;
-    const isOption =
-      none.tag === 0n && none.name === "None" && this.isZeroSize(none.type) && some.tag === 1n && some.name === "Some" && name === `Option<${some.type}>`;
+    const isNone = none.tag === 0n && none.name === "None" && none.type === "()" && this.isZeroSize("()");
+    const isOption = isNone && some.tag === 1n && some.name === "Some" && name === `Option<${some.type}>`;
     return isOption ? some.type : undefined;
   }
 

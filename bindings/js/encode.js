@@ -2,6 +2,7 @@
 // each of its properties is read once, and what JSON would change is refused here. What doesn't fit its definition is written as some JSON
 // that doesn't either, so that the proved code says what was expected, and where.
 import { hexOf, isBytes, viewOfBytes } from "./bytes.js";
+import { nameText } from "./definitions.js";
 import { BorshError, withinMemory } from "./errors.js";
 
 /** How many arrays and objects may be in one another, as in the JSON that the proved code reads. */
@@ -116,7 +117,7 @@ class Writer {
     this.#enter(level);
     const parts = entries.map(([key, part], index) => {
       const text = this.#key(form, key, level);
-      this.#steps[level + 1] = kind === "map" ? { entries, index, hasNumbers: form.hasNumbers } : step + key;
+      this.#steps[level + 1] = kind === "map" ? { entries, index, hasNumbers: form.hasNumbers } : step + nameText(String(key));
       const type = kind === "map" ? value : types.get(key);
       return `${text}:${type === undefined ? "null" : this.part(type, part, level + 2)}`;
     });
@@ -131,12 +132,12 @@ class Writer {
   }
 
   #enter(level) {
-    if (level >= 2 * MOST_NESTED) throw refused(this.#definitions.root, `nests more than ${MOST_NESTED} deep`);
+    if (level >= 2 * MOST_NESTED) throw refused(nameText(this.#definitions.root), `nests more than ${MOST_NESTED} deep`);
   }
 
   #refusal(level, reason, cause) {
     const steps = this.#steps.slice(0, level + 1).map((step) => (typeof step === "string" ? step : `[${rankOf(step)}].1`));
-    return refused(this.#definitions.root + steps.join(""), reason, cause);
+    return refused(nameText(this.#definitions.root) + steps.join(""), reason, cause);
   }
 }
 

@@ -50,12 +50,12 @@ export function errorOf(record, kind, text, found) {
   return new BorshError(kind, `value at byte ${record}: ${text}`, { reason: text, ...found, record });
 }
 
-/** What the text of an answer says: `PATH: REASON`, or of a fault of bytes ``PATH (`TYPE` at byte OFFSET): REASON``. */
+/** What the text of an answer says: `PATH: REASON`, or of a fault of bytes ``PATH (`TYPE` at byte OFFSET): REASON``. Of text the path is which. */
 function foundIn({ bytes, offset, path }) {
   if (path === undefined) return { offset };
   const rest = decoded(bytes.subarray(path.end));
   const found = { offset, path: decoded(bytes.subarray(path.start, path.end)), reason: rest.slice(": ".length) };
-  if (offset === undefined) return found;
+  if (offset === undefined || rest.startsWith(":")) return found;
   // No reason of a fault has such words.
   const middle = `\` at byte ${offset}): `;
   const at = rest.lastIndexOf(middle);

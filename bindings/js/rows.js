@@ -1,6 +1,6 @@
 // What each byte of a value is. The bytes are gone through here, and not by the proved code, which has said before that they are a
 // value, or where they stop being one.
-import { isText, numberOf } from "./definitions.js";
+import { isText, nameText, numberOf } from "./definitions.js";
 
 /** How many values a part may be in, as for the proved code's JSON. */
 const MOST_DEPTH = 128;
@@ -71,11 +71,13 @@ class Inside {
       case "sequence":
         return `[${index}]`;
       case "enum":
-        return `::${this.variant.name}`;
+        return `::${nameText(this.variant.name)}`;
       case "root":
-        return this.type;
-      default:
-        return `.${definition.fields?.[index].name ?? index}`;
+        return nameText(this.type);
+      default: {
+        const name = definition.fields?.[index].name ?? null;
+        return `.${name === null ? index : nameText(name)}`;
+      }
     }
   }
 

@@ -1,6 +1,7 @@
 // A schema, over the calls of a compiled module.
 import { bytesOfHex, bytesOfSource } from "./bytes.js";
 import { Calls } from "./calls.js";
+import { comparisonOf } from "./comparison.js";
 import { CONTAINER_OF_CONTAINERS } from "./container.js";
 import { Definitions, definitionGiven } from "./definitions.js";
 import { isWellFormed, jsonOfValue } from "./encode.js";
@@ -33,6 +34,23 @@ const MAKER = Symbol("maker");
 /** The schema of schemas, once it was asked for. */
 let schemas;
 
+function utf8Of(text) {
+  return isWellFormed(text) ? encoder.encode(text) : NOT_UTF8;
+}
+
+/** The JSON of an object, as of an IDL, or of a schema of borsh-js. */
+function jsonOfObject(object) {
+  if (object === null || typeof object !== "object") throw wrongArgument("neither a text of types, nor an object");
+  try {
+    return JSON.stringify(object) ?? "";
+  } catch (cause) {
+    throw new BorshError("no", "the object can't be read", { cause });
+  }
+}
+
+/** The name of a schema of borsh-js. */
+const OBJECT_NAME = "Schema";
+
 /** The bytes of a `Uint8Array`, of a buffer or of hexadecimal digits. */
 function bytesFrom(source) {
   const bytes = typeof source === "string" ? bytesOfHex(source) : bytesOfSource(source);
@@ -61,7 +79,7 @@ export class Schema {
   #definitions;
 
   constructor(bytes, maker) {
-    if (maker !== MAKER) throw wrongArgument("Schema.from and Schema.of make schemas");
+    if (maker !== MAKER) throw wrongArgument("Schema.parse, Schema.from and Schema.of make schemas");
     this.#bytes = bytes;
   }
 
@@ -70,6 +88,14 @@ export class Schema {
     const answer = calls.valid(schema.#bytes);
     if (answer.kind !== "no") answerOf(answer);
     return schema;
+  }
+
+  static parse(source, type) {
+    const text = typeof source === "string" ? source : jsonOfObject(source);
+    if (type !== undefined && typeof type !== "string") throw wrongArgument("the type is no string");
+    const isItself = type === undefined && !/^\s*\{/.test(text);
+    const [items, name] = isItself ? ["", text] : [text, type ?? OBJECT_NAME];
+    return new Schema(answerOf(calls.compile(utf8Of(items), utf8Of(name))), MAKER);
   }
 
   /** The container of containers. */
@@ -126,7 +152,7 @@ export class Schema {
 
   fromJson(json) {
     if (typeof json !== "string") throw wrongArgument("JSON is a string");
-    return this.#fromText(isWellFormed(json) ? encoder.encode(json) : NOT_UTF8);
+    return this.#fromText(utf8Of(json));
   }
 
   #fromText(bytes) {
@@ -182,4 +208,12 @@ export class Schema {
     }
     return this.#definitions;
   }
+}
+
+/** Whether data of the old schema is still read by the new one. */
+export function compare(old, now) {
+  if (!(old instanceof Schema) || !(now instanceof Schema)) throw wrongArgument("what is compared is no Schema");
+  const answer = calls.compare(old.bytes, now.bytes);
+  if (!["yes", "no", "undecided"].includes(answer.kind)) answerOf(answer);
+  return comparisonOf(answer.kind, decoded(answer.bytes));
 }

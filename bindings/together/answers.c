@@ -55,7 +55,8 @@ static void tell_verdict(uint32_t code, struct borsh_buffer *text) {
     fputs(" ; ", answers);
 }
 
-static void ask_schema(struct bytes schema) {
+/* Whether the bytes are a schema. */
+static bool ask_schema(struct bytes schema) {
     struct borsh_buffer text;
     size_t size = 0;
     uint32_t code = borsh_valid(schema.data, schema.length, &text);
@@ -66,6 +67,26 @@ static void ask_schema(struct bytes schema) {
     else
         tell_refusal(code, &text);
     borsh_free(&text);
+    fputc('\n', answers);
+    calls += 2;
+    return code != BORSH_MALFORMED;
+}
+
+/* The container of a type by its text, and whether data of the old schema is still read by the new one. */
+static void ask_types(struct bytes items, struct bytes type, struct bytes old, struct bytes new) {
+    struct borsh_buffer out;
+    uint32_t code = borsh_compile(items.data, items.length, type.data, type.length, &out);
+    if (code == BORSH_YES)
+        fputs("0 ", answers);
+    else
+        tell_refusal(code, &out);
+    for (size_t i = 0; code == BORSH_YES && i < out.length; i++)
+        fprintf(answers, "%02x", out.data[i]);
+    borsh_free(&out);
+    code = borsh_compare(old.data, old.length, new.data, new.length, &out);
+    fprintf(answers, " ; %u ", code);
+    print_plain(out.data, out.length);
+    borsh_free(&out);
     fputc('\n', answers);
     calls += 2;
 }
@@ -97,10 +118,14 @@ static void ask(char *line) {
     uint8_t mask = (uint8_t)strtoul(strtok(NULL, " \n"), NULL, 10);
     struct bytes value = bytes_of(strtok(NULL, " \n"));
     struct bytes masks = bytes_of(strtok(NULL, " \n"));
+    struct bytes items = bytes_of(strtok(NULL, " \n"));
+    struct bytes type = bytes_of(strtok(NULL, " \n"));
+    static uint8_t copy[1 << 12]; /* longer than any schema */
+    struct bytes changed = {copy, schema.length};
+    memcpy(copy, schema.data, schema.length);
+    copy[at] ^= mask;
     ask_schema(schema);
-    schema.data[at] ^= mask;
-    ask_schema(schema);
-    schema.data[at] ^= mask;
+    ask_types(items, type, schema, ask_schema(changed) ? changed : schema);
     ask_value(schema, value);
     for (size_t i = 0; i < value.length; i++) {
         value.data[i] ^= masks.data[i];

@@ -1,9 +1,10 @@
 // What the JavaScript package answers of each case (cases.py), in lines like those of answers.c, and behind a tab what is JavaScript's own: the
 // value, and what it is encoded to, as answers.py tells it. `answers.mjs FILE [CALLS]`.
 import { readFileSync, writeSync } from "node:fs";
-import { BorshError, Schema } from "../js/borsh.js";
+import { BorshError, Schema, compare } from "../js/borsh.js";
 
 const CODES = { no: 1, malformed: 2, undecided: 5 };
+const COMPARED = { "the same": 0, compatible: 0, incompatible: 1, "not known": 5 };
 const WRONG = [null, true, 7, -1, 1.5, "x", "0x00", "5", Uint8Array.of(1), [], new Map(), [1], new Map([["a", 1]]), "\ud800", 2n ** 64n];
 WRONG.push(NaN, Infinity, 2n ** 200n, "0x0a0b0c0d0e0f0a0b", new Map([[1, 2]]));
 
@@ -11,9 +12,11 @@ const bytesOf = (digits) => new Uint8Array(digits === "-" ? Buffer.alloc(0) : Bu
 const hexOf = (bytes) => Buffer.from(bytes.buffer, bytes.byteOffset, bytes.byteLength).toString("hex");
 
 /** Names that were changed may have characters that end a line, or part what is in it. */
+const plain = (text) => text.replace(/[\0-\x1f]/g, "?");
+
 function refusal(error) {
   if (!(error instanceof BorshError)) throw error;
-  return `${CODES[error.kind]}|${error.path ?? ""}|${error.offset ?? ""}|${error.message}`.replace(/[\0-\x1f]/g, "?");
+  return plain(`${CODES[error.kind]}|${error.path ?? ""}|${error.offset ?? ""}|${error.message}`);
 }
 
 /** What a call says: a refusal, or `0` and what it returns. */
@@ -114,6 +117,12 @@ class Answers {
     return this.#write(`${member} ; ${text} ; ${again}\t${shown(value)} ; ${mine}${wrong}\n`);
   }
 
+  types(items, name, old, now) {
+    this.calls += 2;
+    const { answer, text } = compare(old, now);
+    this.#write(`${told(() => Schema.parse(items, name).bytes)} ; ${COMPARED[answer]} ${plain(text)}\n`);
+  }
+
   wrong(schema, value, number) {
     return told(() => schema.encode(exchanged(value, number % partsOf(value), WRONG[Math.floor(number / 50)])));
   }
@@ -123,8 +132,9 @@ class Answers {
     const [encoding, value, masks] = [words[0], words[3], words[4]].map(bytesOf);
     const schema = this.schema(encoding);
     encoding[words[1]] ^= Number(words[2]);
-    this.schema(encoding);
-    this.value(schema, value, words.slice(5).map(Number));
+    const other = this.schema(encoding);
+    this.types(...words.slice(5, 7).map((word) => Buffer.from(word, "hex").toString()), schema, other ?? schema);
+    this.value(schema, value, words.slice(7).map(Number));
     masks.forEach((mask, at) => {
       value[at] ^= mask;
       this.value(schema, value);

@@ -9,9 +9,10 @@ import math
 import struct
 import sys
 
-from borsh_proved import Error, Kind, Schema
+from borsh_proved import Answer, Error, Kind, Schema, compare
 
 CODES = {Kind.NO: 1, Kind.MALFORMED: 2, Kind.UNDECIDED: 5}
+COMPARED = {Answer.SAME: 0, Answer.COMPATIBLE: 0, Answer.INCOMPATIBLE: 1, Answer.NOT_KNOWN: 5}
 WRONG = [None, True, 7, -1, 1.5, "x", "0x00", "5", b"\1", [], {}, [1], {"a": 1}, "\ud800", 2**64, math.nan, math.inf, 2**200, "0x0a0b0c0d0e0f0a0b", {1: 2}]
 
 
@@ -117,6 +118,12 @@ class Answers:
         wrong = "".join(f" ; {self.wrong(schema, value, number)}" for number in numbers)
         self.write(f"{member} ; {text} ; {again}\t{shown(value)} ; {mine}{wrong}\n")
 
+    def types(self, items, name, old, new):
+        self.calls += 2
+        compared = compare(old, new)
+        parsed = told(lambda: bytes(Schema.parse(items, name)))
+        self.write(f"{parsed} ; {COMPARED[compared.answer]} {compared.text.translate(PLAIN)}\n")
+
     def wrong(self, schema, value, number):
         return told(schema.encode, exchanged(value, number % parts_of(value), WRONG[number // 50])[0])
 
@@ -124,8 +131,9 @@ class Answers:
         words = line.split()
         encoding, value, masks = bytes.fromhex(words[0]), *(b"" if word == "-" else bytes.fromhex(word) for word in words[3:5])
         schema = self.schema(encoding)
-        self.schema(changed(encoding, int(words[1]), int(words[2])))
-        self.value(schema, value, list(map(int, words[5:])))
+        other = self.schema(changed(encoding, int(words[1]), int(words[2])))
+        self.types(*(bytes.fromhex(word).decode() for word in words[5:7]), schema, other or schema)
+        self.value(schema, value, list(map(int, words[7:])))
         for at, mask in enumerate(masks):
             self.value(schema, changed(value, at, mask))
 

@@ -226,12 +226,35 @@ class Case:
         return self.define(inner, sequence(name), lambda at: self.elements([self.makers[name](at + 2) for _ in some(at)]))
 
 
+LEAVES = ["u8", "i64", "u128", "bool", "String", "f32", "()", "usize", "NonZeroU16", "IpAddr", "&'a str", "char", "T", "Missing"]
+NESTED = ["Vec<{}>", "Option<{}>", "[{}; 3]", "[{}; N * 2]", "({}, u8)", "HashMap<String, {}>", "std::boxed::Box<{}>", "C<{}>", "Result<{}, A>", "&[{}]"]
+
+
+def type_text(picker, depth=3):
+    """A type in Rust's words."""
+    if depth == 0 or picker.random() < 0.3:
+        return picker.choice(LEAVES[:11] if picker.random() < 0.95 else LEAVES)
+    return picker.choice(NESTED).format(type_text(picker, depth - 1))
+
+
+def source_text(picker):
+    """Items, and a type that names some; a character of either is changed at times."""
+    types = [type_text(picker) for _ in range(4)]
+    items = "const N: usize = 1 << {}; pub struct A {{ a: {}, b: {} }} enum B {{ X, Y({}), Z {{ z: {} }} }} struct C<T>(T, Vec<T>);".format(picker.randrange(3), *types)
+    texts = [items, picker.choice(["A", "B", "Vec<B>", "C<A>", type_text(picker)])]
+    if picker.random() < 0.3:
+        which = picker.randrange(2)
+        at = picker.randrange(len(texts[which]))
+        texts[which] = texts[which][:at] + picker.choice("<>(),;:{}[]&*/'aA1 é") + texts[which][at + 1 :]
+    return texts
+
+
 MOST_BYTES = 40
 
 
 def cases(seed, count):
     """Of each case a line of words in digits: the schema; a byte of it and what is changed there; the value, and what is changed of each of its
-    bytes in turn; and as numbers which part of the value is exchanged for a wrong one, some times."""
+    bytes in turn; the text of items, and a type; and as numbers which part of the value is exchanged for a wrong one, some times."""
     picker = random.Random(seed)
     for _ in range(count):
         while True:
@@ -242,4 +265,5 @@ def cases(seed, count):
         at, mask = picker.randrange(len(schema)), 1 << picker.randrange(8)
         masks = bytes(picker.choice([1, 1, 0x80, picker.randrange(1, 256)]) for _ in value)
         wrong = [str(picker.randrange(1000)) for _ in range(6)]
-        yield " ".join([schema.hex(), str(at), str(mask), value.hex() or "-", masks.hex() or "-", *wrong])
+        texts = [it.encode().hex() for it in source_text(picker)]
+        yield " ".join([schema.hex(), str(at), str(mask), value.hex() or "-", masks.hex() or "-", *texts, *wrong])

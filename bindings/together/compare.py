@@ -2,7 +2,8 @@
 """Asks C, Rust, Python and JavaScript the same of random schemas and values (cases.py), and compares what they answer, line by line; then
 compares the memory that each has before and after 100,000 calls. BORSH_CASES says how many cases there are, and BORSH_SEED which.
 
-Of each case are asked: the schema, and the schema with a byte changed (its rules, and the greatest size); the value, and the value with each
+Of each case are asked: the schema, and the schema with a byte changed (its rules, and the greatest size); the container of a type by its
+text, and whether data of the first schema is still read by the changed one; the value, and the value with each
 byte changed in turn (whether it is one; its JSON, and the bytes of that; or else kind, path, offset and words of the refusal). Python and
 JavaScript also tell the value as theirs, what it is encoded to, and what they say of it with a part exchanged for a wrong one.
 """
@@ -60,7 +61,7 @@ def compare(lines, files):
     answers = itertools.zip_longest(*map(lines_of, files.values()), fillvalue="no answer")
     for number, line in enumerate(lines):
         masks = line.split()[4].replace("-", "")
-        for question in range(3 + len(masks) // 2):
+        for question in range(4 + len(masks) // 2):
             answer = dict(zip(files, next(answers)))
             if differ(answer):
                 wrong += 1
@@ -68,9 +69,13 @@ def compare(lines, files):
                     print(f"case {number}, question {question}: {line}", *(f"{name}: {text.rstrip()}" for name, text in answer.items()), sep="\n  ")
             if question < 2:
                 continue
+            if question == 2:
+                counts["types", answer["C"].startswith("0 ")] += 1
+                counts["changed schemas", " ; 0 " in answer["C"]] += 1
+                continue
             is_taken = answer["C"].endswith(" ; 0\n")
-            counts["values" if question == 2 else "changed values", is_taken] += 1
-            if question == 2 and is_taken:
+            counts["values" if question == 3 else "changed values", is_taken] += 1
+            if question == 3 and is_taken:
                 for told in answer["Python"].split(" ; ")[-6:]:
                     counts["values with a wrong part", told.startswith("0 ")] += 1
     return counts, wrong + sum(1 for _ in answers)
@@ -94,7 +99,8 @@ def main():
     print(f"{count} random schemas (seed {seed}) in {', '.join(PROGRAMS)}: {'; '.join(kinds)}; {wrong} answers differ")
     print(f"bytes of memory more after {CALLS} calls than before: {', '.join(f'{name} {more}' for name, more in grown.items())}")
     print(f"{time.monotonic() - started:.0f} s on {PROCESSORS} processors")
-    is_right = wrong == 0 and counts["values", True] > 0.9 * count and all(grown[name] <= GROWTH[name] for name in grown)
+    are_taken = counts["values", True] > 0.9 * count and counts["types", True] > 0.4 * count
+    is_right = wrong == 0 and are_taken and all(grown[name] <= GROWTH[name] for name in grown)
     return 0 if is_right else 1
 
 

@@ -12,13 +12,13 @@ function part(path) {
 }
 
 const script = (...paths) => paths.map((path) => part(`${path}.js`)).join("\n");
-const names = ["errors", "bytes", "container", "definitions", "values", "encode", "rows", "calls", "records", "schema"];
+const names = ["errors", "bytes", "container", "definitions", "values", "encode", "rows", "calls", "records", "comparison", "schema"];
 const packaged = names.map((name) => `../${name}`);
 const hash = (text) => `sha256-${createHash("sha256").update(text).digest("base64")}`;
 const pieces = {
   script: script("../container", "kinds", "helper", "rolling", "views", "page"),
   style: read("page.css").toString(),
-  worker: `"use strict";\n${script(...packaged, "kinds", "parts", "worker")}`,
+  worker: `"use strict";\n${script(...packaged, "kinds", "sources", "parts", "worker")}`,
   module: read("../out/borsh.wasm").toString("base64"),
 };
 Object.assign(pieces, { "script hash": hash(pieces.script), "style hash": hash(pieces.style) });

@@ -2,12 +2,57 @@
 const EXAMPLE_HEX = "0100000041040000000100000041040002000000010000007803000000753634010000007906000000537472696e6706000000537472696e6701" +
   "040000000000000000ffffffff000000000200000075380300000075363400080200000075380001";
 
+const EXAMPLE_VALUE = "0c000000000000000300000068c3a9";
+
 /**
- * The kinds of text that are taken as a schema, in the order in which they are tried. **Another kind is another entry.** `schemaOf` makes
- * a `Schema` of a text, without white space around it; it returns undefined of a text of another kind, and throws what is wrong with one
- * of its own. `format` is the page's choice of how bytes are written, or undefined for a kind that isn't about that.
+ * The kinds of text that are taken as a schema, in the order in which they are tried. **Another kind is another entry.** `read` returns
+ * undefined of a text of another kind. Else it says how a schema is made of it, by `make`, which throws what is wrong with the text; and
+ * which types there are to choose from, if there are some, and which is `meant` where none is chosen. It is given the text without white
+ * space around it, what it is as JSON, and the page's choice of how bytes are written, which a kind with a `format` is about. `value` is
+ * one of the example's.
  */
 const SCHEMA_KINDS = [
+  {
+    name: "Rust source",
+    example: `pub enum State {
+    Empty,
+    Open(u64),
+}
+
+/// Any type that Borsh encodes.
+pub struct Vault {
+    pub owner: [u8; 4],
+    pub state: State,
+}`,
+    value: "11223344010700000000000000",
+    read: (text, given) => readRust(text, given),
+  },
+  {
+    name: "an Anchor IDL",
+    example: `{
+  "instructions": [],
+  "accounts": [{ "name": "Counter", "discriminator": [255, 176, 4, 245, 188, 253, 124, 25] }],
+  "types": [
+    { "name": "Counter", "type": { "kind": "struct", "fields": [
+      { "name": "count", "type": "u64" },
+      { "name": "label", "type": { "option": "string" } }
+    ] } }
+  ]
+}`,
+    value: "ffb004f5bcfd7c190c00000000000000010300000068c3a9",
+    read: (_, { literal }) => readIdl(literal),
+  },
+  {
+    name: "a schema of borsh-js",
+    example: `const schema = {
+  struct: {
+    x: 'u64',
+    y: 'string', // or an option, an array, a set, a map, an enum
+  },
+};`,
+    value: EXAMPLE_VALUE,
+    read: (_, { literal }) => readObject(literal),
+  },
   {
     name: "JSON of a container",
     example: `{
@@ -19,33 +64,44 @@ const SCHEMA_KINDS = [
     "u8": { "Primitive": 1 }
   }
 }`,
-    schemaOf: (text) => (text.startsWith("{") ? Schema.from(Schema.ofSchemas().fromJson(text)) : undefined),
+    value: EXAMPLE_VALUE,
+    read: (text) => (text.startsWith("{") ? { make: () => Schema.from(Schema.ofSchemas().fromJson(text)) } : undefined),
   },
-  { name: "hexadecimal digits", format: "hex", example: EXAMPLE_HEX, schemaOf: (text) => schemaOfDigits(text, HEX) },
+  { name: "hexadecimal digits", format: "hex", example: EXAMPLE_HEX, value: EXAMPLE_VALUE, read: (text) => readDigits(text, HEX) },
   {
     name: "base64",
     format: "base64",
     example: "AQAAAEEEAAAAAQAAAEEEAAIAAAABAAAAeAMAAAB1NjQBAAAAeQYAAABTdHJpbmcGAAAAU3RyaW5nAQQAAAAAAAAAAP////8AAAAAAgAAAHU4AwAAAHU2NAAIAgAAAHU4AAE=",
-    schemaOf: (text) => schemaOfDigits(text, BASE64),
+    value: EXAMPLE_VALUE,
+    read: (text) => readDigits(text, BASE64),
   },
 ];
 
-function schemaOfDigits(text, digits) {
+function readDigits(text, digits) {
+  const bytes = bytesOfDigits(text, digits);
+  return bytes && { make: () => Schema.from(bytes) };
+}
+
+function bytesOfDigits(text, digits) {
   const reader = new DigitReader(digits, text.length);
-  return reader.add(text) ? schemaOfBytes(reader.end()) : undefined;
+  return reader.add(text) ? reader.end() : undefined;
 }
 
-function schemaOfBytes(bytes) {
-  return bytes === undefined ? undefined : Schema.from(bytes);
-}
-
-/** The schema of a text, and which kind it is. */
-function schemaOfText(text, format) {
+/** The schema of a text, or the error that it has none; which kind it is, which types there are, and which of them the schema is of. */
+function schemaOfText(text, format, chosen) {
   const trimmed = text.trim();
+  const given = { format, literal: literalIn(trimmed) };
   for (const kind of SCHEMA_KINDS) {
     if (kind.format !== undefined && format !== "any" && format !== kind.format) continue;
-    const schema = kind.schemaOf(trimmed);
-    if (schema !== undefined) return { kind: kind.name, schema };
+    const found = kind.read(trimmed, given);
+    if (found === undefined) continue;
+    const { types = [], meant, make } = found;
+    const told = { kind: kind.name, types, type: types.includes(chosen) ? chosen : meant };
+    try {
+      return { ...told, schema: make(told.type) };
+    } catch (error) {
+      return { ...told, error };
+    }
   }
   const others = SCHEMA_KINDS.filter((kind) => kind.format === undefined).map((kind) => `, nor ${kind.name}`);
   throw new Error(`this is ${refusalOf(format)}${others.join("")}`);

@@ -130,7 +130,7 @@ test("10 MB in 1,176,471 parts: a picture, few nodes, the last bytes, and keys a
   await browser.eventually(() => lastOf("#parts .part"), "part-1176470");
   assert.deepEqual(
     await browser.value(`[...document.querySelector("#part-1176470").children].map((it) => it.textContent)`),
-    [String(ten.bytes.length - 9), `Vec<A>[${ten.last}].y`, "String", '"abcde"'],
+    [String(ten.bytes.length - 9), `"Vec<A>"[${ten.last}].y`, "String", '"abcde"'],
   );
   await scrollTo("grid", 0.5);
   await browser.eventually(async () => Math.abs(Number((await lastOf("#grid .byte")).slice(5)) - ten.bytes.length / 2) < 1000, true);
@@ -162,13 +162,13 @@ test("10 MB in 1,176,471 parts: a picture, few nodes, the last bytes, and keys a
 test("10 MB that are no value: the wrong byte is shown, at the end or in a text", async () => {
   await open();
   await browser.setFiles("#value-file", fileOf("short", ten.bytes.subarray(0, -1)));
-  await browser.eventually(() => text("value-said"), `Vec<A>[${ten.last}].y (\`String\` at byte ${ten.bytes.length - 9}): too few bytes are left`);
+  await browser.eventually(() => text("value-said"), `"Vec<A>"[${ten.last}].y (\`String\` at byte ${ten.bytes.length - 9}): too few bytes are left`);
   await browser.eventually(faults, [`byte-${ten.bytes.length - 9}`]);
   await browser.eventually(() => text("parts-count"), "1,176,470 parts");
   const wrong = Buffer.from(ten.bytes);
   wrong[wrong.length - 1] = 0xff;
   await browser.setFiles("#value-file", fileOf("wrong", wrong));
-  await browser.eventually(() => text("value-said"), `Vec<A>[${ten.last}].y: not UTF-8`);
+  await browser.eventually(() => text("value-said"), `"Vec<A>"[${ten.last}].y: not UTF-8`);
   await browser.eventually(faults, [`byte-${ten.bytes.length - 9}`]);
 });
 

@@ -14,6 +14,9 @@ const field = (id) => document.getElementById(id);
 const given = { schema: { text: "" }, value: { text: "" } };
 const isRead = { schema: false, value: false };
 
+/** The type that was chosen of the schema's text, if one was. */
+let chosen;
+
 /** What is shown: how many bytes and rows, the wrong byte, the marked row, and where the keys are among bytes and parts. */
 const shown = { length: 0, rows: 0, fault: undefined, marked: undefined, cursor: 0, bytesSeen: undefined, partsSeen: undefined };
 
@@ -132,7 +135,7 @@ async function read({ schema = false, value = false } = {}) {
 
 /** Has the worker read the schema or the value; false if there was another change since. */
 async function readOne(id, mine) {
-  const question = { ...given[id], format: field("format").value };
+  const question = { ...given[id], format: field("format").value, chosen };
   const isEmpty = question.file === undefined && question.text.trim() === "" && (id === "schema" || given.schema.text === "");
   try {
     const answer = await ask(reader, isEmpty ? "forget" : id, isEmpty ? { id } : question);
@@ -150,8 +153,11 @@ async function readOne(id, mine) {
   return true;
 }
 
-function showSchema({ kind, text, lines = [], said = "", isRight, bytes }) {
+function showSchema({ kind, types = [], type, text, lines = [], said = "", isRight, bytes }) {
   found.schema = bytes;
+  field("typed").hidden = types.length < 2;
+  field("type").replaceChildren(...types.map((name) => element("option", { value: name, textContent: name })));
+  if (type !== undefined) field("type").value = type;
   if (given.schema.file !== undefined && text !== undefined) give("schema", { text });
   field("definitions").textContent = lines.join("\n");
   field("schema-kind").textContent = kind === undefined ? "" : `Taken as ${kind}.`;
@@ -419,16 +425,20 @@ async function takeFile(id, file) {
 
 function takeBoth(schema, value) {
   field("format").value = "any";
+  chosen = undefined;
   give("schema", { text: schema });
   give("value", { text: value });
   return read({ schema: true, value: true });
 }
 
-const EXAMPLE_VALUE = "0c000000000000000300000068c3a9";
+const EXAMPLE_STRUCT = `struct A {
+    x: u64,
+    y: String,
+}`;
 const EXAMPLES = {
-  struct: { schema: EXAMPLE_HEX, value: EXAMPLE_VALUE },
+  struct: { schema: EXAMPLE_STRUCT, value: EXAMPLE_VALUE },
   container: { schema: CONTAINER_OF_CONTAINERS, value: EXAMPLE_HEX },
-  broken: { schema: EXAMPLE_HEX, value: "0c000000000000000900000068c3a9" },
+  broken: { schema: EXAMPLE_STRUCT, value: "0c000000000000000900000068c3a9" },
 };
 
 function takeExample() {
@@ -484,14 +494,18 @@ function listen() {
       read({ [id]: true });
     });
   }
-  for (const { name, example } of SCHEMA_KINDS) {
+  for (const { name, example, value } of SCHEMA_KINDS) {
     const button = element("button", { type: "button", textContent: name });
-    button.addEventListener("click", () => takeBoth(example, EXAMPLE_VALUE));
+    button.addEventListener("click", () => takeBoth(example, value));
     field("kinds").append(button);
   }
   listenForDrops();
   field("format").addEventListener("change", () => read({ schema: true, value: true }));
   field("example").addEventListener("change", takeExample);
+  field("type").addEventListener("change", () => {
+    chosen = field("type").value;
+    read({ schema: true });
+  });
   field("link").addEventListener("click", makeLink);
   field("stop").addEventListener("click", stop);
   field("again").addEventListener("click", () => read({ schema: true, value: true }));

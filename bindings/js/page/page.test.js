@@ -108,16 +108,26 @@ test("changed JSON changes the bytes, and wrong JSON says where", async () => {
   assert.match(await text("json-said"), /^not JSON, near byte 1/);
 });
 
+/** The kinds of schemas, each with what is said of its example's value. */
+const KINDS = {
+  "Rust source": "a value of Vault, of 13 bytes",
+  "an Anchor IDL": "a value of Counter, of 24 bytes",
+  "a schema of borsh-js": "a value of Schema, of 15 bytes",
+  "JSON of a container": "a value of A, of 15 bytes",
+  "hexadecimal digits": "a value of A, of 15 bytes",
+  base64: "a value of A, of 15 bytes",
+};
+
 test("each kind of schema by its example, a broken one, and what is none", async () => {
   await browser.visit(PAGE);
   const kinds = await browser.value(`[...document.querySelectorAll("#kinds button")].map((it) => it.textContent)`);
-  assert.deepEqual(kinds, ["JSON of a container", "hexadecimal digits", "base64"]);
+  assert.deepEqual(kinds, Object.keys(KINDS));
   for (const [index, kind] of kinds.entries()) {
     await browser.value(`document.querySelectorAll("#kinds button")[${index}].click()`);
     await browser.settle();
     assert.equal(await text("schema-kind"), `Taken as ${kind}.`);
     assert.match(await text("schema-said"), /^valid/);
-    assert.equal(await text("value-said"), "a value of A, of 15 bytes");
+    assert.equal(await text("value-said"), KINDS[kind]);
   }
   await write("schema", '{"declaration": "A"}');
   assert.match(await text("schema-said"), /definitions/);
@@ -126,7 +136,70 @@ test("each kind of schema by its example, a broken one, and what is none", async
   await write("schema", "00");
   assert.match(await text("schema-said"), /^not a schema container/);
   await write("schema", "§");
-  assert.equal(await text("schema-said"), "this is neither hexadecimal digits, in pairs, nor base64, nor JSON of a container");
+  const others = "Rust source, nor an Anchor IDL, nor a schema of borsh-js, nor JSON of a container";
+  assert.equal(await text("schema-said"), `this is neither hexadecimal digits, in pairs, nor base64, nor ${others}`);
+});
+
+/** Each text of a schema, with its kind, the root that it has, or what is said of it, and the types to choose from. */
+const TEXTS = [
+  ["HashMap<String, u64>", "Rust source", "sequence HashMap<String, u64> = "],
+  ["u8", "Rust source", "primitive u8 = "],
+  ["[(u8, bool); 2]", "Rust source", "array [(u8, bool); 2] = "],
+  ["std::string::String", "Rust source", "sequence String = "],
+  ["AQAAAEEAAAAAAAAA", "base64", "not a schema container"],
+  ["Vec<Sting>", "Rust source", "type: column 5: `Sting` is no type that has a schema; `String` is"],
+  ["struct A {\n  x u8,\n}", "Rust source", "text: line 2, column 5: met `u8`, expected `:`"],
+  [
+    `mod m { /* enum No { A } */ pub struct Pair<T>(T); }
+     impl Iterator for [It; 2] { type Item = u8; fn f() { struct Inner; let open = '{'; } }
+     struct Held<'a> { text: &'a str } const TEXT: &str = "struct Not;"; macro_rules! m { () => { enum Nor {} } }
+     struct Callback { f: fn() } type Both = m::Pair<u8>; impl Held<'_> {}`,
+    "Rust source",
+    "struct Pair<u8> { 0: u8 }",
+    ["Held", "Callback", "Both"],
+  ],
+  ["struct Pair<A, B>(A, B);", "Rust source", "this text has no type without parameters"],
+  ["export const schema: Schema = {struct: {'a-b': {array: {type: 'u8', len: 2}}, c: \"string\",},};", "a schema of borsh-js", "struct Schema { a-b: [u8; 2], c: String }"],
+  ['{"struct": {"x": "u9"}}', "a schema of borsh-js", "text: `u9` is no type that has a schema"],
+  [
+    JSON.stringify({ accounts: [{ name: "B" }], types: ["A", "B", "C"].map((name) => ({ name, type: { kind: "struct", fields: [{ name: "x", type: "u8" }] } })) }),
+    "an Anchor IDL",
+    "struct B { discriminator: [u8; 8], x: u8 }",
+    ["A", "B", "C"],
+  ],
+  ['{"types": ', "JSON of a container", "not JSON, near byte"],
+];
+
+const options = () => browser.value(`[...document.querySelectorAll("#type option")].map((it) => it.value)`);
+
+test("texts of types: which kind they are, their types, and what is wrong", async () => {
+  await browser.visit(PAGE);
+  for (const [content, kind, says, types = []] of TEXTS) {
+    await write("schema", content);
+    assert.equal(await text("schema-kind"), `Taken as ${kind}.`, content);
+    const said = (await text("definitions")) || (await text("schema-said"));
+    assert.ok(said.startsWith(says), `${content}: ${said}`);
+    assert.equal(await browser.value(`document.getElementById("typed").hidden`), types.length < 2);
+    if (types.length > 1) assert.deepEqual(await options(), types);
+  }
+});
+
+test("the type of a text with several is chosen, and stays chosen while the text changes", async () => {
+  await browser.visit(PAGE);
+  const source = "struct A { x: u8 } struct Kept(u16); struct Z { x: u32 }";
+  await write("schema", source);
+  await write("value", "0102");
+  assert.equal(await text("value-said"), "Z.x (`u32` at byte 0): too few bytes are left");
+  await write("type", "Kept", "change");
+  assert.equal(await text("value-said"), "a value of Kept, of 2 bytes");
+  await write("schema", `${source} enum More { One }`);
+  assert.deepEqual(await options(), ["A", "Kept", "Z", "More"]);
+  assert.equal(await input("type"), "Kept");
+  assert.equal(await text("value-said"), "a value of Kept, of 2 bytes");
+  await write("schema", "struct A(u8, u8); struct B { x: Callback } struct Callback(fn());");
+  assert.match(await text("schema-said"), /is no type that has a schema/);
+  await write("type", "A", "change");
+  assert.equal(await text("value-said"), "a value of A, of 2 bytes");
 });
 
 test("a container by the container of containers", async () => {
@@ -157,6 +230,8 @@ test("a file of a value, and files that are dropped", async () => {
   await eventually(() => input("value"), "010000000000000000000000");
   await drop("#schema", ...Buffer.from('{"declaration": "u8", "definitions": {"u8": {"Primitive": 1}}}'));
   await eventually(() => text("schema-kind"), "Taken as JSON of a container.");
+  await drop("#schema", ...Buffer.from("pub struct Dropped { x: u8 }"));
+  await eventually(() => text("definitions"), "struct Dropped { x: u8 }\nprimitive u8 = 1 byte");
   await drop("#schema", ...Buffer.from(SCHEMA, "hex"));
   await eventually(() => input("schema"), SCHEMA);
 });

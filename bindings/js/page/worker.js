@@ -61,16 +61,18 @@ const CHANGES = {
     return {};
   },
 
-  /** The schema of a text, or of a file: a container's bytes, or such a text. */
-  async schema({ text, file, isText, format }, goOn) {
+  /** The schema of a text, or of a file: a container's bytes, or such a text; where a text has several types, of the one that is chosen. */
+  async schema({ text, file, isText, format, chosen }, goOn) {
     held.schema = held.parts = undefined;
     if (file?.size > MOST_SCHEMA) throw new Error(`a schema has at most ${sizeText(MOST_SCHEMA)} here, and this has ${sizeText(file.size)}`);
     const bytes = file === undefined ? undefined : await bytesOfFile(file, goOn);
     await goOn("reading the schema");
-    const found = bytes === undefined ? { text, ...schemaOfText(text, format) } : schemaOfFile(bytes, isText, format);
-    held.schema = found.schema;
-    const isShort = found.text?.length <= SMALL;
-    return { kind: found.kind, text: isShort ? found.text : undefined, lines: definitionLines(found.schema), ...judged(found.schema) };
+    const found = bytes === undefined ? { text, ...schemaOfText(text, format, chosen) } : schemaOfFile(bytes, isText, format, chosen);
+    const { kind, types, type, schema, error } = found;
+    const said = { kind, types, type, text: found.text?.length <= SMALL ? found.text : undefined };
+    if (error !== undefined) return { ...said, said: beginOf(error.message), isRight: false };
+    held.schema = schema;
+    return { ...said, lines: definitionLines(schema), ...judged(schema) };
   },
 
   /** The bytes that a text writes, or that a file has. */
@@ -159,13 +161,13 @@ const QUESTIONS = {
 };
 
 /** The schema of a file, which is a container, or a text. A container has bytes that no text has, in the length of its root's name. */
-function schemaOfFile(bytes, isText, format) {
+function schemaOfFile(bytes, isText, format, chosen) {
   if (!isText && (bytes.length < 4 || bytes.subarray(0, 4).includes(0))) {
     const text = bytes.length <= SMALL / 2 ? hexOf(bytes) : undefined;
     return { text, kind: "bytes of a file", schema: Schema.from(bytes) };
   }
   const text = new TextDecoder().decode(bytes);
-  return { text, ...schemaOfText(text, format) };
+  return { text, ...schemaOfText(text, format, chosen) };
 }
 
 /** The definitions, as the package has them of a schema. */

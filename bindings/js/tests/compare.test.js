@@ -28,6 +28,14 @@ function originals() {
   });
 }
 
+/** A text of types, and one of them. */
+const SOURCES = [
+  ["pub struct A<T> { x: [T; 1 << 2], y: Option<Box<A<u8>>> } enum E { B, C(A<u64>) }", "E"],
+  ["", "HashMap<String, (u8, Vec<bool>)>"],
+  ['{"types": [{"name": "A", "type": {"kind": "struct", "fields": [{"name": "x", "type": {"vec": "u8"}}]}}], "accounts": []}', "A"],
+  ['{"struct": {"x": "u8", "y": {"array": {"type": "string", "len": 4}}}}', "Schema"],
+].map((texts) => texts.map((text) => encoder.encode(text)));
+
 /** A few bytes changed, left out, put in or cut off. */
 function changed(bytes) {
   const result = [...bytes];
@@ -48,6 +56,8 @@ const CALLS = [
   ["toJson", ({ bytes, value }) => [bytes, value, false, true]],
   ["fromJson", ({ bytes, json }) => [bytes, json]],
   ["records", ({ bytes, value }) => [bytes, value, MOST_VALUES]],
+  ["compile", ({ source }) => source],
+  ["compare", ({ original, bytes }) => [original, bytes]],
   ["jsonLines", ({ bytes, value }) => [bytes, value, value.length === 0 ? [] : [value.length >> 1, 1, value.length], true]],
 ];
 const MOST_VALUES = 64;
@@ -85,7 +95,8 @@ test(`${CASES} changed containers and values: the native library's code and byte
       const { value, json } = isOther ? rows[random(rows.length)] : row;
       const [bytes, ...rest] = [row.bytes, value, json].map((it) => (random(2) ? changed(it) : it));
       const [name, givenOf] = CALLS[random(CALLS.length)];
-      return [name, givenOf({ bytes, value: rest[0], json: rest[1] })];
+      const source = SOURCES[random(SOURCES.length)].map((text) => (random(4) ? text : changed(text)));
+      return [name, givenOf({ original: random(2) ? rows[random(rows.length)].bytes : row.bytes, bytes, value: rest[0], json: rest[1], source })];
     });
     const wanted = native(cases);
     cases.forEach(([name, given], index) => {

@@ -2,7 +2,7 @@
 import { readFileSync } from "node:fs";
 import { useModule } from "../schema.js";
 
-export { BorshError, Schema } from "../schema.js";
+export { BorshError, Schema, compare } from "../schema.js";
 export { bytesOfHex, hexOf } from "../bytes.js";
 
 /** A module of `out/`. */

@@ -1,7 +1,7 @@
 // Failures of memory: each allocation of each call is refused in turn, by the module that counts them.
 import assert from "node:assert/strict";
 import { test } from "node:test";
-import { BorshError, Schema, attempt, compiled, moduleName, repositoryFile } from "./load.js";
+import { BorshError, Schema, attempt, compare, compiled, moduleName, repositoryFile } from "./load.js";
 import { answerOf } from "../errors.js";
 import { useModule } from "../schema.js";
 import { schemaOf } from "./suite.js";
@@ -46,6 +46,10 @@ const calls = {
   "fromJson": () => schema.fromJson('{"y":"h\\u00e9","x":12}'),
   "fromJson, no": () => schema.fromJson('{"y":7,"x":12}'),
   "decode": () => schema.decode(value),
+  "parse": () => Schema.parse("struct A(u8, Vec<A>);", "A").bytes,
+  "parse, no": () => Schema.parse("struct A(u8, Vec<B>);", "A"),
+  "compare": () => compare(schema, schema),
+  "compare, no": () => compare(schema, broken),
   "records": () => answerOf(counted.records(schema.bytes, value, 2)),
   "jsonLines": () => answerOf(counted.jsonLines(schema.bytes, value, [value.length], false)),
 };
@@ -68,6 +72,9 @@ test("no call leaves a block", () => {
     assert.equal(left("member", bytes, value), 0n);
     assert.equal(left("toJson", bytes, value, true, true), 0n);
     assert.equal(left("fromJson", bytes, json), 0n);
+    assert.equal(left("compile", json, bytes), 0n);
+    assert.equal(left("compile", new Uint8Array(), new TextEncoder().encode("(u8, Vec<u16>)")), 0n);
+    assert.equal(left("compare", bytes, broken.bytes), 0n);
     assert.equal(left("records", bytes, value, 2), 0n);
     assert.equal(left("jsonLines", bytes, value, [value.length], true), 0n);
   }

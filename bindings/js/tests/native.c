@@ -83,6 +83,16 @@ static uint32_t ask(const char *call, size_t *number, struct borsh_buffer *out) 
         bool has_quoted_numbers = number_in() == 1;
         return borsh_json_lines(schema.start, schema.length, values.start, values.length, numbers, lengths, has_quoted_numbers, number, out);
     }
+    if (strcmp(call, "compile") == 0) {
+        struct bytes text = bytes_in();
+        struct bytes type_text = bytes_in();
+        return borsh_compile(text.start, text.length, type_text.start, type_text.length, out);
+    }
+    if (strcmp(call, "compare") == 0) {
+        struct bytes old_schema = bytes_in();
+        struct bytes new_schema = bytes_in();
+        return borsh_compare(old_schema.start, old_schema.length, new_schema.start, new_schema.length, out);
+    }
     /* tools/calls.py: end */
     exit(1);
 }

@@ -21,7 +21,7 @@ function printed(example) {
   }
 }
 
-test("there are four examples", () => assert.equal(examples.length, 4));
+test("there are five examples", () => assert.equal(examples.length, 5));
 
 examples.forEach((example, index) => {
   test(`example ${index + 1}`, () => {

@@ -77,8 +77,8 @@ test("what is cut short tells where the last value begins", async () => {
 
 test("a fault of the bytes, or of a name, comes behind the values before it", async () => {
   const cases = [
-    ["0001010200", "value at byte 3: Option<bool> (`Option<bool>` at byte 0): no variant has this tag", 0, "no variant has this tag"],
-    ["000101010200", "value at byte 3: Option<bool>::Some: neither 0 nor 1", undefined, "neither 0 nor 1"],
+    ["0001010200", 'value at byte 3: "Option<bool>" (`Option<bool>` at byte 0): no variant has this tag', 0, "no variant has this tag"],
+    ["000101010200", 'value at byte 3: "Option<bool>"::Some: neither 0 nor 1', undefined, "neither 0 nor 1"],
   ];
   for (const [digits, message, offset, reason] of cases) {
     for (let size = 1; size < 7; size++) {

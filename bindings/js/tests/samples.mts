@@ -1,5 +1,5 @@
 // What a program in TypeScript writes: compiled with all checks, and then run. What a line below `@ts-expect-error` says isn't so.
-import { BorshError, Schema, type ArgumentError, type Definition, type DefinitionJson, type Encodable, type ErrorKind, type Row, type Value } from "borsh-proved";
+import { BorshError, Schema, compare, type ArgumentError, type Comparison, type Definition, type DefinitionJson, type Encodable, type ErrorKind, type Row, type Value } from "borsh-proved";
 
 function assert(holds: boolean): asserts holds {
   if (!holds) throw new Error("a sample is wrong");
@@ -60,6 +60,17 @@ assert(String(Schema.of("A", defined).bytes) === String(container));
 defined.clear?.call(new Map());
 // @ts-expect-error: Schema.of and Schema.from make schemas
 assert(attempt(() => new Schema(container)) instanceof TypeError);
+
+// By texts, and compared.
+const written: Schema = Schema.parse("struct A { x: u64, y: String }", "A");
+const ofObject: Schema = Schema.parse({ struct: { x: "u64", y: "string" } });
+const compared: Comparison = compare(written, ofObject);
+const changes: readonly string[] = compared.changes;
+const evidence: string | undefined = compared.evidence;
+assert(String(written.bytes) === String(Schema.of("A", written.definitions).bytes) && Schema.parse("Vec<u8>").root === "Vec<u8>");
+assert(compared.answer === "the same" && compared.isCompatible && changes.length === 0 && evidence === undefined && compared.text !== "");
+// @ts-expect-error: a text is no schema
+assert(attempt(() => compare(written, "u8")) instanceof TypeError);
 
 const rows: Row[] = schema.rows(bytes);
 const part: Uint8Array | undefined = rows[1]?.bytes;

@@ -5,7 +5,7 @@ import { Schema, repositoryFile } from "./load.js";
 /** Words of `type` rows whose definitions the library has itself. */
 const CONTAINER = "container";
 
-/** The rows of a file in order, each `{ kind, root, columns, schemaOf }` with the definitions up to it; `skipped` counts the others. */
+/** The rows of a file in order, each `{ kind, root, columns, schema }`, the schema of it or another name; `skipped` counts the others. */
 export function rowsIn(file) {
   const rows = [];
   let definitions = {};
@@ -25,7 +25,7 @@ export function rowsIn(file) {
       skipped++;
     } else {
       const known = definitions;
-      rows.push({ line, kind, root: name, columns, schema: () => schemaOf(name, known) });
+      rows.push({ line, kind, root: name, columns, schema: (root = name) => schemaOf(root, known) });
     }
   }
   return { rows, skipped };

@@ -12,7 +12,7 @@ function membersOf(name) {
   return [...body.matchAll(/^ {2}(?:static |readonly )*(\w+)\??[(:]/gm)].map((it) => it[1]).filter((it) => it !== "constructor").sort();
 }
 
-test("the exports", () => assert.deepEqual(Object.keys(library).sort(), ["BorshError", "Schema"]));
+test("the exports", () => assert.deepEqual(Object.keys(library).sort(), ["BorshError", "Schema", "compare"]));
 
 test("the members of Schema", () => {
   const own = [...Object.getOwnPropertyNames(library.Schema), ...Object.getOwnPropertyNames(library.Schema.prototype)];

@@ -3,7 +3,7 @@
 import io
 from typing import Any, Dict, Iterator, List, Mapping, Optional
 
-from borsh_proved import Error, Kind, Schema
+from borsh_proved import Answer, Comparison, Error, Kind, Schema, compare
 
 DEFINITIONS: Dict[str, Any] = {
     "(u8, f64)": {"Tuple": {"elements": ["u8", "f64"]}},
@@ -36,6 +36,14 @@ encoding: bytes = bytes(schema)
 assert (size, root, Schema.of(root, definitions), Schema(encoding)) == (9, "(u8, f64)", schema, schema)
 assert len({schema, Schema(encoding)}) == 1 and schema.validate() is None  # type: ignore[func-returns-value]
 
+written: Schema = Schema.parse("struct Pair(u8, f64);", type="Pair")
+compared: Comparison = compare(schema, Schema.parse("(u8, f64)"))
+answer: Answer = compared.answer
+changes: List[str] = compared.changes
+evidence: Optional[str] = compared.evidence
+assert (answer, compared.is_compatible, changes, evidence) == (Answer.SAME, True, [], None)
+assert compare(schema, written).text == str(compare(schema, written))
+
 values: Iterator[Any] = schema.records(io.BytesIO(data + data), max_length=100)
 records: Iterator[bytes] = schema.record_bytes(Pieces([data[:4], data[4:]]))
 assert list(values) == [pair, pair] and list(records) == [data]
@@ -47,7 +55,12 @@ except Error as error:
     path: Optional[str] = error.path
     offset: Optional[int] = error.offset
     record: Optional[int] = error.record
-    assert (kind, path, offset, record) == (Kind.NO, "(u8, f64).1", 1, None)
+    assert (kind, path, offset, record) == (Kind.NO, '"(u8, f64)".1', 1, None)
+
+try:
+    Schema.parse("struct A { x u8 }", "A")
+except Error as error:
+    assert error.kind is Kind.NO
 
 for call, wrong in ((schema.check, "text"), (schema.decode, 7)):
     try:
@@ -55,6 +68,10 @@ for call, wrong in ((schema.check, "text"), (schema.decode, 7)):
     except TypeError:
         continue
     raise AssertionError
+try:
+    compare(schema, data)  # type: ignore[arg-type]
+except TypeError:
+    pass
 try:
     Schema.of(7, DEFINITIONS)  # type: ignore[arg-type]
 except Error:

@@ -59,8 +59,8 @@ class Records(unittest.TestCase):
     def test_a_fault_of_the_bytes_or_of_a_name_comes_behind_the_values_before_it(self):
         schema = schema_of("Option<bool>", **{"Option<bool>": {"Enum": {"tag_width": 1, "variants": [[0, "None", "()"], [1, "Some", "bool"]]}}, "()": {"Primitive": 0}})
         for data, text, place in [
-            (b"\0\1\1\2\0", "value at byte 3: Option<bool> (`Option<bool>` at byte 0): no variant has this tag", ("Option<bool>", 0, 3)),
-            (b"\0\1\1\1\2\0", "value at byte 3: Option<bool>::Some: neither 0 nor 1", ("Option<bool>::Some", None, 3)),
+            (b"\0\1\1\2\0", 'value at byte 3: "Option<bool>" (`Option<bool>` at byte 0): no variant has this tag', ('"Option<bool>"', 0, 3)),
+            (b"\0\1\1\1\2\0", 'value at byte 3: "Option<bool>"::Some: neither 0 nor 1', ('"Option<bool>"::Some', None, 3)),
         ]:
             for size in range(1, 7):
                 self.schema = schema

@@ -1,6 +1,6 @@
 //! What the crate answers of each of the cases of `bindings/together`, in lines like those of `bindings/together/answers.c`: `answers FILE [CALLS]`.
 
-use borsh_proved::{Error, ErrorKind, Schema, Style};
+use borsh_proved::{compare, Answer, Error, ErrorKind, Schema, Style};
 use std::fs::File;
 use std::io::{self, BufRead, BufReader, BufWriter, Write};
 
@@ -29,6 +29,11 @@ fn bytes_of(digits: &str) -> Vec<u8> {
         .collect()
 }
 
+/// Names that were changed may have characters that end a line, or part what is in it.
+fn plain(text: &str) -> String {
+    text.replace(|it: char| it < ' ', "?")
+}
+
 /// The answers, and how many calls were made for them.
 struct Answers<W> {
     to: W,
@@ -44,8 +49,7 @@ impl<W: Write> Answers<W> {
         let offset = error.offset().map(|it| it.to_string());
         let path = error.path().unwrap_or_default();
         let told = format!("{code}|{path}|{}|{error}", offset.unwrap_or_default());
-        // Names that were changed may have characters that end a line, or part what is in it.
-        write!(self.to, "{}", told.replace(|it: char| it < ' ', "?"))
+        write!(self.to, "{}", plain(&told))
     }
 
     /// A yes, with what is written behind it, or the refusal.
@@ -57,7 +61,7 @@ impl<W: Write> Answers<W> {
         }
     }
 
-    fn schema(&mut self, encoding: &[u8]) -> io::Result<()> {
+    fn schema(&mut self, encoding: &[u8]) -> io::Result<Result<Schema, Error>> {
         let made = Schema::new(encoding);
         self.answer(
             made.clone()
@@ -66,10 +70,30 @@ impl<W: Write> Answers<W> {
         )?;
         write!(self.to, " ; ")?;
         self.answer(
-            made.and_then(|it| it.max_size())
+            made.clone()
+                .and_then(|it| it.max_size())
                 .map(|size| format!(" {size}")),
         )?;
-        writeln!(self.to)
+        writeln!(self.to)?;
+        Ok(made)
+    }
+
+    fn types(&mut self, items: &str, name: &str, old: &Schema, new: &Schema) -> io::Result<()> {
+        let digits = |it: Schema| {
+            it.as_bytes()
+                .iter()
+                .map(|byte| format!("{byte:02x}"))
+                .collect::<String>()
+        };
+        self.answer(Schema::parse(items, name).map(|it| format!(" {}", digits(it))))?;
+        let compared = compare(old, new).map_err(io::Error::other)?;
+        self.calls += 1;
+        let code = match compared.answer() {
+            Answer::Same | Answer::Compatible => 0,
+            Answer::Incompatible => 1,
+            Answer::NotKnown => 5,
+        };
+        writeln!(self.to, " ; {code} {}", plain(&compared.to_string()))
     }
 
     fn value(&mut self, schema: &Schema, value: &[u8]) -> io::Result<()> {
@@ -100,10 +124,11 @@ impl<W: Write> Answers<W> {
         let mut encoding = bytes_of(words[0]);
         let (at, mask) = (number(words[1])?, number(words[2])? as u8);
         let (mut value, masks) = (bytes_of(words[3]), bytes_of(words[4]));
-        self.schema(&encoding)?;
-        let schema = Schema::new(encoding.as_slice()).map_err(io::Error::other)?;
+        let schema = self.schema(&encoding)?.map_err(io::Error::other)?;
         encoding[at] ^= mask;
-        self.schema(&encoding)?;
+        let other = self.schema(&encoding)?.unwrap_or_else(|_| schema.clone());
+        let text = |word| String::from_utf8(bytes_of(word)).map_err(io::Error::other);
+        self.types(&text(words[5])?, &text(words[6])?, &schema, &other)?;
         self.value(&schema, &value)?;
         for at in 0..value.len() {
             value[at] ^= masks[at];

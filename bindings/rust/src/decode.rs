@@ -1,7 +1,7 @@
 //! A value of any type that serde makes of parts, of the JSON that the library gives of its bytes, by their schema.
 
 use crate::definitions::{Definition, Definitions, Form};
-use crate::fault::Fault;
+use crate::fault::{Fault, Name};
 use serde::de::value::{SeqDeserializer, StrDeserializer};
 use serde::de::{
     DeserializeOwned, DeserializeSeed, Deserializer, EnumAccess, Error, IntoDeserializer,
@@ -470,7 +470,7 @@ impl<'de> MapAccess<'de> for Entries<'_> {
         self.count += 1;
         match key {
             Key::Field(name) => {
-                self.value = Some((format!(".{name}"), at, json));
+                self.value = Some((format!(".{}", Name(name)), at, json));
                 let name: StrDeserializer<'_, Fault> = name.into_deserializer();
                 seed.deserialize(name).map(Some)
             }
@@ -522,7 +522,7 @@ impl<'a, 'de> EnumAccess<'de> for Variant<'a> {
 
 impl Variant<'_> {
     fn within<T>(name: &str, given: Outcome<T>) -> Outcome<T> {
-        given.map_err(|it| it.within(format_args!("::{name}")))
+        given.map_err(|it| it.within(format_args!("::{}", Name(name))))
     }
 }
 

@@ -1,7 +1,7 @@
 //! The JSON of a value of any type that serde gives the parts of, by a schema: the library then says whether it is a value.
 
 use crate::definitions::{Definition, Definitions, Form};
-use crate::fault::Fault;
+use crate::fault::{Fault, Name};
 use crate::order::{sort, Entry};
 use serde::ser::{self, Error, Serialize, Serializer};
 use std::fmt::Arguments;
@@ -323,7 +323,7 @@ impl<'a> Serializer for Part<'a> {
         let (payload, start) = (self.payload(variant)?, self.json.len());
         let (at, piece) = self.definitions.field(payload);
         self.begin_variant(variant)?;
-        self.put(at, value, format_args!("::{variant}{piece}"))?;
+        self.put(at, value, format_args!("::{}{piece}", Name(variant)))?;
         if self.definitions.get(at).is_empty {
             self.json.truncate(start);
             push(self.json, variant)
@@ -426,7 +426,9 @@ struct Parts<'a> {
 impl Parts<'_> {
     fn put<T: Serialize + ?Sized>(&mut self, at: usize, value: &T, piece: Arguments) -> Outcome {
         match self.variant {
-            Some(variant) => self.part.put(at, value, format_args!("::{variant}{piece}")),
+            Some(variant) => self
+                .part
+                .put(at, value, format_args!("::{}{piece}", Name(variant))),
             None => self.part.put(at, value, piece),
         }
     }
@@ -483,12 +485,14 @@ impl Parts<'_> {
             return Err(Fault::new("it has no fields in the schema"));
         };
         let Some((_, at)) = fields.iter().find(|it| it.0 == name) else {
-            return Err(Fault::new("the schema has no such field").within(format_args!(".{name}")));
+            return Err(
+                Fault::new("the schema has no such field").within(format_args!(".{}", Name(name)))
+            );
         };
         self.put_comma();
         push(self.part.json, name)?;
         self.part.json.push(b':');
-        self.put(*at, value, format_args!(".{name}"))?;
+        self.put(*at, value, format_args!(".{}", Name(name)))?;
         self.count += 1;
         Ok(())
     }

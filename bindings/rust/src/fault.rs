@@ -3,6 +3,24 @@
 use crate::Error;
 use std::fmt;
 
+/// A name as it stands in a path: an identifier as it is, any other in quotation marks.
+pub(crate) struct Name<'a>(pub &'a str);
+
+impl fmt::Display for Name<'_> {
+    fn fmt(&self, f: &mut fmt::Formatter<'_>) -> fmt::Result {
+        let is_word = |it: u8| it.is_ascii_alphanumeric() || it == b'_';
+        let starts_well = self.0.starts_with(|it: char| !it.is_ascii_digit());
+        if starts_well && self.0.bytes().all(is_word) {
+            return f.write_str(self.0);
+        }
+        write!(
+            f,
+            "\"{}\"",
+            self.0.replace('\\', "\\\\").replace('"', "\\\"")
+        )
+    }
+}
+
 /// What is wrong with a part of a value, and the path to it from where it is so far.
 #[derive(Debug)]
 pub(crate) struct Fault {
@@ -28,7 +46,7 @@ impl Fault {
 
     /// The error of a call.
     pub fn into_error(self, root: &str) -> Error {
-        let path = format!("{root}{}", self.path);
+        let path = format!("{}{}", Name(root), self.path);
         Error {
             path: Some(path.clone()),
             ..Error::new(1, format!("{path}: {}", self.reason))

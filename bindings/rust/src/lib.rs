@@ -1,14 +1,12 @@
 //! What a Borsh schema says, and what bytes mean by it, without the type: whether bytes are a value, the value as JSON, the bytes
 //! of JSON, how long a value can be. A safe layer over the library for C, whose code is proved; this layer isn't.
 //!
-//! A schema is given by its encoding, as `borsh::to_vec(&BorshSchemaContainer::for_type::<T>())` makes it in Rust (of the crate
-//! `borsh`, with its feature `unstable__schema`), and `to_vec` of a `BorshSchemaContainer` in Rattle.
+//! A schema is given by the text of a type ([`Schema::parse`]), or by its encoding ([`Schema::new`]).
 //!
 //! ```
 //! use borsh_proved::{Schema, Style};
 //!
-//! // The schema of `struct A { x: u64, y: String }`.
-//! let schema = Schema::new(include_bytes!("../../../crates/borsh_tool/data/readme.borsh").as_slice())?;
+//! let schema = Schema::parse("struct A { x: u64, y: String }", "A")?;
 //! schema.validate()?;
 //! assert_eq!(schema.max_size()?, 4294967307);
 //!
@@ -25,6 +23,7 @@
 //! Calls share nothing, so any thread may make them. None ends the process, whatever it is given. Each call decodes the schema.
 #![deny(missing_docs)]
 
+mod comparison;
 #[cfg(feature = "serde")]
 mod decode;
 #[cfg(feature = "serde")]
@@ -38,6 +37,7 @@ mod order;
 mod records;
 mod sys;
 
+pub use comparison::{compare, Answer, Comparison};
 pub use records::{Record, RecordError, Records};
 
 // The programs of the README are run as tests.
@@ -52,7 +52,7 @@ use std::io::Read;
 #[derive(Clone, Copy, Debug, PartialEq, Eq, Hash)]
 #[non_exhaustive]
 pub enum ErrorKind {
-    /// The answer is no: the schema breaks a rule or has no size, the bytes are no value, or the JSON says none.
+    /// The answer is no: the text is no type, the schema breaks a rule or has no size, the bytes are no value, or the JSON says none.
     No,
     /// The bytes of the schema aren't the encoding of a schema.
     Malformed,
@@ -64,8 +64,8 @@ pub enum ErrorKind {
     Unknown,
 }
 
-/// Why there is no answer, or why it is no. Its text names the place: `A.y (`String` at byte 8): too few bytes are left`. Names in it
-/// are as they are in the schema: escape them before they go to a terminal.
+/// Why there is no answer, or why it is no. Its text names the place: `A.y (`String` at byte 8): too few bytes are left`. Of names
+/// only `"` and `\` are escaped: escape other characters before they go to a terminal.
 #[derive(Clone, Debug, PartialEq, Eq)]
 pub struct Error {
     code: u32,
@@ -119,12 +119,13 @@ impl Error {
         }
     }
 
-    /// The path of the part that the error is about, as `A.y[3]`, of an error about a part of a value.
+    /// The path of the part that the error is about, as `A.y[3]`, of an error about a part of a value; `text` or `type`, of one of
+    /// [`Schema::parse`].
     pub fn path(&self) -> Option<&str> {
         self.path.as_deref()
     }
 
-    /// The byte at which the value has no such part, or near which the text stops being JSON.
+    /// The byte at which the value has no such part, or near which the text stops being JSON or types.
     pub fn offset(&self) -> Option<usize> {
         self.offset
     }
@@ -172,7 +173,40 @@ pub struct Schema {
 }
 
 impl Schema {
-    /// The schema with this encoding, which may break rules ([`Schema::validate`]).
+    /// The schema of a type by its text. The text has items that the type may name: Rust source; an Anchor IDL, whose accounts begin
+    /// with their eight bytes of discriminator; or a schema object of borsh-js as JSON, whose own type is `Schema`. The type is any in
+    /// Rust's words. Without one the text is itself a type, or a schema object.
+    ///
+    /// ```
+    /// # use borsh_proved::{Schema, Style};
+    /// let source = "pub enum State { Empty, Open(u64) } pub struct Vault { owner: [u8; 4], state: State }";
+    /// let vault = Schema::parse(source, "Vault")?;
+    /// assert_eq!(vault.to_json(&[1, 2, 3, 4, 0], Style::COMPACT)?, r#"{"owner":"0x01020304","state":"Empty"}"#);
+    /// assert_eq!(Schema::parse("HashMap<u32, u64>", None)?.max_size()?, 51539607544);
+    ///
+    /// let error = Schema::parse("struct A { x u8 }", "A").unwrap_err();
+    /// assert_eq!(error.to_string(), "text: line 1, column 14: met `u8`, expected `:`");
+    /// assert_eq!((error.path(), error.offset()), (Some("text"), Some(13)));
+    /// # Ok::<(), borsh_proved::Error>(())
+    /// ```
+    ///
+    /// # Errors
+    ///
+    /// [`ErrorKind::No`] with line and column, but of JSON, if the text can't be read, or the type has no schema;
+    /// [`ErrorKind::OutOfMemory`].
+    pub fn parse<'a>(text: &str, type_name: impl Into<Option<&'a str>>) -> Result<Schema, Error> {
+        let (items, name) = match type_name.into() {
+            Some(name) => (text, name),
+            None if text.trim_start().starts_with('{') => (text, "Schema"),
+            None => ("", text),
+        };
+        let encoding = outcome(sys::compile(items.as_bytes(), name.as_bytes()))?;
+        Ok(Schema { encoding })
+    }
+
+    /// The schema with this encoding, which may break rules ([`Schema::validate`]): what
+    /// `borsh::to_vec(&BorshSchemaContainer::for_type::<T>())` makes in Rust (of the crate `borsh`, with its feature
+    /// `unstable__schema`), and `to_vec` of a `BorshSchemaContainer` in Rattle.
     ///
     /// # Errors
     ///
@@ -363,9 +397,13 @@ fn outcome(answer: sys::Answer) -> Result<Vec<u8>, Error> {
     if answer.code == 0 {
         return Ok(answer.bytes);
     }
-    Err(Error {
+    Err(error_of(answer))
+}
+
+fn error_of(answer: sys::Answer) -> Error {
+    Error {
         path: answer.path.map(text_of),
         offset: answer.offset,
         ..Error::new(answer.code, text_of(answer.bytes))
-    })
+    }
 }

@@ -77,6 +77,20 @@ extern "C" {
         count: *mut usize,
         lines: *mut Buffer,
     ) -> u32;
+    fn borsh_compile(
+        text: *const u8,
+        text_length: usize,
+        type_text: *const u8,
+        type_text_length: usize,
+        container: *mut Buffer,
+    ) -> u32;
+    fn borsh_compare(
+        old_schema: *const u8,
+        old_schema_length: usize,
+        new_schema: *const u8,
+        new_schema_length: usize,
+        text: *mut Buffer,
+    ) -> u32;
     // tools/calls.py: end
 }
 
@@ -198,5 +212,29 @@ pub fn json_lines(
         )
     });
     (number, answer)
+}
+
+pub fn compile(text: &[u8], type_text: &[u8]) -> Answer {
+    call(|out| unsafe {
+        borsh_compile(
+            text.as_ptr(),
+            text.len(),
+            type_text.as_ptr(),
+            type_text.len(),
+            out,
+        )
+    })
+}
+
+pub fn compare(old_schema: &[u8], new_schema: &[u8]) -> Answer {
+    call(|out| unsafe {
+        borsh_compare(
+            old_schema.as_ptr(),
+            old_schema.len(),
+            new_schema.as_ptr(),
+            new_schema.len(),
+            out,
+        )
+    })
 }
 // tools/calls.py: end

@@ -116,7 +116,8 @@ fn what_is_cut_short_tells_where_the_last_value_begins() {
 #[test]
 fn a_fault_of_the_bytes_or_of_a_name_comes_behind_the_values_before_it() {
     let schema = Schema::new(OPTION).unwrap();
-    let text = "value at byte 3: Option<bool> (`Option<bool>` at byte 0): no variant has this tag";
+    let text =
+        r#"value at byte 3: "Option<bool>" (`Option<bool>` at byte 0): no variant has this tag"#;
     for size in 1..6 {
         let (found, refused) =
             given(schema.json_records(Pieces::new(&[0, 1, 1, 2, 0], size), false));
@@ -125,7 +126,7 @@ fn a_fault_of_the_bytes_or_of_a_name_comes_behind_the_values_before_it() {
         let (found, refused) =
             given(schema.json_records(Pieces::new(&[0, 1, 1, 1, 2, 0], size), false));
         assert_eq!(found, ["null", "true"]);
-        let text = "value at byte 3: Option<bool>::Some: neither 0 nor 1";
+        let text = r#"value at byte 3: "Option<bool>"::Some: neither 0 nor 1"#;
         assert_eq!(refused, Some((text.to_owned(), Some(3))));
     }
 }

@@ -569,7 +569,7 @@ fn what_a_type_gives_in_any_order_is_sorted() {
     let error = places
         .encode(&HashSet::from([place(1), place(2)]))
         .unwrap_err();
-    let wanted = "HashSet<Place>: they come in any order, and the schema doesn't say how values of `Place` are ordered: use an ordered set or map";
+    let wanted = "\"HashSet<Place>\": they come in any order, and the schema doesn't say how values of `Place` are ordered: use an ordered set or map";
     assert_eq!(error.to_string(), wanted);
 }
 
@@ -649,15 +649,15 @@ fn types_that_do_not_fit_are_refused_with_the_path() {
         "f32: an `f64`, where the schema has `f32`",
         "f64: a whole number, where the schema has `f64`",
         "f64: expected a number, \"inf\" or \"-inf\"",
-        "Vec<u8>: a text, where the schema has `Vec<u8>`",
-        "Vec<u8>: an `f32`, where the schema has `Vec<u8>`",
-        "Vec<u8>[1]: expected a whole number of 8 bits, unsigned",
+        "\"Vec<u8>\": a text, where the schema has `Vec<u8>`",
+        "\"Vec<u8>\": an `f32`, where the schema has `Vec<u8>`",
+        "\"Vec<u8>\"[1]: expected a whole number of 8 bits, unsigned",
         "String: an `f32`, where the schema has `String`",
         "MyEnum: a variant `Ping`, where the schema has `MyEnum`",
         "Message: a struct, where the schema has `Message`",
-        "(u8, bool, u16): it has more parts than in the schema",
-        "(u8, bool, u16): expected an array of 3",
-        "BTreeSet<String>[1]: not above the one before it",
+        "\"(u8, bool, u16)\": it has more parts than in the schema",
+        "\"(u8, bool, u16)\": expected an array of 3",
+        "\"BTreeSet<String>\"[1]: not above the one before it",
     ];
     assert_eq!(said, wanted);
     let zeros = "0c00000000000000+00000000";
@@ -681,10 +681,10 @@ fn types_that_do_not_fit_are_refused_with_the_path() {
         "A.y (`String` at byte 8): too few bytes are left",
         "f64: `f64` in the schema, where the type has an `f32`",
         "f32: `f32` in the schema, where the type has an `f64`",
-        "(u8, bool, u16): it has more parts in the schema",
-        "(u8, bool, u16): invalid length 3, expected a tuple of size 4",
+        "\"(u8, bool, u16)\": it has more parts in the schema",
+        "\"(u8, bool, u16)\": invalid length 3, expected a tuple of size 4",
         "Message: unknown variant `Ping`, expected one of `Zero`, `One`, `Many`",
-        "Vec<Option<u8>>[0]::Some: invalid type: Option value, expected u8",
+        "\"Vec<Option<u8>>\"[0]::Some: invalid type: Option value, expected u8",
         "A: unknown field `y`, expected `x`",
     ];
     assert_eq!(said, wanted);

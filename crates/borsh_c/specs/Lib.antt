@@ -3,3 +3,5 @@ pub mod Places
 pub mod Answers
 pub mod Texts
 pub mod Many
+pub mod Types
+pub mod Pairs

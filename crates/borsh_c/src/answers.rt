@@ -28,7 +28,7 @@ use std::str;
 const MOST_TEXT: usize = 1073741824;
 
 /// A container: the name of its root, and its definitions.
-type Container = (String, BTreeMap<String, Definition>);
+pub type Container = (String, BTreeMap<String, Definition>);
 
 /// The container whose encoding the bytes are.
 pub fn container_from(alloc: Global, schema: &[u8]) -> Result<Container, Refusal>
@@ -53,7 +53,7 @@ fn unread(alloc: Global, error: &Error) -> Result<String, AllocError>
 }
 
 /// The text, or as many of its first characters as have room in a text.
-fn cut(mut text: String) -> String
+pub fn cut(mut text: String) -> String
     ensures { IsShort (string_bytes result) }
 {
     text.truncate(text.as_str().floor_char_boundary(MOST_TEXT));

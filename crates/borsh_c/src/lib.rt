@@ -10,27 +10,33 @@
 mod answers;
 mod codes;
 mod many;
+mod pairs;
 mod place;
 mod refusal;
 mod room;
 #[cfg(test)]
 mod tests;
+mod types;
 
 ghost use Rattle.std.specs.Prelude.{◌≡◌, ◌≢◌, ◌+◌, ◌≤◌};
 ghost use Rattle.borsh_c.specs.Answers.{AnswersBytes, AnswersJson, AnswersMember, AnswersSize, AnswersValid, Gives, layout_if};
 ghost use Rattle.borsh_c.specs.Many.{AnswersLines, AnswersRecords};
+ghost use Rattle.borsh_c.specs.Pairs.{AnswersCompared};
 ghost use Rattle.borsh_c.specs.Places.{IsNowhere, offset_of};
 ghost use Rattle.borsh_c.specs.Room.{IsKept};
+ghost use Rattle.borsh_c.specs.Types.{AnswersContainer};
 ghost use Rattle.borsh_json.specs.declared.output.Characters.TheVariants.{Any};
 
 use answers::{greatest_size, json_of, membership, rules, value_of};
 use borsh_json::{Layout, LongNumbers, Style};
 use codes::{SHORT, YES};
 use many::{Whole, lines_of, whole_values};
+use pairs::comparison_of;
 use place::NOWHERE;
 pub use place::Place;
 use room::give;
 use std::alloc::Global;
+use types::container_of;
 
 /// Whether the container keeps the rules of schemas; after code 1 the text says `invalid`, a rule, and a name that breaks it. Left open:
 /// code 3.
@@ -293,5 +299,65 @@ pub extern "C" fn borsh_c_json_lines(
             YES
         }
         Err(refusal) => refusal.tell(place, room, needed),
+    }
+}
+
+/// Gives the encoded container of the type that `type_text` is, which may name the items of `text`; both are UTF-8. Determined: after
+/// code 0 the container keeps the rules, and has the definitions of a type of some tree of items, as `borsh_source::compile` says, and no
+/// others. Left open: code 3; how the texts are read, so which tree and type these are, and which texts have none: tested; the text after
+/// 1; the place.
+///
+/// ```c
+/// uint32_t code = borsh_c_compile(text, text_length, type_text, type_text_length, &place, room, room_length, &needed);
+/// ```
+#[unsafe(no_mangle)]
+pub extern "C" fn borsh_c_compile(
+    alloc: Global,
+    text: &[u8],
+    type_text: &[u8],
+    place: &mut Place,
+    room: &mut [u8],
+    needed: &mut usize,
+) -> u32
+    ensures answer { Gives (AnswersContainer result) room.new needed.new }
+    ensures nowhere { result ≢ 1 → IsNowhere place.new }
+    ensures within { place.new.path_start + place.new.path_length ≤ needed.new }
+    ensures kept { IsKept room.old room.new needed.new }
+{
+    match container_of(alloc, text, type_text) {
+        Ok(container) => {
+            *place = NOWHERE;
+            give(container.as_slice(), room, needed);
+            YES
+        }
+        Err(refusal) => refusal.tell(place, room, needed),
+    }
+}
+
+/// Whether each value of the old container's root is a value of the new one's, and what changed. Determined: after code 0 each is; after 1
+/// some bytes are a value of the old alone; after 2 the first container that is none, by `old` or `new`. Left open: code 3; code 5 in
+/// place of 0 and 1; the text after 0, 1 and 5: tested.
+///
+/// ```c
+/// uint32_t code = borsh_c_compare(old_schema, old_length, new_schema, new_length, room, room_length, &needed);
+/// ```
+#[unsafe(no_mangle)]
+pub extern "C" fn borsh_c_compare(
+    alloc: Global,
+    old_schema: &[u8],
+    new_schema: &[u8],
+    room: &mut [u8],
+    needed: &mut usize,
+) -> u32
+    ensures answer { let old = old_schema.now in
+        Gives (AnswersCompared old new_schema.now result) room.new needed.new }
+    ensures kept { IsKept room.old room.new needed.new }
+{
+    match comparison_of(alloc, old_schema, new_schema) {
+        Ok(text) => {
+            give(text.as_bytes(), room, needed);
+            YES
+        }
+        Err(refusal) => refusal.tell(&mut { NOWHERE }, room, needed),
     }
 }

@@ -2,8 +2,8 @@
 use super::codes::{MALFORMED, NO, SHORT, UNDECIDED, YES};
 use super::place::{NOWHERE, Place};
 use super::{
-    borsh_c_from_json, borsh_c_json_lines, borsh_c_member, borsh_c_records, borsh_c_size,
-    borsh_c_to_json, borsh_c_valid,
+    borsh_c_compare, borsh_c_compile, borsh_c_from_json, borsh_c_json_lines, borsh_c_member,
+    borsh_c_records, borsh_c_size, borsh_c_to_json, borsh_c_valid,
 };
 use std::alloc::Global;
 use std::process::Abort;
@@ -44,26 +44,28 @@ fn given<'a>(room: &'a [u8], needed: usize) -> &'a str {
     str::from_utf8(given_bytes(room, needed)).unwrap_or("no text")
 }
 
-/// A call about a value.
+/// A call about a schema and a value, or two of such inputs.
 #[derive(Clone, Copy)]
 enum Call {
     Member,
     ToJson(bool, bool),
     FromJson,
+    Compile,
+    Compare,
 }
 
-/// What a call about a value answers.
+/// What such a call answers.
 #[derive(Clone, Copy)]
 struct Answer {
     code: u32,
     place: Place,
-    room: [u8; 64],
+    room: [u8; 256],
     needed: usize,
 }
 
 fn ask(alloc: Global, call: Call, schema: &[u8], value: &[u8]) -> Answer {
     let mut place = NOWHERE;
-    let mut room = [0; 64];
+    let mut room = [0; 256];
     let mut needed = 1;
     let (at, to, length) = (&mut place, &mut room, &mut needed);
     let code = match call {
@@ -72,6 +74,8 @@ fn ask(alloc: Global, call: Call, schema: &[u8], value: &[u8]) -> Answer {
             borsh_c_to_json(alloc, schema, value, compact, quoted, at, to, length)
         }
         Call::FromJson => borsh_c_from_json(alloc, schema, value, at, to, length),
+        Call::Compile => borsh_c_compile(alloc, schema, value, at, to, length),
+        Call::Compare => borsh_c_compare(alloc, schema, value, to, length),
     };
     Answer {
         code,
@@ -260,5 +264,60 @@ fn lines_of_values(alloc: Global) -> bool {
 #[test]
 fn gives_lines_of_json(rt: HostRuntime) -> Result<(), Fail> {
     assert!(rt; lines_of_values(rt.alloc()));
+    Ok(())
+}
+
+fn containers_of_types(alloc: Global) -> bool {
+    let text = b"struct A { x: u64, y: String }";
+    let later = b"/* h\xc3\xa9 */ struct A {\n  x: Strin }";
+    let unread = ask(alloc, Call::Compile, later, b"A");
+    let unknown = ask(alloc, Call::Compile, text, b"Vec<B>");
+    let ended = ask(alloc, Call::Compile, text, b"Vec<");
+    ask(alloc, Call::Compile, text, b"A").is(YES, SCHEMA)
+        && ask(alloc, Call::Compile, b"", b"u8").is(YES, BYTE)
+        && unread.is(
+            NO,
+            b"text: line 2, column 6: `Strin` is no type that has a schema; `String` is",
+        )
+        && unread.is_at(Some(26), 0, b"text")
+        && unknown.is(NO, b"type: column 5: `B` is no type that has a schema")
+        && unknown.is_at(Some(4), 0, b"type")
+        && ended.is(
+            NO,
+            b"type: line 1, column 5: the text ends, expected a type",
+        )
+        && ended.is_at(Some(4), 0, b"type")
+        && ask(alloc, Call::Compile, b"\xff", b"A").is(NO, b"text: not UTF-8")
+        && ask(alloc, Call::Compile, b"", b"A\xff").is_at(Some(1), 0, b"type")
+}
+
+#[test]
+fn gives_the_container_of_a_type(rt: HostRuntime) -> Result<(), Fail> {
+    assert!(rt; containers_of_types(rt.alloc()));
+    Ok(())
+}
+
+fn comparisons(alloc: Global) -> bool {
+    let wide = b"\x02\0\0\0u9\x01\0\0\0\x02\0\0\0u9\0\x02";
+    ask(alloc, Call::Compare, BYTE, BYTE).is(
+        YES,
+        b"the same: the two schemas have the same values\n",
+    ) && ask(alloc, Call::Compare, BYTE, wide).is(
+        NO,
+        b"incompatible: u8 is u8 and becomes u9\n  00 is a value of the old schema and no value of the new one: u9 (`u9` at byte 0): too few bytes are left\n",
+    ) && ask(alloc, Call::Compare, TWICE, BYTE).is(UNDECIDED, b"not known: E is E and becomes u8\n")
+        && ask(alloc, Call::Compare, b"", BYTE).is(
+            MALFORMED,
+            b"old: not a schema container: Unexpected length of input",
+        )
+        && ask(alloc, Call::Compare, BYTE, b"").is(
+            MALFORMED,
+            b"new: not a schema container: Unexpected length of input",
+        )
+}
+
+#[test]
+fn answers_whether_old_values_are_new_ones(rt: HostRuntime) -> Result<(), Fail> {
+    assert!(rt; comparisons(rt.alloc()));
     Ok(())
 }

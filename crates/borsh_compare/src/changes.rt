@@ -3,7 +3,7 @@
 use crate::definitions::{Both, indexes_of, is_product};
 use crate::pairs::{Pair, Pairs};
 use crate::paths::{path_to, written};
-use borsh_values::Path;
+use borsh_values::{Name, Path};
 use borsh_walks::{
     Declaration, Definition, DiscriminantValue, FieldName, Fields, LengthRange, VariantName,
 };
@@ -17,13 +17,13 @@ const MOST_CHANGES: usize = 1000;
 #[derive(Clone, Copy, Debug, PartialEq, Eq)]
 pub enum What<'a> {
     /// Another definition, of another kind or size: the two names.
-    Becomes(&'a str, &'a str),
+    Becomes(Name<'a>, Name<'a>),
     /// How many parts a struct or a tuple has, and now.
     Parts(usize, usize),
-    VariantAdded(&'a str),
-    VariantRemoved(&'a str),
-    VariantRenamed(&'a str, &'a str),
-    FieldRenamed(&'a str, &'a str),
+    VariantAdded(Name<'a>),
+    VariantRemoved(Name<'a>),
+    VariantRenamed(Name<'a>, Name<'a>),
+    FieldRenamed(Name<'a>, Name<'a>),
     /// How many elements a sequence may have, and may have now.
     Counts(&'a LengthRange, &'a LengthRange),
 }
@@ -72,15 +72,15 @@ fn of_variants<'a>(
                 if let Some((_, before, _)) = old.get(*index)
                     && before.as_str() != name.as_str()
                 {
-                    found.push(What::VariantRenamed(before.as_str(), name.as_str()))?;
+                    found.push(What::VariantRenamed(Name(before), Name(name)))?;
                 }
             }
-            None => found.push(What::VariantAdded(name.as_str()))?,
+            None => found.push(What::VariantAdded(Name(name)))?,
         }
     }
     for (discriminant, name, _) in old.as_slice() {
         if new_indexes.get(discriminant).is_none() {
-            found.push(What::VariantRemoved(name.as_str()))?;
+            found.push(What::VariantRemoved(Name(name)))?;
         }
     }
     Ok(())
@@ -96,16 +96,21 @@ fn of_fields<'a>(
         if let Some((name, _)) = new.get(index)
             && before.as_str() != name.as_str()
         {
-            found.push(What::FieldRenamed(before.as_str(), name.as_str()))?;
+            found.push(What::FieldRenamed(Name(before), Name(name)))?;
         }
     }
     Ok(())
 }
 
+// That a name became another.
+fn becomes<'a>(both: Both<'_, 'a>, pair: Pair) -> What<'a> {
+    What::Becomes(Name(both.old.name(pair.old)), Name(both.new.name(pair.new)))
+}
+
 // What changed of a pair of names.
 fn of_pair<'a>(alloc: Global, both: Both<'_, 'a>, pair: Pair) -> Result<Vec<What<'a>>, AllocError> {
     let mut found: Vec<What<'a>> = Vec::new(alloc);
-    let becomes = What::Becomes(both.old.name(pair.old), both.new.name(pair.new));
+    let becomes = becomes(both, pair);
     let old = both.old.definition(pair.old);
     let new = both.new.definition(pair.new);
     let (Some(old), Some(new)) = (old, new) else {
@@ -168,7 +173,7 @@ pub fn push_changes<'a>(
     };
     let mut found = of_pair(alloc, both, pair)?;
     if found.is_empty() && is_apart {
-        found.push(What::Becomes(both.old.name(pair.old), both.new.name(pair.new)))?;
+        found.push(becomes(both, pair))?;
     }
     if found.is_empty() {
         return Ok(());

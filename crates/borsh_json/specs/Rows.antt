@@ -3,11 +3,12 @@ use Rattle.std.specs.Prelude.{◌≡◌, ◌⊎◌, ⊤, ℕ, ℤ, ◌+◌, ◌=
 use Rattle.std.specs.Borrow.{Bor}
 use Rattle.std.specs.BTreeMap.{get_by_text}
 use Rattle.std.specs.Fmt.{decimal}
-use Rattle.borsh_walks.specs.Container.{Member, sequence as counted_sequence}
+use Rattle.borsh_walks.specs.Container.{IsZeroSize, Member, sequence as counted_sequence}
+use Rattle.borsh_walks.specs.declared.definition.Definition.{Definition}
 use Rattle.borsh_walks.specs.Definitions.{shape_of}
 use Rattle.borsh_plan.specs.Plan.{definitions_of, map_of, root_of}
 use Rattle.borsh_values.specs.Nodes.{IsCountOf, Opens}
-use Rattle.borsh_values.specs.Preorder.{IsInValue, bytes_left, plan_of, next_offset}
+use Rattle.borsh_values.specs.Preorder.{IsInValue, bytes_left, names_left, plan_of, next_offset}
 use Rattle.borsh_values.specs.Tags.{IsVariantIndex}
 use Rattle.borsh_plan.specs.declared.plan.Plan.{Plan}
 use Rattle.borsh_values.specs.declared.nodes.Node.{Node}
@@ -33,8 +34,16 @@ pub record BeginsRows (l : Bor Plan) (all : List ℕ) (r : Rows) : Type 0 where
   pub plan : rows_plan r ≡ l
   pub bytes : bytes_left r.nodes ≡ all
   pub offset : next_offset r.nodes ≡ 0
+  pub names : names_left r.nodes ≡ root_of l.now ∷ []
 
--- the row has the first of the bytes that are left, and says how many come before; they are what the definition of its name encodes before its parts
+module _ (l : Plan) where
+  -- values of the first of these names are to be read; where a value has no bytes it is passed, and where its parts alone have some these come in its place, until those names are left
+  pub data TakesNothing : List (List ℕ) → List (List ℕ) → Type 0 where
+    nothing : {xs : List (List ℕ)} → TakesNothing xs xs
+    passing : {x : List ℕ} {xs ys : List (List ℕ)} → IsZeroSize (definitions_of l) x → TakesNothing xs ys → TakesNothing (x ∷ xs) ys
+    opening : {x : List ℕ} {xs ys : List (List ℕ)} (d : Definition) (parts : List (List ℕ)) → get_by_text (map_of l) x ≡ Some d → Opens (definitions_of l) (shape_of d) [] parts → TakesNothing (parts ++ xs) ys → TakesNothing (x ∷ xs) ys
+
+-- the row has the first of the bytes that are left, and says how many come before; its name is the next that is to be read, and they are what the definition of the name encodes before its parts, which come next
 pub record IsNextRow (old new : Rows) (n : Node) : Type 0 where
   pub some : n.bytes.now ≡ [] → ⊥
   pub bytes : bytes_left old.nodes ≡ n.bytes.now ++ bytes_left new.nodes
@@ -43,6 +52,9 @@ pub record IsNextRow (old new : Rows) (n : Node) : Type 0 where
   pub defined : get_by_text (map_of (rows_plan old).now) n.name.now ≡ Some n.definition.now
   pub parts : List (List ℕ)
   pub opens : Opens (definitions_of (rows_plan old).now) (shape_of n.definition.now) n.bytes.now parts
+  pub others : List (List ℕ)
+  pub named : TakesNothing (rows_plan old).now (names_left old.nodes) (n.name.now ∷ others)
+  pub after : names_left new.nodes ≡ parts ++ others
 
 -- none is given only where no bytes are left
 abbrev pub GivesRow : Rows → Rows → Option Node → Type 0

@@ -29,6 +29,7 @@ mod sources;
 mod strict;
 mod table;
 mod values;
+mod variants;
 mod writing;
 
 pub use ascii::in_ascii;

@@ -576,7 +576,7 @@ fn open_variant<'a, 't, 's>(
     let Some((name, value)) = variant_in(element) else {
         return Err(expected(alloc, "a variant: \"Name\" or {\"Name\": value}"));
     };
-    let Some((index, discriminant, variant)) = variant_named(variants, name) else {
+    let Some((index, discriminant, variant)) = variant_named(json, at, variants, name) else {
         let name = String::from_str(alloc, name)?;
         return Err(ReadError::Refused(Refusal::UnknownName(name)));
     };
@@ -637,8 +637,27 @@ fn only_member<'t, 's>(members: Members<'t, 's>) -> Option<(&'s str, Option<Elem
     }
 }
 
-/// The index, the tag and the name of the first variant of this name.
-fn variant_named<'a>(variants: &'a Variants, name: &str) -> Option<(usize, &'a i64, &'a str)>
+/// The index, the tag and the name of the variant of this name, which is looked for where the table has it, and else in turn.
+fn variant_named<'a>(
+    json: &Table<'_, '_>,
+    at: usize,
+    variants: &'a Variants,
+    name: &str,
+) -> Option<(usize, &'a i64, &'a str)>
+    ensures { IsVariantAt (map (λ v. (v.0, string_bytes v.1, string_bytes v.2)) variants.now.items) name.now
+        (option_map (λ r. (r.0, r.1.now, r.2.now)) result) }
+{
+    if let Some(index) = json.variant_index(at, name)
+        && let Some((tag, variant, _)) = variants.get(index)
+        && variant.as_str() == name
+    {
+        return Some((index, tag, variant.as_str()));
+    }
+    first_named(variants, name)
+}
+
+/// The same of the first variant of this name.
+fn first_named<'a>(variants: &'a Variants, name: &str) -> Option<(usize, &'a i64, &'a str)>
     ensures { IsVariantAt (map (λ v. (v.0, string_bytes v.1, string_bytes v.2)) variants.now.items) name.now
         (option_map (λ r. (r.0, r.1.now, r.2.now)) result) }
 {

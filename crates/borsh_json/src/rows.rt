@@ -67,7 +67,7 @@ impl<'a, 'l, 'b> Rows<'a, 'l, 'b> {
     /// The next row; none where all bytes are in a row. After an error the rows are to be dropped.
     ///
     /// Determined: a row has the first of the bytes that are left, at least one, and its offset is the number of bytes before them;
-    /// they are those that the definition of its name, which is the one in the map, encodes before its parts. The only refusal is
+    /// its name is the next to be read, whose definition in the map encodes them before its parts. The only refusal is
     /// `TooDeep`, of values that nest more than 128 deep. Left open: memory; `TooDeep` for any value; a row's depth: tested.
     pub fn next(&mut self) -> Result<Option<Node<'a, 'b>>, JsonError<'a>>
         requires { AreRows self.old }

@@ -6,6 +6,7 @@ ghost use Rattle.std.specs.Prelude.{◌≡◌, ℕ, List, Decides, IfOk, IfSome,
 use crate::definitions::Definitions;
 use crate::kinds::Kind;
 use crate::order::Ordered;
+use crate::variants::{Indexes, indexes_of};
 use borsh_values::{Membership, Plan, is_member_of};
 use borsh_walks::Definition;
 use std::alloc::{AllocError, Global};
@@ -20,6 +21,7 @@ pub struct Table<'a, 'l> {
     definitions: Definitions<'a, 'l>,
     /// Of each name its definition, if it has one, and how its values are written.
     kinds: Vec<Option<(&'a Definition, Kind<'a>)>>,
+    indexes: Indexes<'a>,
 }
 
 impl<'a, 'l> Model for Table<'a, 'l> {
@@ -60,7 +62,12 @@ impl<'a, 'l> Table<'a, 'l> {
             let kind = definitions.find_kind(at)?;
             kinds.push(kind)?;
         }
-        Ok(Table { definitions, kinds })
+        let indexes = indexes_of(alloc, kinds.as_slice())?;
+        Ok(Table {
+            definitions,
+            kinds,
+            indexes,
+        })
     }
 
     /// The plan. Left open: none.
@@ -118,6 +125,11 @@ impl<'a, 'l> Table<'a, 'l> {
             Some(found) => found,
             None => None,
         }
+    }
+
+    /// Where the variant of a name may be in an enum of many.
+    pub(crate) fn variant_index(&self, at: usize, name: &str) -> Option<usize> {
+        self.indexes.get(&at)?.get(name).copied()
     }
 
     /// The order that was found of the name at a place.

@@ -12,9 +12,11 @@ use super::plain_text::{Added, PlainText};
 use super::values::no_value;
 use borsh::io::Write as WriteBytes;
 use borsh_json::{JsonError, Rows, value_of};
-use borsh_values::{Node, Path, PathStep, Plan};
+use borsh_values::{Node, Path, Plan};
+use borsh_walks::Definition;
 use itoa::Buffer;
 use std::alloc::{AllocError, Global};
+use std::fmt::Write;
 
 /// How wide a column is at most. What is wider moves the rest of its line.
 const WIDEST: usize = 64;
@@ -143,7 +145,7 @@ fn push_row(
         push_gap(text, 0, widths.name)?;
         out.push(text)?;
         text.clear();
-        text.push(value.as_str())?;
+        push_value(row.definition, value.as_str(), text)?;
         out.push_in(Color::Green, text)?;
     }
     text.clear();
@@ -168,20 +170,21 @@ fn push_bytes(bytes: &[u8], text: &mut PlainText) -> Added {
 
 /// Adds a path as it is written.
 fn push_path(path: &Path<'_>, text: &mut PlainText) -> Added {
-    text.push(path.root)?;
-    for step in path.steps.as_slice() {
-        let mut buffer = Buffer::new();
-        let (before, name, after) = match step {
-            PathStep::Field(name) => (".", *name, ""),
-            PathStep::Place(index) => (".", buffer.format(*index), ""),
-            PathStep::Element(index) => ("[", buffer.format(*index), "]"),
-            PathStep::Variant(name) => ("::", *name, ""),
-        };
-        text.push(before)?;
-        text.push(name)?;
-        text.push(after)?;
+    write!(text, "{path}").map_err(|_| AllocError)
+}
+
+/// Adds what the bytes of a row say: texts, and names of variants that aren't identifiers, in quotation marks.
+fn push_value(definition: &Definition, value: &str, text: &mut PlainText) -> Added {
+    if let Definition::Enum { .. } = definition {
+        return text.push_name(value);
     }
-    Ok(())
+    match value
+        .strip_prefix('"')
+        .and_then(|rest| rest.strip_suffix('"'))
+    {
+        Some(inner) => text.push_quoted(inner),
+        None => text.push(value),
+    }
 }
 
 /// Puts the spaces between a column's text, which begins at `start`, and the next column in place of the text.

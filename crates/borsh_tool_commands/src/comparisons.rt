@@ -10,12 +10,9 @@ use super::output::write_made;
 use super::plain_text::PlainText;
 use super::values::Schema;
 use borsh::io::Write;
-use borsh_compare::{Answer, Change, Comparison, Evidence, compare_plans};
+use borsh_compare::{Answer, Comparison, compare_plans, comparison_lines};
 use borsh_values::Plan;
 use std::alloc::{AllocError, Global};
-
-/// At most so many bytes of a value are printed.
-const SHOWN_BYTES: usize = 256;
 
 // Whether all values of the old schema are values of the new one.
 fn is_yes(answer: &Answer<'_>) -> bool
@@ -27,77 +24,12 @@ fn is_yes(answer: &Answer<'_>) -> bool
     }
 }
 
-fn push_change(out: &mut PlainText, change: &Change<'_>, alloc: Global) -> Result<(), AllocError> {
-    let text = format!(in alloc; "{change}")?;
-    out.push(text.as_str())?;
-    out.end_line()?;
-    Ok(())
-}
-
-fn push_changes(
-    out: &mut PlainText,
-    changes: &[Change<'_>],
-    alloc: Global,
-) -> Result<(), AllocError> {
-    for change in changes {
-        out.push("  ")?;
-        push_change(out, change, alloc)?;
-    }
-    Ok(())
-}
-
-// The bytes that are a value of the old schema alone. Of many the first are printed.
-fn push_evidence(
-    out: &mut PlainText,
-    evidence: &Evidence<'_>,
-    alloc: Global,
-) -> Result<(), AllocError> {
-    let bytes = evidence.bytes.as_slice();
-    let shown = bytes.len().min(SHOWN_BYTES);
-    out.push("  ")?;
-    out.push_digits(&bytes[..shown])?;
-    if shown < bytes.len() {
-        out.push("..")?;
-    }
-    let fault = &evidence.fault;
-    let text = format!(in alloc;
-        " is a value of the old schema and no value of the new one: {fault}"
-    )?;
-    out.push(text.as_str())?;
-    out.end_line()?;
-    Ok(())
-}
-
-// The answer as lines.
+// The lines of a comparison.
 fn comparison_text(alloc: Global, compared: &Comparison<'_>) -> Result<PlainText, AllocError> {
     let mut out = PlainText::new(alloc);
-    let changes = compared.changes.as_slice();
-    match &compared.answer {
-        Answer::Same => {
-            out.push("the same: the two schemas have the same values")?;
-            out.end_line()?;
-            push_changes(&mut out, changes, alloc)?;
-        }
-        Answer::Compatible => {
-            out.push("compatible: every value of the old schema is a value of the new one")?;
-            out.end_line()?;
-            push_changes(&mut out, changes, alloc)?;
-        }
-        Answer::Incompatible(evidence) => {
-            out.push("incompatible: ")?;
-            if let Some(change) = changes.first() {
-                push_change(&mut out, change, alloc)?;
-            }
-            push_evidence(&mut out, evidence, alloc)?;
-            push_changes(&mut out, changes.get(1..).unwrap_or(&[]), alloc)?;
-        }
-        Answer::NotKnown => {
-            out.push("not known: ")?;
-            if let Some(change) = changes.first() {
-                push_change(&mut out, change, alloc)?;
-            }
-            push_changes(&mut out, changes.get(1..).unwrap_or(&[]), alloc)?;
-        }
+    for line in comparison_lines(alloc, compared)?.as_slice() {
+        out.push(line.as_str())?;
+        out.end_line()?;
     }
     Ok(out)
 }

@@ -100,8 +100,16 @@ impl PlainText {
         if is_identifier(name) {
             return self.push(name);
         }
+        self.push_quoted(name)
+    }
+
+    /// Adds a text in quotation marks, with a backslash before each quotation mark and backslash in it.
+    pub fn push_quoted(&mut self, text: &str) -> Added
+        ensures { OnOk result (self.new.text.items
+            ≡ self.old.text.items ++ ((34 ∷ flat_map quoted text.now) ++ (34 ∷ []))) }
+    {
         self.put(b'"')?;
-        self.push_quoted(name.as_bytes())?;
+        self.push_inner(text.as_bytes())?;
         self.put(b'"')
     }
 
@@ -122,11 +130,11 @@ impl PlainText {
             .extend_from_slice(&[digit(byte / 16), digit(byte % 16)])
     }
 
-    /// Adds the bytes of a name that is in quotation marks.
-    fn push_quoted(&mut self, name: &[u8]) -> Added
-        ensures { OnOk result (self.new.text.items ≡ self.old.text.items ++ flat_map quoted name.now) }
+    /// Adds the bytes of a text that is in quotation marks.
+    fn push_inner(&mut self, bytes: &[u8]) -> Added
+        ensures { OnOk result (self.new.text.items ≡ self.old.text.items ++ flat_map quoted bytes.now) }
     {
-        for byte in name {
+        for byte in bytes {
             if *byte == b'"' || *byte == b'\\' {
                 self.put(b'\\')?;
             }

@@ -1,6 +1,7 @@
 // Where bytes stop being a member, and why.
 
 use crate::frames::{Frame, Rest};
+use crate::names::Name;
 use crate::numbers::number;
 use crate::tags::variant_at;
 use borsh_plan::Plan;
@@ -52,7 +53,7 @@ pub enum PathStep<'a> {
 }
 
 /// The path from the root to a part of its value. It is written as `A.y[3]`, or `A.y[3]::V.0` for the first field of
-/// a variant.
+/// a variant, each name as a [`Name`]: `"Vec<A>"[3]."x.y"`.
 #[derive(Drop)]
 pub struct Path<'a> {
     pub root: &'a str,
@@ -61,13 +62,13 @@ pub struct Path<'a> {
 
 impl<'a> fmt::Display for Path<'a> {
     fn fmt<W: fmt::Write>(&self, f: &mut fmt::Formatter<W>) -> fmt::Result {
-        write!(f, "{}", self.root)?;
+        write!(f, "{}", Name(self.root))?;
         for step in self.steps.as_slice() {
             match step {
-                PathStep::Field(name) => write!(f, ".{name}")?,
+                PathStep::Field(name) => write!(f, ".{}", Name(name))?,
                 PathStep::Place(index) => write!(f, ".{index}")?,
                 PathStep::Element(index) => write!(f, "[{index}]")?,
-                PathStep::Variant(name) => write!(f, "::{name}")?,
+                PathStep::Variant(name) => write!(f, "::{}", Name(name))?,
             }
         }
         Ok(())

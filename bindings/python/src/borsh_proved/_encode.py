@@ -20,6 +20,7 @@ _TOO_LARGE = 2**128
 _NOT_WHOLE = 0.5
 _NO_FLOAT: List[Any] = []
 
+_IDENTIFIER = re.compile("[A-Za-z_][A-Za-z0-9_]*")
 _SURROGATE = re.compile("[\ud800-\udfff]")
 _BYTES = (bytes, bytearray, memoryview)
 
@@ -93,7 +94,7 @@ class Writer:
                 self._steps.append((keys, key))
                 written[name] = self.part(form.element, item, level + 2)
             elif name in form.types:
-                self._steps.append(("." if form.kind == "record" else "::") + name)
+                self._steps.append(("." if form.kind == "record" else "::") + _name_text(name))
                 written[name] = self.part(form.types[name], item, level + 2)
             else:
                 written[name] = None
@@ -117,7 +118,12 @@ class Writer:
         raise Error(f"{path}: {reason}", Kind.NO, path)
 
     def _path(self) -> str:
-        return self._root + "".join(step if isinstance(step, str) else f"[{_rank(*step)}].1" for step in self._steps)
+        return _name_text(self._root) + "".join(step if isinstance(step, str) else f"[{_rank(*step)}].1" for step in self._steps)
+
+
+def _name_text(name: str) -> str:
+    """A name as it stands in a path: an identifier as it is, any other in quotation marks."""
+    return name if _IDENTIFIER.fullmatch(name) else '"' + re.sub(r'["\\]', r"\\\g<0>", name) + '"'
 
 
 def _number(form: Form, value: Any) -> Any:

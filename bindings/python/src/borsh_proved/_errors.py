@@ -10,7 +10,7 @@ class Kind(enum.Enum):
     """What kind of error it is."""
 
     NO = "no"
-    """The schema breaks a rule or has no size, the bytes are no value, or the JSON or the Python value says none."""
+    """The text is no type, the schema breaks a rule or has no size, the bytes are no value, or the JSON or the Python value says none."""
 
     MALFORMED = "malformed"
     """The bytes of the schema aren't the encoding of a schema."""
@@ -31,17 +31,17 @@ class Error(ValueError):
     ...     schema.check(b"\\x07")
     ... except Error as error:
     ...     print(error, error.kind, error.path, error.offset, sep=" | ")
-    no member: (u8, bool).1 (`bool` at byte 1): too few bytes are left | Kind.NO | (u8, bool).1 | 1
+    no member: "(u8, bool)".1 (`bool` at byte 1): too few bytes are left | Kind.NO | "(u8, bool)".1 | 1
     """
 
     kind: Kind
     """What kind of error it is."""
 
     path: Optional[str]
-    """The part that the error is about, as `A.y[3]`; None where the error isn't about a part of a value."""
+    """The part of a value that the error is about, as `A.y[3]`; `text` or `type`, of `Schema.parse`; else None."""
 
     offset: Optional[int]
-    """The byte of the value at which that part begins, or near which the text stops being JSON; None where the text doesn't tell."""
+    """The byte of the value at which that part begins, or near which the text stops being JSON or types; None where that isn't told."""
 
     record: Optional[int]
     """The byte of the file at which the value begins, of an error of `Schema.records` about a value; else None."""

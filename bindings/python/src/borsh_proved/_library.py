@@ -49,6 +49,8 @@ _ARGUMENTS = {
     "from_json": _BYTES + _BYTES + _OUT,
     "records": _BYTES + _BYTES + _NUMBERS + _NUMBER + _OUT,
     "json_lines": _BYTES + _BYTES + _NUMBERS + [ctypes.c_bool] + _NUMBER + _OUT,
+    "compile": _BYTES + _BYTES + _OUT,
+    "compare": _BYTES + _BYTES + _OUT,
 }
 # tools/calls.py: end
 for _name, _arguments in _ARGUMENTS.items():
@@ -124,4 +126,12 @@ def json_lines(schema: bytes, values: bytes, lengths: ctypes.Array[ctypes.c_size
     number = ctypes.c_size_t()
     given = _ask("json_lines", schema, len(schema), values, len(values), lengths, len(lengths), has_quoted_numbers, ctypes.byref(number))
     return number.value, given.decode()
+
+
+def compile(text: bytes, type_text: bytes) -> bytes:
+    return _ask("compile", text, len(text), type_text, len(type_text))
+
+
+def compare(old_schema: bytes, new_schema: bytes) -> str:
+    return _ask("compare", old_schema, len(old_schema), new_schema, len(new_schema)).decode()
 # tools/calls.py: end

@@ -5,7 +5,7 @@ from __future__ import annotations
 import functools
 import json
 import pathlib
-from typing import Any, Dict, Iterator, Mapping, Tuple, Type
+from typing import Any, Dict, Iterator, Mapping, Optional, Tuple, Type
 
 from . import _library, _records
 from ._encode import Writer
@@ -20,9 +20,9 @@ _SCHEMAS = pathlib.Path(__file__).with_name("schemas.borsh").read_bytes()
 class Schema:
     """A schema: the name of a type, the root, and the definitions that it refers to.
 
-    It is given by its encoding, as `borsh::to_vec(&BorshSchemaContainer::for_type::<T>())` makes it in Rust, of the crate `borsh` with
-    its feature `unstable__schema`; or by `Schema.of`. Raises an `Error` of kind `MALFORMED` for other bytes. A schema may break
-    the rules of schemas: see `validate`.
+    It is given by the text of a type, to `Schema.parse`; by its definitions, to `Schema.of`; or by its encoding, as
+    `borsh::to_vec(&BorshSchemaContainer::for_type::<T>())` makes it in Rust, of the crate `borsh` with its feature `unstable__schema`.
+    Raises an `Error` of kind `MALFORMED` for other bytes. A schema may break the rules of schemas: see `validate`.
 
     >>> from borsh_proved import Schema
     >>> schema = Schema(bytes.fromhex("020000007538 01000000 020000007538 00 01"))
@@ -48,6 +48,30 @@ class Schema:
         except Error:
             _library.size(self._encoding)  # says why the bytes are no schema
             raise
+
+    @classmethod
+    def parse(cls, text: str, type: Optional[str] = None) -> "Schema":
+        """The schema of a type by its text.
+
+        The text has items that the type may name: Rust source; an Anchor IDL, whose accounts begin with their eight bytes of
+        discriminator; or a schema object of borsh-js as JSON, whose own type is `Schema`. The type is any in Rust's words. Without one
+        the text is itself a type, or a schema object.
+
+        Raises an `Error` with line and column, but of JSON, if the text can't be read, or the type has no schema.
+
+        >>> source = "pub enum State { Empty, Open(u64) } pub struct Vault { owner: [u8; 4], state: State }"
+        >>> Schema.parse(source, "Vault").decode(bytes([1, 2, 3, 4, 0]))
+        {'owner': b'\\x01\\x02\\x03\\x04', 'state': 'Empty'}
+        >>> Schema.parse("HashMap<String, u64>").encode({"a": 255}).hex()
+        '010000000100000061ff00000000000000'
+        >>> Schema.parse("struct A { x u8 }", "A")
+        Traceback (most recent call last):
+            ...
+        borsh_proved.Error: text: line 1, column 14: met `u8`, expected `:`
+        """
+        if type is None:
+            text, type = (text, "Schema") if str.lstrip(text).startswith("{") else ("", text)
+        return cls(_library.compile(_utf8(text), _utf8(type)))
 
     @classmethod
     def of(cls, root: str, definitions: Mapping[str, Any]) -> "Schema":
@@ -141,7 +165,7 @@ class Schema:
             ...
         borsh_proved.Error: u16: expected a whole number of 16 bits, unsigned
         """
-        return _library.from_json(self._encoding, text.encode("utf-8", "surrogatepass"))
+        return _library.from_json(self._encoding, _utf8(text))
 
     def decode(self, value: _library.Bytes) -> Any:
         """The value that all of the bytes are, as Python's.
@@ -223,3 +247,8 @@ class Schema:
 @functools.lru_cache(maxsize=None)
 def _schemas() -> Schema:
     return Schema(_SCHEMAS)
+
+
+def _utf8(text: str) -> bytes:
+    """The bytes of a text; of one with half of a surrogate pair what isn't UTF-8."""
+    return str.encode(text, "utf-8", "surrogatepass")

@@ -1,7 +1,7 @@
 use Rattle.std.proofs.Common.{◌≤◌, ◌-◌, ℕ, List, map, drop, length, string_bytes}
 use Rattle.std.specs.Prelude.{ℤ}
 use Rattle.borsh_json.specs.Table.{IsVariant}
-use Rattle.borsh_json.proofs.opening.variant_named.Given as goal
+use Rattle.borsh_json.proofs.opening.first_named.Given as goal
 
 abbrev pub invariant-loop-tag : goal.invariant-loop-tag
 invariant-loop-tag l = record {
