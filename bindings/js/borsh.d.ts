@@ -224,7 +224,7 @@ export class Schema {
   rowsBefore(bytes: Source): Row[];
 }
 
-/** What {@link compare} says. Names are as they are in the schemas, but for line ends, which are `\x0a`. */
+/** What {@link compare} says. Names that aren't identifiers are in quotation marks, and a line end in one is `\x0a`. */
 export interface Comparison {
   /** `"not known"` if neither bytes nor a proof were found. */
   readonly answer: "the same" | "compatible" | "incompatible" | "not known";

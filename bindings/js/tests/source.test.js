@@ -126,6 +126,6 @@ test(`${compared.length} rows of schemas compared`, () => {
   assert.ok(compared.length >= 60);
   for (const { line, columns, schema } of compared) assert.equal(said(schema(), schema(columns[0])), columns[1], line);
   const named = (field) => Schema.of("\n  A", { "\n  A": { Struct: { fields: { NamedFields: [[field, "u8"]] } } }, u8: { Primitive: 1 } });
-  assert.deepEqual(compare(named(" x\n  y\r"), named("z")).changes, ["\\x0a  A. x\\x0a  y\r is now \\x0a  A.z"]);
+  assert.deepEqual(compare(named(" x\n  y\r"), named("z")).changes, ['"\\x0a  A"." x\\x0a  y\r" is now "\\x0a  A".z']);
   for (const pair of [[7, Schema.parse("u8")], [Schema.parse("u8")]]) assert.equal(attempt(() => compare(...pair)).kind, "argument");
 });

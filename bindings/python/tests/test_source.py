@@ -107,7 +107,7 @@ class Compared(unittest.TestCase):
             Schema.of("\n  A", {"\n  A": {"Struct": {"fields": {"NamedFields": [[field, "u8"]]}}}, "u8": {"Primitive": 1}})
             for field in (" x\n  y\r", "z")
         )
-        self.assertEqual(compare(old, new).changes, ["\\x0a  A. x\\x0a  y\r is now \\x0a  A.z"])
+        self.assertEqual(compare(old, new).changes, ['"\\x0a  A"." x\\x0a  y\r" is now "\\x0a  A".z'])
 
     def test_only_schemas_are_compared(self):
         for pair in ((7, Schema.parse("u8")), (Schema.parse("u8"), b"")):

@@ -16,8 +16,8 @@ pub enum Answer {
     NotKnown,
 }
 
-/// What [`compare`] says. It is displayed in lines, in the words of the tool's `borsh compare`. Names are as they are in the schemas, but
-/// for line ends, which are `\x0a`: escape them before they go to a terminal.
+/// What [`compare`] says. It is displayed in lines, in the words of the tool's `borsh compare`. Names that aren't identifiers are in
+/// quotation marks, and a line end in one is `\x0a`; else they are as in the schemas: escape them before they go to a terminal.
 #[derive(Clone, Debug, PartialEq, Eq)]
 pub struct Comparison {
     answer: Answer,

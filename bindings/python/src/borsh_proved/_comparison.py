@@ -27,7 +27,7 @@ class Answer(enum.Enum):
 
 
 class Comparison(NamedTuple):
-    """What `compare` says. Names are as they are in the schemas, but for line ends, which are `\\x0a`."""
+    """What `compare` says. Names that aren't identifiers are in quotation marks, and a line end in one is `\\x0a`."""
 
     answer: Answer
     """The answer."""
