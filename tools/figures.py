@@ -17,7 +17,7 @@ TOP = pathlib.Path(__file__).resolve().parent.parent
 # for lengths without writing, and 6,300 for types by their text and for two containers compared, of which 3,200 are to go.
 BARS = {
     "crates": 30,
-    "lines of .rt": 45000,
+    "lines of .rt": 45600,
     "of these, tests and examples": 9000,
     "must-fail edits": 75,
     "crates with must-fail edits": 8,

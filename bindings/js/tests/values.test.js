@@ -2,6 +2,7 @@
 import assert from "node:assert/strict";
 import { test } from "node:test";
 import { BorshError, attempt, bytesOfHex, hexOf } from "./load.js";
+import { nameText } from "../definitions.js";
 import { bytesOf, rowsIn, textOf } from "./suite.js";
 
 const TOO_DEEP = "nests more than 128 deep";
@@ -31,7 +32,7 @@ function assertRows(schema, bytes) {
   for (const row of schema.rows(bytes)) {
     assert.equal(row.offset, offset);
     assert.deepEqual(row.bytes, bytes.subarray(offset, offset + row.bytes.length));
-    assert.ok(row.path.startsWith(schema.root) && schema.definitions.has(row.type));
+    assert.ok(row.path.startsWith(nameText(schema.root)) && schema.definitions.has(row.type));
     offset += row.bytes.length;
   }
   assert.equal(offset, bytes.length);
@@ -72,11 +73,14 @@ function judge({ kind, columns, schema }) {
     case "value":
       return text.startsWith("! ") ? assertNoMember(it, bytesOf(first), text.slice(2)) : assertValue(it, bytesOf(first), text);
     case "nojson":
-    case "refused":
+    case "refused": {
       it.check(bytesOf(first));
-      if (text.endsWith(TOO_DEEP)) assert.ok(attempt(() => it.rows(bytesOf(first))).message.endsWith(TOO_DEEP));
+      // A part within 128 others has a row, also if it is a list, which in JSON would be one more.
+      const rows = attempt(() => it.rows(bytesOf(first)));
+      if (rows instanceof Error) assert.ok(text.endsWith(TOO_DEEP) && rows.message.endsWith(TOO_DEEP));
       else assertRows(it, bytesOf(first));
       return assertRefused(attempt(() => it.decode(bytesOf(first))), text.slice(2));
+    }
     case "quoted":
       assert.deepEqual(it.fromJson(text), bytesOf(first));
       return assert.equal(it.toJson(bytesOf(first), { longNumbers: "string" }), text);

@@ -157,7 +157,7 @@ class Calls(unittest.TestCase):
             for call, value, offset in ((schema.check, b"\1", 1), (schema.decode, b"\1", 1), (schema.decode, b"\1\2", None)):
                 with self.assertRaises(Error) as raised:
                     call(value)
-                self.assertEqual((raised.exception.path, raised.exception.offset), (name + ".1", offset))
+                self.assertEqual((raised.exception.path, raised.exception.offset), (f'"{name}".1', offset))
 
 
 class Wheel(unittest.TestCase):

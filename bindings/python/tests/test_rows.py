@@ -95,7 +95,7 @@ class Rows(unittest.TestCase):
         self.assertEqual("".join(told), wanted if data else "end")  # of no bytes nothing is asked
 
     def test_members(self):
-        self.run_file("members.tsv", {"value", "member", "nojson", "refused", "records"})
+        self.run_file("members.tsv", {"value", "member", "nojson", "refused", "records", "text"})
 
     def test_nodes(self):
         self.run_file("nodes.tsv", {"nodes"})
@@ -104,7 +104,7 @@ class Rows(unittest.TestCase):
         self.run_file("json.tsv", {"value", "nojson", "refused", "text"})
 
     def test_formats(self):
-        self.run_file("formats.tsv", {"value", "refused", "quoted", "text"})
+        self.run_file("formats.tsv", {"value", "nojson", "refused", "quoted", "text"})
 
     def test_containers(self):
         self.run_file("types.tsv", {"value"})

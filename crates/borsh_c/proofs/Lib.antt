@@ -1,3 +1,3 @@
 mod Told
 mod Records
-mod Pairs
+mod Two

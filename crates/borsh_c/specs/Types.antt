@@ -1,7 +1,9 @@
 -- What the call answers about the container of a type.
-use Rattle.std.specs.Prelude.{◌≡◌, ⊤, ℕ, List, codes, string_bytes}
+use Rattle.std.specs.Prelude.{◌≡◌, ⊤, ℕ, List, Some, codes, string_bytes}
+use Rattle.borsh_definitions.specs.Codecs.{root_and_map}
 use Rattle.borsh_definitions.specs.Described.{definitions_by_name}
 use Rattle.borsh_source.specs.Container.{IsMeaning}
+use Rattle.borsh_source.specs.declared.compiling.Compiled.{Compiled}
 use Rattle.borsh_source.specs.declared.tree.Source.{Source}
 use Rattle.borsh_walks.specs.Container.{IsValid}
 use Rattle.borsh_walks.specs.Definitions.{definitions_in}
@@ -13,6 +15,10 @@ use Rattle.borsh_c.specs.declared.refusal.Refusal.TheVariants.{No, Malformed, Ou
 abbrev pub IsOfType : Saying
 IsOfType m root = IsValid (definitions_in m) root × ((S : Source) × (t : ℕ) × IsMeaning S t root (definitions_by_name m))
 
+-- the bytes are the encoding of what was compiled
+abbrev pub AreEncodingOf : Compiled → List ℕ → Type 0
+AreEncodingOf c bytes = root_and_map.encoding (c.declaration, c.definitions) ≡ Some bytes
+
 -- no, or want of memory
 abbrev pub TellsNoType : Refusal → Type 0
 TellsNoType (No t) = IsShort (string_bytes t.text)
@@ -22,6 +28,6 @@ TellsNoType (Undecided t) = ⊥
 
 -- code 0: the encoding of a type's container is given; code 1: a text that says why there is none
 pub data AnswersContainer (code : ℕ) (given : List ℕ) : Type 0 where
-  compiled : About given IsOfType → code ≡ 0 → AnswersContainer code given
+  compiled : About given IsOfType × IsShort given → code ≡ 0 → AnswersContainer code given
   refused : IsShort given → code ≡ 1 → AnswersContainer code given
   out_of_memory : given ≡ codes "out of memory" → code ≡ 3 → AnswersContainer code given

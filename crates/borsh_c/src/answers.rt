@@ -25,7 +25,7 @@ use std::collections::BTreeMap;
 use std::str;
 
 /// How many bytes a text has at most that says what is wrong with bytes or JSON; the rest is left out.
-const MOST_TEXT: usize = 1073741824;
+pub const MOST_TEXT: usize = 1073741824;
 
 /// A container: the name of its root, and its definitions.
 pub type Container = (String, BTreeMap<String, Definition>);

@@ -18,11 +18,11 @@ pub fn comparison_of(alloc: Global, old_schema: &[u8], new_schema: &[u8]) -> Res
         let two = AboutTwo old_schema.now new_schema.now in
         IfErr result (λ e. RefusesTwo malformed (two IsLost) (two AreAny) e) }
 {
-    let (old_root, old_definitions) = container_named(alloc, "old", old_schema)?;
-    let (new_root, new_definitions) = container_named(alloc, "new", new_schema)?;
-    let old = Plan::new(alloc, old_root.as_str(), &old_definitions)?;
-    let new = Plan::new(alloc, new_root.as_str(), &new_definitions)?;
-    compared_text(alloc, &old, &new)
+    let old = container_named(alloc, "old", old_schema)?;
+    let new = container_named(alloc, "new", new_schema)?;
+    let before = Plan::new(alloc, old.0.as_str(), &old.1)?;
+    let after = Plan::new(alloc, new.0.as_str(), &new.1)?;
+    compared_text(alloc, &before, &after)
 }
 
 /// The same of two plans.
@@ -51,7 +51,9 @@ fn container_named(alloc: Global, word: &str, schema: &[u8]) -> Result<Container
         Err(Refusal::Malformed(why)) => {
             Err(Refusal::Malformed(format!(in alloc; "{word}: {why}")?))
         }
-        found => found,
+        Ok(container) => Ok(container),
+        // It has no other refusal.
+        Err(_) => Err(Refusal::OutOfMemory),
     }
 }
 

@@ -1,10 +1,9 @@
 // The container of a type by its text.
-ghost use Rattle.borsh_c.specs.Answers.{About};
-ghost use Rattle.borsh_c.specs.Types.{IsOfType, TellsNoType};
-ghost use Rattle.borsh_definitions.specs.Codecs.{root_and_map};
-ghost use Rattle.std.specs.Prelude.{◌≡◌, IfErr, IfOk, Some};
+ghost use Rattle.borsh_c.specs.Answers.{About, IsShort};
+ghost use Rattle.borsh_c.specs.Types.{AreEncodingOf, IsOfType, TellsNoType};
+ghost use Rattle.std.specs.Prelude.{IfErr, IfOk};
 
-use super::answers::cut;
+use super::answers::{MOST_TEXT, cut};
 use super::place::Span;
 use super::refusal::{Refusal, Said};
 use borsh_ser::write_two;
@@ -23,7 +22,7 @@ struct Input<'a> {
 
 /// The encoding of the container of a type by its text, which may name the items of another.
 pub fn container_of(alloc: Global, text: &[u8], type_text: &[u8]) -> Result<Vec<u8>, Refusal>
-    ensures ok { IfOk result (λ bytes. About bytes.items IsOfType) }
+    ensures ok { IfOk result (λ bytes. About bytes.items IsOfType × IsShort bytes.items) }
     ensures err { IfErr result TellsNoType }
 {
     let items = input_of(alloc, "text", text)?;
@@ -138,19 +137,14 @@ fn offset_at(text: &str, first_line: u32, place: Place) -> Option<usize> {
 }
 
 fn encoding_of(alloc: Global, compiled: &Compiled) -> Result<Vec<u8>, Refusal>
-    ensures ok { let c = (compiled.now.declaration, compiled.now.definitions) in
-        IfOk result (λ bytes. root_and_map.encoding c ≡ Some bytes.items) }
+    ensures ok { IfOk result (λ bytes. AreEncodingOf compiled.now bytes.items × IsShort bytes.items) }
     ensures err { IfErr result TellsNoType }
 {
     let mut bytes = Vec::new(alloc);
-    // A container that was compiled has an encoding.
-    match write_two(
-        &compiled.declaration,
-        &compiled.definitions,
-        alloc,
-        &mut bytes,
-    ) {
-        Ok(()) => Ok(bytes),
-        Err(_) => Err(Refusal::OutOfMemory),
+    let (root, definitions) = (&compiled.declaration, &compiled.definitions);
+    // What was compiled has an encoding, and fewer bytes.
+    match write_two(root, definitions, alloc, &mut bytes) {
+        Ok(()) if bytes.len() <= MOST_TEXT => Ok(bytes),
+        _ => Err(Refusal::OutOfMemory),
     }
 }

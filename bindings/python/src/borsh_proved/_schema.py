@@ -200,7 +200,7 @@ class Schema:
         >>> Schema.of("(bool, u128)", bits).encode((True, "x"))
         Traceback (most recent call last):
             ...
-        borsh_proved.Error: (bool, u128).1: expected a decimal string of 128 bits, unsigned
+        borsh_proved.Error: "(bool, u128)".1: expected a decimal string of 128 bits, unsigned
         """
         return self.from_json(json.dumps(Writer(self._forms, self._root).part(self._root, value)))
 
