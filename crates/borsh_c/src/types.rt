@@ -76,7 +76,6 @@ fn no_tree(alloc: Global, input: Input<'_>, error: &TextError<'_>) -> Result<Ref
     let offset = match error {
         TextError::OutOfMemory => return Err(AllocError),
         TextError::Refused { place, .. } => offset_at(input.text, 1, *place),
-        TextError::Json { .. } => None,
     };
     refusal_in(alloc, input.name, offset, error)
 }

@@ -16,11 +16,6 @@ pub enum TextError<'a> {
         met: &'a str,
         expected: Expected,
     },
-    /// No longer given: an error of JSON has a place too.
-    Json {
-        within: String,
-        expected: Expected,
-    },
 }
 
 /// What would have been right.
@@ -41,6 +36,8 @@ pub enum Expected {
     /// At most 128 brackets in one another.
     LessDepth,
     Json,
+    /// Of JSON: a name as it is, and not by escapes.
+    Plain,
 }
 
 /// What was met in a text, by its bytes, and what would have been right.
@@ -101,6 +98,7 @@ impl fmt::Display for Expected {
             Expected::TextEnd => f.write_str("no more"),
             Expected::LessDepth => f.write_str("at most 128 types or brackets in one another"),
             Expected::Json => f.write_str("a value of JSON"),
+            Expected::Plain => f.write_str("a name without escapes"),
         }
     }
 }
@@ -125,7 +123,6 @@ impl<'a> fmt::Display for TextError<'a> {
                 }
                 write!(f, ", expected {expected}")
             }
-            TextError::Json { expected, .. } => write!(f, "expected {expected}"),
         }
     }
 }

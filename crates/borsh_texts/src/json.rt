@@ -1,5 +1,5 @@
-// JSON, by the tokens of its text.
-use crate::cursor::{Cursor, text_of};
+// JSON, by the tokens of its text, so that each value has a place.
+use crate::cursor::{Cursor, refusal, text_of};
 use crate::endings::piece;
 use crate::error::{Expected, Stop};
 use crate::token::{Kind, Token};
@@ -94,9 +94,16 @@ impl<'a> Cursor<'a> {
             let mut name = "";
             if close == b'}' {
                 name = self.quoted()?;
+                if name.contains('\\') {
+                    return Err(refusal(key, Expected::Plain));
+                }
                 self.expect_mark(b':')?;
             }
-            parts.push(self.value_of(key, name, depth)?)?;
+            let part = self.value_of(key, name, depth)?;
+            if name == "name" && part.text.contains('\\') {
+                return Err(refusal(part.token, Expected::Plain));
+            }
+            parts.push(part)?;
             if !self.goes_on(close)? {
                 break;
             }

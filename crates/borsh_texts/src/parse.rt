@@ -3,6 +3,7 @@ use crate::cursor::{Cursor, MAX_DEPTH};
 use crate::error::{Expected, Stop, TextError, error_in};
 use crate::token::Kind;
 use borsh_source::Source;
+use json::{Scratch, is_valid};
 use std::alloc::Global;
 use std::mem;
 
@@ -17,7 +18,7 @@ use std::mem;
 /// assert_eq!(rt; source.items.len(), 1);
 /// ```
 pub fn parse_items<'a>(alloc: Global, text: &'a str) -> Result<Source, TextError<'a>> {
-    match items_of(alloc, text.as_bytes()) {
+    match items_of(alloc, text) {
         Ok(source) => Ok(source),
         Err(stop) => Err(error_in(text, stop)),
     }
@@ -42,10 +43,15 @@ pub fn parse_type<'a>(
     }
 }
 
-fn items_of(alloc: Global, text: &[u8]) -> Result<Source, Stop> {
-    let mut cursor = Cursor::new(alloc, text, 1)?;
+fn items_of(alloc: Global, text: &str) -> Result<Source, Stop> {
+    let mut cursor = Cursor::new(alloc, text.as_bytes(), 1)?;
     if cursor.is_mark(b'{') {
         cursor.objects()?;
+        // The tokens are Rust's, and have places.
+        if !is_valid(text, &mut Scratch::new(alloc))? {
+            cursor.go_back(0);
+            return Err(cursor.refused(Expected::Json));
+        }
     } else {
         cursor.items()?;
     }

@@ -4,13 +4,10 @@ ghost use Rattle.borsh_walks.specs.Definitions.{definitions_in as shapes_in};
 ghost use Rattle.std.specs.Prelude.{◌≡◌, IfOk, string_bytes};
 
 use super::failure::Failure;
-use super::not_json::not_json;
 use super::values::Schema;
-use borsh_json::{JsonError, from_json};
 use borsh_source::{Cause, CompileError, Compiled, Source, compile, nearest_name};
 use borsh_texts::{TextError, parse_items, parse_type};
 use std::alloc::{AllocError, Global};
-use std::collections::BTreeMap;
 use std::fmt::Display;
 use std::str;
 
@@ -48,7 +45,7 @@ pub fn schema_of_type<'a>(
     let mut source = source_in(alloc, file, items)?;
     let root = match parse_type(alloc, &mut source, written.text) {
         Ok(root) => root,
-        Err(error) => return Err(no_tree(alloc, written.text, written.text, &error)),
+        Err(error) => return Err(no_tree(alloc, written.text, &error)),
     };
     match compile(alloc, &source, root) {
         Ok(compiled) => Ok(schema_made(compiled)),
@@ -72,20 +69,14 @@ fn source_in<'a>(alloc: Global, file: &'a str, items: &[u8]) -> Result<Source, F
     };
     match parse_items(alloc, text) {
         Ok(source) => Ok(source),
-        Err(error) => Err(no_tree(alloc, file, text, &error)),
+        Err(error) => Err(no_tree(alloc, file, &error)),
     }
 }
 
 /// The failure of a text that has no tree.
-fn no_tree<'a>(alloc: Global, path: &'a str, text: &str, error: &TextError<'_>) -> Failure<'a> {
+fn no_tree<'a>(alloc: Global, path: &'a str, error: &TextError<'_>) -> Failure<'a> {
     match error {
         TextError::OutOfMemory => Failure::OutOfMemory,
-        TextError::Json { within, .. } if within.is_empty() => {
-            match from_json(alloc, "", &BTreeMap::new(alloc), text) {
-                Err(JsonError::NotJson(near)) => no_type(path, not_json(alloc, text, near, false)),
-                _ => no_type(path, said(alloc, error)),
-            }
-        }
         _ => no_type(path, said(alloc, error)),
     }
 }
