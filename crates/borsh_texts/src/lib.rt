@@ -9,7 +9,6 @@ pub mod error;
 mod expressions;
 mod fields;
 mod items;
-mod json;
 mod numbers;
 mod objects;
 mod parse;
@@ -19,6 +18,7 @@ mod skipping;
 mod tests;
 mod token;
 mod types;
+mod values;
 
 pub use error::{Expected, TextError};
 pub use parse::{parse_items, parse_type};

@@ -1,9 +1,9 @@
 // Anchor IDLs and the schema objects of borsh-js, as a tree.
 use crate::cursor::{Cursor, MAX_DEPTH, refusal};
 use crate::error::{Expected, Stop};
-use crate::json::Value;
 use crate::numbers::number_of;
 use crate::token::Kind;
+use crate::values::Value;
 use borsh_source::{ExpressionKind, Field, Fields, ItemKind, Parameter, Place, TypeKind, Variant};
 use std::alloc::{AllocError, Global};
 
