@@ -139,9 +139,9 @@ test("10 MB in 1,176,471 parts: a picture, few nodes, the last bytes, and keys a
   await browser.value(`document.getElementById("grid").focus()`);
   await browser.press("End");
   const { length } = ten.bytes;
-  await browser.eventually(() => text("part"), `bytes ${length - 9} to ${length - 1} · Vec<A>[${ten.last}].y · String · "abcde"`);
+  await browser.eventually(() => text("part"), `bytes ${length - 9} to ${length - 1} · "Vec<A>"[${ten.last}].y · String · "abcde"`);
   await browser.press("Home");
-  await browser.eventually(() => text("part"), "bytes 0 to 3 · Vec<A> · Vec<A> · 588235 elements");
+  await browser.eventually(() => text("part"), 'bytes 0 to 3 · "Vec<A>" · Vec<A> · 588235 elements');
 
   await browser.value(`document.getElementById("link").click()`);
   await browser.eventually(() => text("linked"), "a link has room for 65,536 bytes: send the files");
@@ -152,7 +152,7 @@ test("10 MB in 1,176,471 parts: a picture, few nodes, the last bytes, and keys a
 
   const start = Date.now();
   await write("schema", SCHEMA.replace('"x"', '"key"'));
-  await browser.eventually(() => browser.value(`document.getElementById("part-1")?.children[1].textContent`), "Vec<A>[0].key");
+  await browser.eventually(() => browser.value(`document.getElementById("part-1")?.children[1].textContent`), '"Vec<A>"[0].key');
   context.diagnostic(`parts by a changed schema after ${Date.now() - start} ms`);
   assert.ok(Date.now() - start < AT_ONCE, `${Date.now() - start} ms`);
   await browser.settle();
@@ -216,7 +216,7 @@ test(`${MEGABYTES} MB: it says how far it is, is stopped, and answers, or says w
   await browser.eventually(() => browser.value(`document.getElementById("work").hidden`), true);
   assert.equal(await browser.value(`document.querySelector("main").getAttribute("aria-busy")`), "false");
   await browser.value(`document.getElementById("again").click()`);
-  await browser.eventually(() => browser.value(`document.getElementById("part-0")?.children[1].textContent`), "Vec<A>");
+  await browser.eventually(() => browser.value(`document.getElementById("part-0")?.children[1].textContent`), '"Vec<A>"');
   const start = Date.now();
   await write("schema", SCHEMA.replaceAll("A", "B"));
   await browser.eventually(() => text("definitions").then((it) => it.split("\n")[0]), "sequence Vec<B> = [B; 0..=4294967295], length in 4 bytes");

@@ -160,7 +160,7 @@ const TEXTS = [
   ],
   ["struct Pair<A, B>(A, B);", "Rust source", "this text has no type without parameters"],
   ["export const schema: Schema = {struct: {'a-b': {array: {type: 'u8', len: 2}}, c: \"string\",},};", "a schema of borsh-js", "struct Schema { a-b: [u8; 2], c: String }"],
-  ['{"struct": {"x": "u9"}}', "a schema of borsh-js", "text: `u9` is no type that has a schema"],
+  ['{"struct": {"x": "u9"}}', "a schema of borsh-js", "text: line 1, column 18: `u9` is no type that has a schema"],
   [
     JSON.stringify({ accounts: [{ name: "B" }], types: ["A", "B", "C"].map((name) => ({ name, type: { kind: "struct", fields: [{ name: "x", type: "u8" }] } })) }),
     "an Anchor IDL",
