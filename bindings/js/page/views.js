@@ -90,7 +90,8 @@ function byteLines({ first: from, bytes, rows, partsEnd }, firstLine, count) {
   }
   return Array.from({ length: count }, (_, line) => {
     const start = (firstLine + line) * size;
-    const end = Math.min(start + size, length);
+    // Where the bytes are still those of an earlier value, it may have been shorter.
+    const end = Math.max(start, Math.min(start + size, length, from + bytes.length));
     const cells = [];
     for (let at = start; at < end; at++) cells.push(byteCell(at, byteText(bytes[at - from]), rowOfByte, at >= partsEnd));
     if (fault === length && start <= length && length < start + size) cells.push(byteCell(length, "end", rowOfByte, true));
