@@ -11,6 +11,7 @@ mod columns;
 pub mod command;
 pub mod comparisons;
 pub mod definitions;
+mod digits;
 pub mod failure;
 mod fronts;
 mod lines;

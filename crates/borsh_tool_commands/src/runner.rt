@@ -4,6 +4,7 @@ use super::command::{
     pair_from, request_from, value_request_from,
 };
 use super::comparisons::write_comparison;
+use super::digits::Digits;
 use super::failure::{Failure, failure_line, usage_line};
 use super::fronts::read_value;
 use super::many::{Many, answer_many};
@@ -231,34 +232,52 @@ fn perform_on_value<'a, R: Files + Env + Input + AllocGlobal, W: Write>(
     } else {
         Some(schema_asked(rt, request)?)
     };
-    if request.action == Action::Encode {
-        let value = file(rt, request.value)?;
-        return answer_bytes(
-            rt,
-            request,
-            schema.as_ref(),
-            value.as_slice(),
-            is_terminal,
-            out,
-        );
+    let is_encode = request.action == Action::Encode;
+    if is_encode || request.value.starts_with("0x") {
+        let value = if is_encode {
+            file(rt, request.value)?
+        } else {
+            input(rt, request.value, false)?
+        };
+        let bytes = value.as_slice();
+        return answer_bytes(rt, request, schema.as_ref(), bytes, is_terminal, out);
     }
-    if request.is_hex || request.value.starts_with("0x") {
-        let value = input(rt, request.value, request.is_hex)?;
-        return answer_bytes(
-            rt,
-            request,
-            schema.as_ref(),
-            value.as_slice(),
-            is_terminal,
-            out,
-        );
-    }
+    let schema = schema.as_ref();
     if request.value == "-" {
-        return answer_read(rt, request, schema.as_ref(), rt.reader(), is_terminal, out);
+        return answer_device(rt, request, schema, rt.reader(), is_terminal, out);
     }
     match fs::File::open(rt, request.value) {
-        Ok(file) => answer_read(rt, request, schema.as_ref(), file, is_terminal, out),
+        Ok(file) => answer_device(rt, request, schema, file, is_terminal, out),
         Err(error) => Err(Failure::Unreadable(request.value, error)),
+    }
+}
+
+/// Answers about the bytes of a device, or those whose digits it gives.
+fn answer_device<'a, R: Env + AllocGlobal, D: io::Read + Drop, W: Write>(
+    rt: &R,
+    request: &ValueRequest<'a>,
+    schema: Option<&Schema>,
+    device: D,
+    is_terminal: bool,
+    out: &mut W,
+) -> Result<bool, Failure<'a>> {
+    if !request.is_hex {
+        return answer_read(rt, request, schema, device, is_terminal, out);
+    }
+    let mut digits = Digits::new(device);
+    let outcome = answer_read(rt, request, schema, &mut digits, is_terminal, out);
+    answer_of_digits(request.value, outcome, digits.wrong)
+}
+
+/// The outcome over digits, of which it is known what is wrong.
+fn answer_of_digits<'a>(
+    path: &'a str,
+    outcome: Result<bool, Failure<'a>>,
+    wrong: Option<FromHexError>,
+) -> Result<bool, Failure<'a>> {
+    match (outcome, wrong) {
+        (Err(_), Some(why)) => Err(Failure::NotHexadecimal(path, why)),
+        (outcome, _) => outcome,
     }
 }
 
@@ -369,14 +388,13 @@ fn perform_on_many<'a, R: Files + Input + Eprint + AllocGlobal + Drop, W: Write>
     let action = request.action;
     let is_shown = is_watched && form == Form::Records && !request.is_quiet;
     let mut progress = Progress::new(rt, is_shown);
-    if request.is_hex || action != Action::Encode && request.value.starts_with("0x") {
-        let bytes = input(rt, request.value, request.is_hex)?;
+    if action != Action::Encode && request.value.starts_with("0x") {
+        let bytes = input(rt, request.value, false)?;
         progress.all = Some(bytes.len() as u64);
         return answer_many(action, form, &many, bytes.as_slice(), &mut progress, out);
     }
     if request.value == "-" {
-        let input = StdReader::new(rt.reader(), INTERRUPTIONS);
-        return answer_many(action, form, &many, input, &mut progress, out);
+        return answer_many_in(request, form, &many, rt.reader(), &mut progress, out);
     }
     let file = fs::File::open(rt, request.value).map_err(|error| Failure::Unreadable(
         request.value,
@@ -385,8 +403,27 @@ fn perform_on_many<'a, R: Files + Input + Eprint + AllocGlobal + Drop, W: Write>
     if let Ok(metadata) = file.metadata() {
         progress.all = Some(metadata.len());
     }
-    let input = StdReader::new(file, INTERRUPTIONS);
-    answer_many(action, form, &many, input, &mut progress, out)
+    answer_many_in(request, form, &many, file, &mut progress, out)
+}
+
+/// Answers about the values in the bytes of a device, or in those whose digits it gives.
+fn answer_many_in<'a, E: Eprint, D: io::Read + Drop, W: Write>(
+    request: &ValueRequest<'a>,
+    form: Form,
+    many: &Many<'a, '_, '_>,
+    device: D,
+    progress: &mut Progress<'_, E>,
+    out: &mut W,
+) -> Result<bool, Failure<'a>> {
+    if !request.is_hex {
+        let input = StdReader::new(device, INTERRUPTIONS);
+        return answer_many(request.action, form, many, input, progress, out);
+    }
+    progress.all = None;
+    let mut digits = Digits::new(device);
+    let input = StdReader::new(&mut digits, INTERRUPTIONS);
+    let outcome = answer_many(request.action, form, many, input, progress, out);
+    answer_of_digits(request.value, outcome, digits.wrong)
 }
 
 /// The container of the type that a request has, or else the one that its path leads to.

@@ -4,10 +4,13 @@ ghost use Rattle.borsh_walks.specs.Definitions.{definitions_in as shapes_in};
 ghost use Rattle.std.specs.Prelude.{◌≡◌, IfOk, string_bytes};
 
 use super::failure::Failure;
+use super::not_json::not_json;
 use super::values::Schema;
+use borsh_json::{JsonError, from_json};
 use borsh_source::{Cause, CompileError, Compiled, Source, compile, nearest_name};
-use borsh_texts::{TextError, parse_items, parse_type};
+use borsh_texts::{Expected, TextError, parse_items, parse_type};
 use std::alloc::{AllocError, Global};
+use std::collections::BTreeMap;
 use std::fmt::Display;
 use std::str;
 
@@ -69,7 +72,26 @@ fn source_in<'a>(alloc: Global, file: &'a str, items: &[u8]) -> Result<Source, F
     };
     match parse_items(alloc, text) {
         Ok(source) => Ok(source),
+        Err(
+            TextError::Json {
+                expected: Expected::Json,
+                ..
+            },
+        ) => Err(no_json(alloc, file, text)),
         Err(error) => Err(no_tree(alloc, file, &error)),
+    }
+}
+
+/// The failure of items in JSON that isn't.
+fn no_json<'a>(alloc: Global, path: &'a str, text: &str) -> Failure<'a> {
+    let definitions = BTreeMap::new(alloc);
+    match from_json(alloc, "JSON", &definitions, text) {
+        Err(JsonError::NotJson(near)) => match not_json(alloc, text, near, false) {
+            Ok(why) => Failure::NotType(path, why),
+            Err(_) => Failure::OutOfMemory,
+        },
+        Err(error) => no_type(alloc, path, &error),
+        Ok(_) => Failure::NotText(path),
     }
 }
 
