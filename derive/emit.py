@@ -23,7 +23,7 @@ DERIVED = 'borsh::derived'
 OFFERED = set('''BorshDeserialize BorshKey BorshSchema BorshSerialize BorshType Case CaseWith Cases Chain ChainTo Declaration
     DefinitionMap EnumExt FieldTypes Fork FromCases FromParts Global Read Result SchemaResult Tag TupleTypes VariantTypes Write
     add_enum add_enum_with add_named add_named_with add_unit add_unnamed add_unnamed_with declared declared_with read_enum read_parts
-    read_variant put_bytes write_bytes'''.split())
+    read_variant bytes_length joined_length put_bytes write_bytes'''.split())
 OFFERED |= {prefix + number for prefix in ('write_', 'put_') for number in NUMBERS[2:]}
 OFFERED |= {'Tuple%d' % count for count in range(2, TUPLE + 1)}
 
@@ -430,7 +430,7 @@ def struct_encoding(writer):
     else:
         whole = 'self' if holds_whole(writer) else ''
         body = '\n'.join(written_node(writer, grouped(writer.marked.fields.encoded())[0], ['&' + name for name in names], whole))
-    rows = [serialize_head(writer, used=bool(names)), body, '    }'] + struct_put(writer, names)
+    rows = [serialize_head(writer, used=bool(names)), body, '    }'] + struct_put(writer, names) + struct_length(writer, names)
     block = writer.block('BorshSerialize', 'BorshSerialize', rows)
     return '\n\n'.join(part_blocks(writer, grouped(writer.marked.fields.encoded())[1:]) + [block])
 
@@ -504,6 +504,36 @@ def struct_put(writer, names):
         arguments = ['&' + name for name in names] + ['room']
         body = statement('', call(writer.lib('put_' + NUMBERS[len(names)]), arguments), '', 8)
     return ['', PUT, body, '    }']
+
+
+# the head of the method by which `object_length` adds up lengths
+MAPS = {'BTreeMap', 'BTreeSet', 'HashMap', 'HashSet', 'IndexMap', 'IndexSet'}
+LENGTH = '    fn encoded_length(&self) -> Option<u32> {'
+
+
+def adds_up(writer, fields):
+    """Whether the lengths of some fields can be added up: so few without a map."""
+    return len(fields) <= TUPLE and not any(MAPS & set(heads(field.type)) for field in fields)
+
+
+def struct_length(writer, names):
+    """The method `encoded_length`, which a struct with a map gains nothing from."""
+    fields = writer.marked.fields.encoded()
+    if not names or writer.is_paired or writer.has_lifetime() or not adds_up(writer, fields):
+        return []
+    return ['', LENGTH] + length_rows(writer, ['%s.encoded_length()' % name for name in names], 8) + ['    }']
+
+
+def length_rows(writer, lengths, indent):
+    """The statements that add up some lengths, from the last to the first."""
+    if len(lengths) == 1:
+        return [' ' * indent + lengths[0]]
+    rows, last = [], lengths[-1]
+    for place in range(len(lengths) - 2, -1, -1):
+        term = call(writer.lib('joined_length'), [lengths[place], last])
+        rows.append(statement('let rest = ', term, ';', indent) if place else statement('', term, '', indent))
+        last = 'rest'
+    return rows
 
 
 def serialize_head(writer, used):
@@ -681,7 +711,7 @@ def enum_encoding(writer):
     used = any(variant.fields.encoded() for variant in writer.marked.variants)
     rows = [serialize_head(writer, used), '        match self {']
     rows += [written_variant(writer, variant) for variant in writer.marked.variants]
-    rows += ['        }', '    }'] + ([] if used else enum_put(writer))
+    rows += ['        }', '    }'] + ([] if used else enum_put(writer)) + enum_length(writer)
     wide = [variant for variant in writer.marked.variants if len(variant.fields.encoded()) >= TUPLE]
     blocks = [part_blocks(writer, grouped(variant.fields.encoded()), variant.name) for variant in wide]
     return '\n\n'.join(sum(blocks, []) + [writer.block('BorshSerialize', 'BorshSerialize', rows)])
@@ -693,6 +723,26 @@ def enum_put(writer):
     for variant in writer.marked.variants:
         node = matched('%s::%s' % (writer.marked.name, variant.name), variant.fields, {})
         rows.append(arm(node, call(writer.lib('put_bytes'), ['&[%d]' % variant.tag, 'room']), 12))
+    return rows + ['        }', '    }']
+
+
+def enum_length(writer):
+    """The method `encoded_length` of an enum."""
+    groups = [variant.fields.encoded() for variant in writer.marked.variants]
+    if not groups or not all(adds_up(writer, group) for group in groups):
+        return []
+    rows = ['', LENGTH, '        match self {']
+    for variant in writer.marked.variants:
+        encoded = variant.fields.encoded()
+        names = local_names(encoded, ('rest',))
+        node = matched('%s::%s' % (writer.marked.name, variant.name), variant.fields, dict(zip(encoded, names)))
+        lengths = [call(writer.lib('bytes_length'), ['&[%d]' % variant.tag])] + ['%s.encoded_length()' % name for name in names]
+        if len(lengths) == 1:
+            rows.append(arm(node, lengths[0], 12))
+        elif len(lengths) == 2:
+            rows.append(arm(node, call(writer.lib('joined_length'), lengths), 12))
+        else:
+            rows += block_arm(node, lambda indent: length_rows(writer, lengths, indent), 12)
     return rows + ['        }', '    }']
 
 

@@ -372,7 +372,7 @@ class Taken(Cases):
         for kind in ('u32', '[u8; 32]', 'BTreeMap<String, u64>'):
             fields = ''.join('    pub %s: %s,\n' % row for row in rows + [('rates', kind)])
             text = self.written('use std::collections::BTreeMap;\n\n// derive: borsh, schema\npub struct Stock {\n%s}\n' % fields, 'types_stock')
-            self.assertLess(len(text.splitlines()), 90)
+            self.assertLess(len(text.splitlines()), 100)
 
     def test_wide_tuples(self):
         kinds = ('[u8; 32]', 'String', 'Vec<u8>', 'Option<String>', 'BTreeMap<String, u64>')

@@ -66,6 +66,17 @@ impl<A: BorshSerialize, B: BorshSerialize> BorshSerialize for Either<A, B> {
             Either::Right { of, with } => write_three(&Tag(2), of, with, alloc, writer),
         }
     }
+
+    fn encoded_length(&self) -> Option<u32> {
+        match self {
+            Either::Neither => bytes_length(&[0]),
+            Either::Left(part0) => joined_length(bytes_length(&[1]), part0.encoded_length()),
+            Either::Right { of, with } => {
+                let rest = joined_length(of.encoded_length(), with.encoded_length());
+                joined_length(bytes_length(&[2]), rest)
+            }
+        }
+    }
 }
 
 impl<A: BorshDeserialize, B: BorshDeserialize> BorshDeserialize for Either<A, B> {

@@ -69,6 +69,14 @@ impl BorshSerialize for Level {
             Level::Top => put_bytes(&[10], room),
         }
     }
+
+    fn encoded_length(&self) -> Option<u32> {
+        match self {
+            Level::Low => bytes_length(&[20]),
+            Level::High => bytes_length(&[9]),
+            Level::Top => bytes_length(&[10]),
+        }
+    }
 }
 
 impl BorshDeserialize for Level {

@@ -54,6 +54,15 @@ impl<T, U> BorshSerialize for Markers<T, U> {
             Markers::Both(part0, part1) => write_three(&Tag(0), part0, part1, alloc, writer),
         }
     }
+
+    fn encoded_length(&self) -> Option<u32> {
+        match self {
+            Markers::Both(part0, part1) => {
+                let rest = joined_length(part0.encoded_length(), part1.encoded_length());
+                joined_length(bytes_length(&[0]), rest)
+            }
+        }
+    }
 }
 
 impl<T, U> BorshDeserialize for Markers<T, U> {

@@ -94,6 +94,25 @@ impl BorshSerialize for Message {
             Message::Stop { .. } => write_bytes(&[7], writer),
         }
     }
+
+    fn encoded_length(&self) -> Option<u32> {
+        match self {
+            Message::Ping => bytes_length(&[0]),
+            Message::Text(part0) => joined_length(bytes_length(&[1]), part0.encoded_length()),
+            Message::Move { x, y } => {
+                let rest = joined_length(x.encoded_length(), y.encoded_length());
+                joined_length(bytes_length(&[2]), rest)
+            }
+            Message::Open(part0, part1) => {
+                let rest = joined_length(part0.encoded_length(), part1.encoded_length());
+                joined_length(bytes_length(&[3]), rest)
+            }
+            Message::Tagged(part0) => joined_length(bytes_length(&[4]), part0.encoded_length()),
+            Message::Run { id, .. } => joined_length(bytes_length(&[5]), id.encoded_length()),
+            Message::Wait(part0, _) => joined_length(bytes_length(&[6]), part0.encoded_length()),
+            Message::Stop { .. } => bytes_length(&[7]),
+        }
+    }
 }
 
 impl BorshDeserialize for Message {

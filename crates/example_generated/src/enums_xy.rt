@@ -73,6 +73,20 @@ impl BorshSerialize for XY {
             XY::F(part0) => write_two(&Tag(11), part0, alloc, writer),
         }
     }
+
+    fn encoded_length(&self) -> Option<u32> {
+        match self {
+            XY::A => bytes_length(&[0]),
+            XY::B => bytes_length(&[20]),
+            XY::C => bytes_length(&[21]),
+            XY::D(part0, part1) => {
+                let rest = joined_length(part0.encoded_length(), part1.encoded_length());
+                joined_length(bytes_length(&[22]), rest)
+            }
+            XY::E => bytes_length(&[10]),
+            XY::F(part0) => joined_length(bytes_length(&[11]), part0.encoded_length()),
+        }
+    }
 }
 
 impl BorshDeserialize for XY {

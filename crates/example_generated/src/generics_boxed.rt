@@ -50,6 +50,13 @@ impl<W: BorshSerialize, G: BorshSerialize> BorshSerialize for Boxed<W, G> {
             Boxed::Y(part0) => write_two(&Tag(1), part0, alloc, writer),
         }
     }
+
+    fn encoded_length(&self) -> Option<u32> {
+        match self {
+            Boxed::X { f } => joined_length(bytes_length(&[0]), f.encoded_length()),
+            Boxed::Y(part0) => joined_length(bytes_length(&[1]), part0.encoded_length()),
+        }
+    }
 }
 
 impl<W: BorshDeserialize, G: BorshDeserialize> BorshDeserialize for Boxed<W, G> {

@@ -4,7 +4,7 @@ ghost use Rattle.borsh.specs.Derived.{contramap, contramap-lawful, from, key_fac
 use super::generics::Generic;
 use borsh::derived::{
     BorshDeserialize, BorshSerialize, BorshType, FromParts, Global, Read, Tuple6, Write,
-    read_parts, write_six,
+    joined_length, read_parts, write_six,
 };
 use borsh_samples::B;
 use std::marker::PhantomData;
@@ -35,6 +35,14 @@ impl<T: BorshSerialize, F: BorshSerialize, G: BorshSerialize> BorshSerialize for
         write_six(
             &self.x, &self.y, &self.b, &self.pd, &self.c, &self.d, alloc, writer,
         )
+    }
+
+    fn encoded_length(&self) -> Option<u32> {
+        let rest = joined_length(self.c.encoded_length(), self.d.encoded_length());
+        let rest = joined_length(self.pd.encoded_length(), rest);
+        let rest = joined_length(self.b.encoded_length(), rest);
+        let rest = joined_length(self.y.encoded_length(), rest);
+        joined_length(self.x.encoded_length(), rest)
     }
 }
 

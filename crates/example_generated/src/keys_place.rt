@@ -30,6 +30,10 @@ impl BorshSerialize for Place {
     fn serialize<W: Write>(&self, alloc: Global, writer: &mut W) -> Result<()> {
         write_two(&self.zone, &self.street, alloc, writer)
     }
+
+    fn encoded_length(&self) -> Option<u32> {
+        joined_length(self.zone.encoded_length(), self.street.encoded_length())
+    }
 }
 
 impl FromParts for Place {

@@ -35,6 +35,10 @@ impl<A: BorshSerialize, B: BorshSerialize> BorshSerialize for Pair<A, B> {
     fn put(&self, room: &mut [u8]) -> Option<usize> {
         put_two(&self.first, &self.second, room)
     }
+
+    fn encoded_length(&self) -> Option<u32> {
+        joined_length(self.first.encoded_length(), self.second.encoded_length())
+    }
 }
 
 impl<A: BorshDeserialize, B: BorshDeserialize> FromParts for Pair<A, B> {

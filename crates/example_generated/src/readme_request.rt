@@ -69,6 +69,25 @@ impl BorshSerialize for Request {
             Request::Cancel { number } => write_two(&Tag(2), number, alloc, writer),
         }
     }
+
+    fn encoded_length(&self) -> Option<u32> {
+        match self {
+            Request::List => bytes_length(&[0]),
+            Request::Buy {
+                name,
+                pieces,
+                price,
+            } => {
+                let rest = joined_length(pieces.encoded_length(), price.encoded_length());
+                let rest = joined_length(name.encoded_length(), rest);
+                joined_length(bytes_length(&[1]), rest)
+            }
+            Request::Cancel { number } => joined_length(
+                bytes_length(&[2]),
+                number.encoded_length(),
+            ),
+        }
+    }
 }
 
 impl BorshDeserialize for Request {

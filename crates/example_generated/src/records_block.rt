@@ -37,6 +37,12 @@ impl BorshSerialize for Block {
             writer,
         )
     }
+
+    fn encoded_length(&self) -> Option<u32> {
+        let rest = joined_length(self.signers.encoded_length(), self.origin.encoded_length());
+        let rest = joined_length(self.rows.encoded_length(), rest);
+        joined_length(self.hash.encoded_length(), rest)
+    }
 }
 
 impl FromParts for Block {

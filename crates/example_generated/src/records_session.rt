@@ -34,6 +34,10 @@ impl BorshSerialize for Session {
     fn put(&self, room: &mut [u8]) -> Option<usize> {
         put_two(&self.user, &self.token, room)
     }
+
+    fn encoded_length(&self) -> Option<u32> {
+        joined_length(self.user.encoded_length(), self.token.encoded_length())
+    }
 }
 
 impl FromParts for Session {
