@@ -1,10 +1,8 @@
-// Pointers and `Wrapping`, which are read as what they point to or hold.
+// Pointers, which are read as what they point to.
 use super::deserialize::BorshDeserialize;
-use super::parts::{FromParts, read_parts};
 use borsh_io::{Read, Result};
 use std::alloc::Global;
 use std::borrow::Cow;
-use std::num::Wrapping;
 use std::rc::Rc;
 use std::sync::Arc;
 
@@ -46,23 +44,5 @@ impl<T: BorshDeserialize> BorshDeserialize for Cow<'_, T> {
         _reader: &mut R,
     ) -> Result<Option<Vec<Self>>> {
         Ok(None)
-    }
-}
-
-impl<T: BorshDeserialize> FromParts for Wrapping<T> {
-    type Parts = T;
-
-    ghost view = { λ w. w.0 };
-
-    #[inline]
-    fn from_parts(parts: T) -> Wrapping<T> {
-        Wrapping(parts)
-    }
-}
-
-impl<T: BorshDeserialize> BorshDeserialize for Wrapping<T> {
-    #[inline]
-    fn deserialize_reader<R: Read>(alloc: Global, reader: &mut R) -> Result<Wrapping<T>> {
-        read_parts(alloc, reader)
     }
 }

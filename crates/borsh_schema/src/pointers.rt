@@ -1,4 +1,4 @@
-// Pointers and `Wrapping`, which are what they point to or hold.
+// Pointers, which are what they point to.
 ghost use Rattle.std.specs.Cow.{cow_value};
 ghost use Rattle.borsh_definitions.proofs.Laws.Members.{describes_contramap, describes_stored};
 ghost use Rattle.borsh_definitions.proofs.Laws.Quoted.{allocated_described, contramap_described};
@@ -8,27 +8,8 @@ use super::schema::BorshSchema;
 use borsh_walks::Declaration;
 use std::alloc::Global;
 use std::borrow::Cow;
-use std::num::Wrapping;
 use std::rc::Rc;
 use std::sync::Arc;
-
-impl<T: BorshSchema> BorshSchema for Wrapping<T> {
-    ghost name = { T.name };
-
-    ghost parts = { T.parts };
-
-    ghost described = { contramap_described (λ w. w.0) T.described };
-
-    fn declaration(alloc: Global) -> SchemaResult<Declaration> {
-        T::declaration(alloc)
-    }
-
-    fn add_definitions_recursively(alloc: Global, map: &mut DefinitionMap) -> SchemaResult<()> {
-        T::add_definitions_recursively(alloc, map)
-    }
-
-    ghost describes = { λ C h. describes_contramap (λ w. w.0) (T.describes C h) };
-}
 
 impl<T: BorshSchema> BorshSchema for Box<T> {
     ghost name = { T.name };

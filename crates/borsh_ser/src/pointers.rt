@@ -1,9 +1,8 @@
-// Pointers and `Wrapping`, which are written as what they point to or hold.
+// Pointers, which are written as what they point to.
 use super::serialize::BorshSerialize;
 use borsh_io::{Result, Write};
 use std::alloc::Global;
 use std::borrow::Cow;
-use std::num::Wrapping;
 use std::rc::Rc;
 use std::sync::Arc;
 
@@ -21,23 +20,6 @@ impl<T: BorshSerialize> BorshSerialize for &T {
     #[inline]
     fn encoded_length(&self) -> Option<u32> {
         T::encoded_length(*self)
-    }
-}
-
-impl<T: BorshSerialize> BorshSerialize for Wrapping<T> {
-    #[inline]
-    fn serialize<W: Write>(&self, alloc: Global, writer: &mut W) -> Result<()> {
-        self.0.serialize(alloc, writer)
-    }
-
-    #[inline]
-    fn put(&self, room: &mut [u8]) -> Option<usize> {
-        self.0.put(room)
-    }
-
-    #[inline]
-    fn encoded_length(&self) -> Option<u32> {
-        self.0.encoded_length()
     }
 }
 

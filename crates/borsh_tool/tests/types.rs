@@ -17,8 +17,6 @@ const SIGNERS: u32 = (WIDTH as u32 >> 3) % 3_u32 << 1 | 1;
 pub const TEXT: &str = "const WIDTH: usize = 3; }}";
 static TABLE: [u8; 2] = [b'{', '\'' as u8];
 
-pub type Wrapping<T> = T;
-
 #[derive(BorshSerialize, BorshSchema)]
 pub struct A {
     pub x: u64,

@@ -1,14 +1,11 @@
-// Pointers and `Wrapping`, which are what they point to or hold.
+// Pointers, which are what they point to.
 ghost use Rattle.std.specs.Cow.{cow_value};
 ghost use Rattle.borsh_codec.specs.Shapes.{contramap, allocated};
 ghost use Rattle.borsh_codec.proofs.Laws.Exact.{contramap-lawful, allocated-lawful};
 ghost use Rattle.borsh_codec.proofs.Laws.Conditional.{from};
-ghost use Rattle.borsh_codec.proofs.Laws.OrderedKeys.{contramap_ordered};
 
-use super::keys::BorshKey;
 use super::types::BorshType;
 use std::borrow::Cow;
-use std::num::Wrapping;
 use std::rc::Rc;
 use std::sync::Arc;
 
@@ -90,26 +87,4 @@ impl<T: BorshType> BorshType for Cow<'_, T> {
     fn element_size() -> usize {
         T::element_size().saturating_add(8)
     }
-}
-
-impl<T: BorshType> BorshType for Wrapping<T> {
-    ghost codec = { contramap (λ w. w.0) T.codec };
-
-    ghost lawful_if = { from (contramap-lawful (λ w. w.0)) T.lawful_if };
-
-    ghost premises = { T.premises };
-
-    fn encodes_empty() -> bool {
-        T::encodes_empty()
-    }
-
-    fn element_size() -> usize {
-        T::element_size()
-    }
-}
-
-impl<T: BorshKey> BorshKey for Wrapping<T> {
-    ghost ordered = { contramap_ordered (λ w. w.0) T.ordered };
-
-    ghost key = { λ a b. T.key a.0 b.0 };
 }
