@@ -1,19 +1,12 @@
-"""Tuples, and the calls that write so many parts: of one to twelve places."""
+"""Tuples, of one to twenty places, and the calls that write so many parts, up to twelve."""
 from registered.layout import Part, filled, key, member, nested, ser_methods
 
-# The most places that a tuple has.
-PLACES = 12
+# The most places that a tuple has; and one that is a key, or is written by one call, or into a room. In definitions, a value of so
+# many places is as in Rust, and one of more is pairs within one another, the last place beside nothing.
+PLACES, CALLED = 20, 12
 NUMBERS = "zero one two three four five six seven eight nine ten eleven twelve".split()
-LETTERS = "ABCDEFGHIJKLMNOPQRST"
-
-
-def broken(parts, indent, column):
-    """`nested` from that column on, in as many lines as it takes: each pair that is too long has its two parts below one another."""
-    flat = nested(parts)
-    if column + len(flat) <= 118:
-        return flat
-    inner = " " * (indent + 2)
-    return f"(\n{inner}{parts[0]},\n{inner}{broken(parts[1:], indent + 2, indent + 2)},\n{' ' * indent})"
+# Without R and W, the reader and the writer.
+LETTERS = "ABCDEFGHIJKLMNOPQSTU"
 
 
 class Tuple:
@@ -37,6 +30,12 @@ class Tuple:
 
 
 TUPLES = [Tuple(places) for places in range(1, PLACES + 1)]
+SHORT = TUPLES[:CALLED]
+
+
+def chained(word, parts):
+    """`(word A (word B C))`, in words to be filled."""
+    return [f"{'(' if place else ''}{word} {part}" for place, part in enumerate(parts[:-1])] + [parts[-1] + ")" * (len(parts) - 2)]
 
 
 def types_tuple(it):
@@ -48,10 +47,22 @@ def types_tuple(it):
         codec, law, premises = "pair A.codec B.codec", "from_two pair-lawful A.lawful_if B.lawful_if", "(A.premises, B.premises)"
         empty, size = "A::encodes_empty() && B::encodes_empty()", "A::element_size().saturating_add(B::element_size())"
     else:
-        view, pairs = f"(λ t. {nested(it.fields())})", f"⟦<{nested(it.letters)} as BorshType>⟧"
-        codec = f"contramap\n        {view}\n        {pairs}.codec"
-        law = f"from\n        (contramap-lawful {view})\n        {pairs}.lawful_if"
-        premises = broken([f"{letter}.premises" for letter in it.letters], 4, len("    ghost premises = { "))
+        if it in SHORT:
+            view, pairs = f"(λ t. {nested(it.fields())})", f"⟦<{nested(it.letters)} as BorshType>⟧"
+            codec = f"contramap\n        {view}\n        {pairs}.codec"
+            law = f"from\n        (contramap-lawful {view})\n        {pairs}.lawful_if"
+        elif it.places == CALLED + 1:
+            last = it.letters[-1]
+            codec = chained("pair", [f"{letter}.codec" for letter in it.letters[:-1]] + [f"(contramap (λ t. t.0) {last}.codec)"])
+            law = chained(
+                "from_two pair-lawful",
+                [f"{letter}.lawful_if" for letter in it.letters[:-1]] + [f"(from (contramap-lawful (λ t. t.0)) {last}.lawful_if)"],
+            )
+            codec, law = filled(codec, len("    ghost codec = { ")), filled(law, len("    ghost lawful_if = { "))
+        else:
+            rest = f"⟦<(A, {it.rest}) as BorshType>⟧"
+            codec, law = f"{rest}.codec", f"{rest}.lawful_if"
+        premises = filled(chained("both", [f"{letter}.premises" for letter in it.letters]), len("    ghost premises = { "))
         rest = f"<(A, {it.rest})>"
         empty, size = f"{rest}::encodes_empty()", f"{rest}::element_size()"
     return f"""
@@ -72,11 +83,11 @@ def types_tuple(it):
 """
 
 
-TYPES_TUPLES = f"""// Tuples of one to {NUMBERS[PLACES]} places: their parts in order.
+TYPES_TUPLES = f"""// Tuples of one to twenty places: their parts in order.
 ghost use Rattle.borsh_codec.specs.Shapes.{{contramap, pair}};
 ghost use Rattle.borsh_codec.proofs.Laws.Exact.{{contramap-lawful}};
 ghost use Rattle.borsh_codec.proofs.Laws.Pairs.{{pair-lawful}};
-ghost use Rattle.borsh_codec.proofs.Laws.Conditional.{{from, from_two}};
+ghost use Rattle.borsh_codec.proofs.Laws.Conditional.{{both, from, from_two}};
 
 use super::types::BorshType;
 """ + "".join(map(types_tuple, TUPLES))
@@ -107,18 +118,31 @@ def ser_tuple(it):
 """
 
 
+def ser_longer(it):
+    """Longer ones write the first places one by one, and the last twelve by one call."""
+    first = "".join(f"        {field}.serialize(alloc, writer)?;\n" for field in it.fields("self")[:-CALLED])
+    last = ", ".join(f"&{field}" for field in it.fields("self")[-CALLED:])
+    return f"""
+{it.bound("BorshSerialize")}    #[inline]
+    fn serialize<W: Write>(&self, alloc: Global, writer: &mut W) -> Result<()> {{
+{first}        write_{NUMBERS[CALLED]}({last}, alloc, writer)
+    }}
+}}
+"""
+
+
 def calls(verb):
-    return ", ".join(sorted(f"{verb}_{NUMBERS[places]}" for places in range(2, PLACES + 1)))
+    return ", ".join(sorted(f"{verb}_{NUMBERS[places]}" for places in range(2, CALLED + 1)))
 
 
-SER_TUPLES = f"""// Tuples of one to {NUMBERS[PLACES]} places: their parts in order.
+SER_TUPLES = f"""// Tuples of one to twenty places: their parts in order.
 use super::lengths::joined_length;
 use super::parts::{{{calls("write")}}};
 use super::puts::{{{calls("put")}}};
 use super::serialize::BorshSerialize;
 use borsh_io::{{Result, Write}};
 use std::alloc::Global;
-""" + "".join(map(ser_tuple, TUPLES))
+""" + "".join([*map(ser_tuple, SHORT), *map(ser_longer, TUPLES[CALLED:])])
 
 
 def de_tuple(it):
@@ -131,22 +155,23 @@ def de_tuple(it):
         lines = [f"let (a, ({', '.join(it.values[1:])})) = {rest}::deserialize_reader(alloc, reader)?;"]
         width = f"{rest}::width()"
     body = "\n        ".join(lines)
+    hook = f"""
+    #[inline]
+    fn width() -> usize {{
+        {width}
+    }}
+"""
     return f"""
 {it.bound("BorshDeserialize")}    #[inline]
     fn deserialize_reader<R: Read>(alloc: Global, reader: &mut R) -> Result<{it.type}> {{
         {body}
         Ok(({', '.join(it.values)}{',' if it.places == 1 else ''}))
     }}
-
-    #[inline]
-    fn width() -> usize {{
-        {width}
-    }}
-}}
+{hook if it in SHORT else ""}}}
 """
 
 
-DE_TUPLES = f"""// Tuples of one to {NUMBERS[PLACES]} places: their parts in order.
+DE_TUPLES = """// Tuples of one to twenty places: their parts in order.
 use super::deserialize::BorshDeserialize;
 use super::fixed::both_widths;
 use borsh_io::{{Read, Result}};
@@ -154,22 +179,39 @@ use std::alloc::Global;
 """ + "".join(map(de_tuple, TUPLES))
 
 
+def six(types):
+    """The chain of these types, in sixes."""
+    return f"Six<{', '.join(types[:6])}, {six(types[6:])}>" if len(types) > 6 else nested(types, "()")
+
+
+# So many facts are named before a shorter name stands for those that are left.
+STEP = 8
+
+
+def facts(place):
+    """Where the facts of a place are found: of the first `STEP` in `h`, and then in `h1` and `h2`."""
+    return f"h{place // STEP or ''}{'.1' * (place % STEP + (place < STEP))}"
+
+
 def schema_tuple(it):
     """A tuple's schema is its places' names and definitions, and a member is a member of each place, one after another."""
     chain = nested(it.letters, "()")
     types = f"⟦<{chain} as FieldTypes>⟧.described"
-    fields = f"(λ t. {nested(it.fields(), 'tt')})"
+    fields = f"(λ t. {nested(it.fields(), 'tt')})" if it in SHORT else "(λ t. t)"
     if it.places == 1:
         declaration = 'let a = A::declaration(alloc)?;\n        Ok(format!(in alloc; "({a},)")?)'
     else:
-        declaration = f"tuple_declaration::<A, {nested(it.letters[1:], '()')}>(alloc)"
-    places = [f"{letter}.describes defs h{'.1' * (place + 1)}.0" for place, letter in enumerate(it.letters)]
+        declaration = f"tuple_declaration::<A, {six(it.letters[1:])}>(alloc)"
+    places = [f"{letter}.describes defs {facts(place)}.0" for place, letter in enumerate(it.letters)]
+    if it not in SHORT:
+        places[-1] = f"describes_contramap (λ t. t.0) ({places[-1]})"
     members = [f"(all_more ({place})" for place in places[:-1]] + [f"(all_one ({places[-1]}){')' * it.places}"]
-    if it.places == 2:
-        members = ["λ defs h. describes_parts h.0", *members]
+    for place in range(STEP, it.places, STEP):
+        members[place] = f"(let {facts(place).partition('.')[0]} = {facts(place - 1)}.1 in {members[place][1:]}"
+    if it.places in (1, *range(3, CALLED + 1)):
+        members = ["λ defs h.", f"describes_contramap (λ t. {nested(it.fields())})", "(describes_parts h.0", *members[:-1], members[-1] + ")"]
     else:
-        view = f"λ t. {nested(it.fields())}"
-        members = ["λ defs h.", f"describes_contramap ({view})", "(describes_parts h.0", *members[:-1], members[-1] + ")"]
+        members = ["λ defs h. describes_parts h.0", *members]
     return f"""
 {it.bound("BorshSchema")}{member("name", ["tuple_name", f"{types}.names"])}
 {member("parts", ["tuple_of", types])}
@@ -182,28 +224,30 @@ def schema_tuple(it):
     }}
 
     fn add_definitions_recursively(alloc: Global, map: &mut DefinitionMap) -> SchemaResult<()> {{
-        add_tuple::<{chain}>(alloc, Self::declaration(alloc)?, map)
+        add_tuple::<{six(it.letters)}>(alloc, Self::declaration(alloc)?, map)
     }}
 
 {member("describes", members)}}}
 """
 
 
-SCHEMA_TUPLES = """// Tuples: their parts in order.
-ghost use Rattle.std.specs.Prelude.{◌∷◌, [], refl};
-ghost use Rattle.borsh_definitions.specs.Described.{both, none};
-ghost use Rattle.borsh_definitions.proofs.Laws.Members.{describes_contramap, describes_parts, all_one, all_more};
-ghost use Rattle.borsh_definitions.specs.Names.{tuple_name};
-ghost use Rattle.borsh_definitions.specs.Types.{tuple_definitions};
-ghost use Rattle.borsh_definitions.proofs.Laws.Quoted.{struct_described, tuple_of};
+def schema_tuples(first, tuples):
+    """The file of these tuples' schemas."""
+    return f"""// {first}
+ghost use Rattle.std.specs.Prelude.{{◌∷◌, [], refl}};
+ghost use Rattle.borsh_definitions.specs.Described.{{both, none}};
+ghost use Rattle.borsh_definitions.proofs.Laws.Members.{{describes_contramap, describes_parts, all_one, all_more}};
+ghost use Rattle.borsh_definitions.specs.Names.{{tuple_name}};
+ghost use Rattle.borsh_definitions.specs.Types.{{tuple_definitions}};
+ghost use Rattle.borsh_definitions.proofs.Laws.Quoted.{{struct_described, tuple_of}};
 
-use super::definitions::{DefinitionMap, SchemaResult};
+use super::definitions::{{DefinitionMap, SchemaResult}};
 use super::fields::FieldTypes;
 use super::schema::BorshSchema;
-use super::tuple_parts::{add_tuple, tuple_declaration};
+use super::tuple_parts::{{Six, add_tuple, tuple_declaration}};
 use borsh_walks::Declaration;
 use std::alloc::Global;
-""" + "".join(map(schema_tuple, TUPLES))
+""" + "".join(map(schema_tuple, tuples))
 
 
 # ---- as keys
@@ -330,17 +374,47 @@ returns g c = writes_then g.met.W.Write.lawful _ c.in_ok-serialize.ensures c.{fe
 """
 
 
+def ser_proof(it):
+    """Of each place that is written by itself what follows if it wasn't, behind those that were; and of the twelve behind them."""
+    calls = ["serialize"] + [f"serialize-{place}" for place in range(2, it.places - CALLED + 1)]
+
+    def behind(place, last):
+        for call in reversed(calls[:place]):
+            last = f"writes_then g.met.W.Write.lawful _ c.in_ok-{call}.ensures ({last})"
+        return last
+
+    exits = "".join(
+        f"""
+pub returns-in_err-{call} : goal.returns-in_err-{call}
+returns-in_err-{call} g c = {behind(place, f"writes_exit_first g.met.W.Write.lawful _ _ _ c.from_residual.ensures.1 c.in_err-{call}.ensures")}
+"""
+        for place, call in enumerate(calls)
+    )
+    return f"""use Rattle.borsh_codec.proofs.WriteOutcomes.{{writes_exit_first, writes_then}}
+use Rattle.borsh_ser.proofs.tuples.Tuple{it.places}BorshSerialize.serialize.Goals as goal
+{exits}
+pub returns : goal.returns
+returns g c = {behind(len(calls), f"c.write_{NUMBERS[CALLED]}.ensures")}
+"""
+
+
 def as_pair(it):
     """The function from a tuple to its first place beside the others."""
     return f"(λ t. (t.0, ({', '.join(it.fields()[1:])})))"
 
 
 def de_proof(it):
-    return f"""use Rattle.borsh_codec.proofs.DecodeOutcomes.{{decodes_exit_contramap}}
+    if it.places <= CALLED:
+        lemma, view = "decodes_exit_contramap", as_pair(it) + " "
+    elif it.places == CALLED + 1:
+        lemma, view = "decodes_exit_contramap", f"(λ t. (t.0, ({', '.join('t' + '.1' * place + '.0' for place in range(1, it.places))}))) "
+    else:
+        lemma, view = "decodes_exit", ""
+    return f"""use Rattle.borsh_codec.proofs.DecodeOutcomes.{{{lemma}}}
 use Rattle.borsh_de.proofs.tuples.Tuple{it.places}BorshDeserialize.deserialize_reader.Goals as goal
 
 pub returns-in_err-a : goal.returns-in_err-a
-returns-in_err-a g c = decodes_exit_contramap {as_pair(it)} _ c.from_residual.ensures.1 c.in_err-a.ensures
+returns-in_err-a g c = {lemma} {view}_ c.from_residual.ensures.1 c.in_err-a.ensures
 """
 
 
@@ -358,29 +432,31 @@ returns g c h = contramap_fixed {as_pair(it)} (λ a x p. ((a.0, {others}), refl)
 # ---- what is written
 
 
-LONGER = TUPLES[2:]
+CALLS = SHORT[2:]
 FILES = {
     "borsh_types/src/tuples.rt": TYPES_TUPLES,
     "borsh_ser/src/tuples.rt": SER_TUPLES,
     "borsh_de/src/tuples.rt": DE_TUPLES,
-    "borsh_schema/src/tuples.rt": SCHEMA_TUPLES,
-    **{f"borsh_ser/proofs/puts/put_{NUMBERS[it.places]}/Answers.antt": put_proof(it) for it in LONGER},
-    **{f"borsh_ser/proofs/parts/write_{NUMBERS[it.places]}/Answers.antt": write_proof(it) for it in TUPLES[1:]},
-    **{f"borsh_de/proofs/tuples/Tuple{it.places}BorshDeserialize/deserialize_reader/Answers.antt": de_proof(it) for it in LONGER},
-    **{f"borsh_de/proofs/tuples/Tuple{it.places}BorshDeserialize/width/Answers.antt": width_proof(it) for it in LONGER},
+    "borsh_schema/src/tuples.rt": schema_tuples("Tuples of one to twelve places: their parts in order.", SHORT),
+    "borsh_schema/src/long_tuples.rt": schema_tuples("Tuples of thirteen to twenty places: their parts in order.", TUPLES[CALLED:]),
+    **{f"borsh_ser/proofs/puts/put_{NUMBERS[it.places]}/Answers.antt": put_proof(it) for it in CALLS},
+    **{f"borsh_ser/proofs/parts/write_{NUMBERS[it.places]}/Answers.antt": write_proof(it) for it in SHORT[1:]},
+    **{f"borsh_ser/proofs/tuples/Tuple{it.places}BorshSerialize/serialize/Answers.antt": ser_proof(it) for it in TUPLES[CALLED:]},
+    **{f"borsh_de/proofs/tuples/Tuple{it.places}BorshDeserialize/deserialize_reader/Answers.antt": de_proof(it) for it in TUPLES[2:]},
+    **{f"borsh_de/proofs/tuples/Tuple{it.places}BorshDeserialize/width/Answers.antt": width_proof(it) for it in CALLS},
 }
 
 PARTS = {
     "borsh_types/src/keys.rt": [
-        Part("impl<A: BorshKey> BorshKey for (A,) {", "impl<T: BorshKey, const N: usize> BorshKey for [T; N] {", "".join(map(keys_tuple, TUPLES)))
+        Part("impl<A: BorshKey> BorshKey for (A,) {", "impl<T: BorshKey, const N: usize> BorshKey for [T; N] {", "".join(map(keys_tuple, SHORT)))
     ],
-    "borsh_ser/src/puts.rt": [Part("/// [`put_two`] for three parts.", None, "".join(map(put_parts, LONGER)))],
+    "borsh_ser/src/puts.rt": [Part("/// [`put_two`] for three parts.", None, "".join(map(put_parts, CALLS)))],
     "borsh_ser/src/parts.rt": [
         Part(
             "/// [`write_two`] for three parts.",
             "/// Writes a tag, one byte, and a part: a variant with one field.",
-            "".join(map(write_parts, LONGER)),
+            "".join(map(write_parts, CALLS)),
         )
     ],
-    "borsh/src/derived.rt": [Part("/// A tuple of 2 types.", None, "".join(map(chain, TUPLES[1:])))],
+    "borsh/src/derived.rt": [Part("/// A tuple of 2 types.", None, "".join(map(chain, SHORT[1:])))],
 }

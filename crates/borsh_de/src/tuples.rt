@@ -1,4 +1,4 @@
-// Tuples of one to twelve places: their parts in order.
+// Tuples of one to twenty places: their parts in order.
 use super::deserialize::BorshDeserialize;
 use super::fixed::both_widths;
 use borsh_io::{Read, Result};
@@ -267,5 +267,257 @@ impl<
     #[inline]
     fn width() -> usize {
         <(A, (B, C, D, E, F, G, H, I, J, K, L))>::width()
+    }
+}
+
+impl<
+    A: BorshDeserialize,
+    B: BorshDeserialize,
+    C: BorshDeserialize,
+    D: BorshDeserialize,
+    E: BorshDeserialize,
+    F: BorshDeserialize,
+    G: BorshDeserialize,
+    H: BorshDeserialize,
+    I: BorshDeserialize,
+    J: BorshDeserialize,
+    K: BorshDeserialize,
+    L: BorshDeserialize,
+    M: BorshDeserialize,
+> BorshDeserialize for (A, B, C, D, E, F, G, H, I, J, K, L, M) {
+    #[inline]
+    fn deserialize_reader<R: Read>(
+        alloc: Global,
+        reader: &mut R,
+    ) -> Result<(A, B, C, D, E, F, G, H, I, J, K, L, M)> {
+        let (a, (b, c, d, e, f, g, h, i, j, k, l, m)) = <(
+            A,
+            (B, C, D, E, F, G, H, I, J, K, L, M),
+        )>::deserialize_reader(alloc, reader)?;
+        Ok((a, b, c, d, e, f, g, h, i, j, k, l, m))
+    }
+}
+
+impl<
+    A: BorshDeserialize,
+    B: BorshDeserialize,
+    C: BorshDeserialize,
+    D: BorshDeserialize,
+    E: BorshDeserialize,
+    F: BorshDeserialize,
+    G: BorshDeserialize,
+    H: BorshDeserialize,
+    I: BorshDeserialize,
+    J: BorshDeserialize,
+    K: BorshDeserialize,
+    L: BorshDeserialize,
+    M: BorshDeserialize,
+    N: BorshDeserialize,
+> BorshDeserialize for (A, B, C, D, E, F, G, H, I, J, K, L, M, N) {
+    #[inline]
+    fn deserialize_reader<R: Read>(
+        alloc: Global,
+        reader: &mut R,
+    ) -> Result<(A, B, C, D, E, F, G, H, I, J, K, L, M, N)> {
+        let (a, (b, c, d, e, f, g, h, i, j, k, l, m, n)) = <(
+            A,
+            (B, C, D, E, F, G, H, I, J, K, L, M, N),
+        )>::deserialize_reader(alloc, reader)?;
+        Ok((a, b, c, d, e, f, g, h, i, j, k, l, m, n))
+    }
+}
+
+impl<
+    A: BorshDeserialize,
+    B: BorshDeserialize,
+    C: BorshDeserialize,
+    D: BorshDeserialize,
+    E: BorshDeserialize,
+    F: BorshDeserialize,
+    G: BorshDeserialize,
+    H: BorshDeserialize,
+    I: BorshDeserialize,
+    J: BorshDeserialize,
+    K: BorshDeserialize,
+    L: BorshDeserialize,
+    M: BorshDeserialize,
+    N: BorshDeserialize,
+    O: BorshDeserialize,
+> BorshDeserialize for (A, B, C, D, E, F, G, H, I, J, K, L, M, N, O) {
+    #[inline]
+    fn deserialize_reader<R: Read>(
+        alloc: Global,
+        reader: &mut R,
+    ) -> Result<(A, B, C, D, E, F, G, H, I, J, K, L, M, N, O)> {
+        let (a, (b, c, d, e, f, g, h, i, j, k, l, m, n, o)) = <(
+            A,
+            (B, C, D, E, F, G, H, I, J, K, L, M, N, O),
+        )>::deserialize_reader(alloc, reader)?;
+        Ok((a, b, c, d, e, f, g, h, i, j, k, l, m, n, o))
+    }
+}
+
+impl<
+    A: BorshDeserialize,
+    B: BorshDeserialize,
+    C: BorshDeserialize,
+    D: BorshDeserialize,
+    E: BorshDeserialize,
+    F: BorshDeserialize,
+    G: BorshDeserialize,
+    H: BorshDeserialize,
+    I: BorshDeserialize,
+    J: BorshDeserialize,
+    K: BorshDeserialize,
+    L: BorshDeserialize,
+    M: BorshDeserialize,
+    N: BorshDeserialize,
+    O: BorshDeserialize,
+    P: BorshDeserialize,
+> BorshDeserialize for (A, B, C, D, E, F, G, H, I, J, K, L, M, N, O, P) {
+    #[inline]
+    fn deserialize_reader<R: Read>(
+        alloc: Global,
+        reader: &mut R,
+    ) -> Result<(A, B, C, D, E, F, G, H, I, J, K, L, M, N, O, P)> {
+        let (a, (b, c, d, e, f, g, h, i, j, k, l, m, n, o, p)) = <(
+            A,
+            (B, C, D, E, F, G, H, I, J, K, L, M, N, O, P),
+        )>::deserialize_reader(alloc, reader)?;
+        Ok((a, b, c, d, e, f, g, h, i, j, k, l, m, n, o, p))
+    }
+}
+
+impl<
+    A: BorshDeserialize,
+    B: BorshDeserialize,
+    C: BorshDeserialize,
+    D: BorshDeserialize,
+    E: BorshDeserialize,
+    F: BorshDeserialize,
+    G: BorshDeserialize,
+    H: BorshDeserialize,
+    I: BorshDeserialize,
+    J: BorshDeserialize,
+    K: BorshDeserialize,
+    L: BorshDeserialize,
+    M: BorshDeserialize,
+    N: BorshDeserialize,
+    O: BorshDeserialize,
+    P: BorshDeserialize,
+    Q: BorshDeserialize,
+> BorshDeserialize for (A, B, C, D, E, F, G, H, I, J, K, L, M, N, O, P, Q) {
+    #[inline]
+    fn deserialize_reader<R: Read>(
+        alloc: Global,
+        reader: &mut R,
+    ) -> Result<(A, B, C, D, E, F, G, H, I, J, K, L, M, N, O, P, Q)> {
+        let (a, (b, c, d, e, f, g, h, i, j, k, l, m, n, o, p, q)) = <(
+            A,
+            (B, C, D, E, F, G, H, I, J, K, L, M, N, O, P, Q),
+        )>::deserialize_reader(alloc, reader)?;
+        Ok((a, b, c, d, e, f, g, h, i, j, k, l, m, n, o, p, q))
+    }
+}
+
+impl<
+    A: BorshDeserialize,
+    B: BorshDeserialize,
+    C: BorshDeserialize,
+    D: BorshDeserialize,
+    E: BorshDeserialize,
+    F: BorshDeserialize,
+    G: BorshDeserialize,
+    H: BorshDeserialize,
+    I: BorshDeserialize,
+    J: BorshDeserialize,
+    K: BorshDeserialize,
+    L: BorshDeserialize,
+    M: BorshDeserialize,
+    N: BorshDeserialize,
+    O: BorshDeserialize,
+    P: BorshDeserialize,
+    Q: BorshDeserialize,
+    S: BorshDeserialize,
+> BorshDeserialize for (A, B, C, D, E, F, G, H, I, J, K, L, M, N, O, P, Q, S) {
+    #[inline]
+    fn deserialize_reader<R: Read>(
+        alloc: Global,
+        reader: &mut R,
+    ) -> Result<(A, B, C, D, E, F, G, H, I, J, K, L, M, N, O, P, Q, S)> {
+        let (a, (b, c, d, e, f, g, h, i, j, k, l, m, n, o, p, q, s)) = <(
+            A,
+            (B, C, D, E, F, G, H, I, J, K, L, M, N, O, P, Q, S),
+        )>::deserialize_reader(alloc, reader)?;
+        Ok((a, b, c, d, e, f, g, h, i, j, k, l, m, n, o, p, q, s))
+    }
+}
+
+impl<
+    A: BorshDeserialize,
+    B: BorshDeserialize,
+    C: BorshDeserialize,
+    D: BorshDeserialize,
+    E: BorshDeserialize,
+    F: BorshDeserialize,
+    G: BorshDeserialize,
+    H: BorshDeserialize,
+    I: BorshDeserialize,
+    J: BorshDeserialize,
+    K: BorshDeserialize,
+    L: BorshDeserialize,
+    M: BorshDeserialize,
+    N: BorshDeserialize,
+    O: BorshDeserialize,
+    P: BorshDeserialize,
+    Q: BorshDeserialize,
+    S: BorshDeserialize,
+    T: BorshDeserialize,
+> BorshDeserialize for (A, B, C, D, E, F, G, H, I, J, K, L, M, N, O, P, Q, S, T) {
+    #[inline]
+    fn deserialize_reader<R: Read>(
+        alloc: Global,
+        reader: &mut R,
+    ) -> Result<(A, B, C, D, E, F, G, H, I, J, K, L, M, N, O, P, Q, S, T)> {
+        let (a, (b, c, d, e, f, g, h, i, j, k, l, m, n, o, p, q, s, t)) = <(
+            A,
+            (B, C, D, E, F, G, H, I, J, K, L, M, N, O, P, Q, S, T),
+        )>::deserialize_reader(alloc, reader)?;
+        Ok((a, b, c, d, e, f, g, h, i, j, k, l, m, n, o, p, q, s, t))
+    }
+}
+
+impl<
+    A: BorshDeserialize,
+    B: BorshDeserialize,
+    C: BorshDeserialize,
+    D: BorshDeserialize,
+    E: BorshDeserialize,
+    F: BorshDeserialize,
+    G: BorshDeserialize,
+    H: BorshDeserialize,
+    I: BorshDeserialize,
+    J: BorshDeserialize,
+    K: BorshDeserialize,
+    L: BorshDeserialize,
+    M: BorshDeserialize,
+    N: BorshDeserialize,
+    O: BorshDeserialize,
+    P: BorshDeserialize,
+    Q: BorshDeserialize,
+    S: BorshDeserialize,
+    T: BorshDeserialize,
+    U: BorshDeserialize,
+> BorshDeserialize for (A, B, C, D, E, F, G, H, I, J, K, L, M, N, O, P, Q, S, T, U) {
+    #[inline]
+    fn deserialize_reader<R: Read>(
+        alloc: Global,
+        reader: &mut R,
+    ) -> Result<(A, B, C, D, E, F, G, H, I, J, K, L, M, N, O, P, Q, S, T, U)> {
+        let (a, (b, c, d, e, f, g, h, i, j, k, l, m, n, o, p, q, s, t, u)) = <(
+            A,
+            (B, C, D, E, F, G, H, I, J, K, L, M, N, O, P, Q, S, T, U),
+        )>::deserialize_reader(alloc, reader)?;
+        Ok((a, b, c, d, e, f, g, h, i, j, k, l, m, n, o, p, q, s, t, u))
     }
 }

@@ -9,6 +9,7 @@ pub mod definitions;
 pub mod fields;
 pub mod floats;
 pub mod lists;
+mod long_tuples;
 pub mod maps;
 pub mod non_zeros;
 pub mod numbers;

@@ -12,6 +12,9 @@ use super::schema::BorshSchema;
 use borsh_walks::{Declaration, Definition};
 use std::alloc::Global;
 
+/// Six types, and the chain of those behind them.
+pub(crate) type Six<A, B, C, D, E, F, R> = (A, (B, (C, (D, (E, (F, R))))));
+
 /// The name of a tuple of two places or more.
 pub(crate) fn tuple_declaration<T: BorshSchema, R: FieldTypes>(
     alloc: Global,

@@ -1,4 +1,4 @@
-// Tuples: their parts in order.
+// Tuples of one to twelve places: their parts in order.
 ghost use Rattle.std.specs.Prelude.{◌∷◌, [], refl};
 ghost use Rattle.borsh_definitions.specs.Described.{both, none};
 ghost use Rattle.borsh_definitions.proofs.Laws.Members.{describes_contramap, describes_parts, all_one, all_more};
@@ -9,7 +9,7 @@ ghost use Rattle.borsh_definitions.proofs.Laws.Quoted.{struct_described, tuple_o
 use super::definitions::{DefinitionMap, SchemaResult};
 use super::fields::FieldTypes;
 use super::schema::BorshSchema;
-use super::tuple_parts::{add_tuple, tuple_declaration};
+use super::tuple_parts::{Six, add_tuple, tuple_declaration};
 use borsh_walks::Declaration;
 use std::alloc::Global;
 
@@ -178,7 +178,7 @@ impl<
     }
 
     fn add_definitions_recursively(alloc: Global, map: &mut DefinitionMap) -> SchemaResult<()> {
-        add_tuple::<(A, (B, (C, (D, (E, (F, (G, ())))))))>(alloc, Self::declaration(alloc)?, map)
+        add_tuple::<Six<A, B, C, D, E, F, (G, ())>>(alloc, Self::declaration(alloc)?, map)
     }
 
     ghost describes = { λ defs h.
@@ -209,15 +209,11 @@ impl<
         ⟦<(A, (B, (C, (D, (E, (F, (G, (H, ())))))))) as FieldTypes>⟧.described refl };
 
     fn declaration(alloc: Global) -> SchemaResult<Declaration> {
-        tuple_declaration::<A, (B, (C, (D, (E, (F, (G, (H, ())))))))>(alloc)
+        tuple_declaration::<A, Six<B, C, D, E, F, G, (H, ())>>(alloc)
     }
 
     fn add_definitions_recursively(alloc: Global, map: &mut DefinitionMap) -> SchemaResult<()> {
-        add_tuple::<(A, (B, (C, (D, (E, (F, (G, (H, ()))))))))>(
-            alloc,
-            Self::declaration(alloc)?,
-            map,
-        )
+        add_tuple::<Six<A, B, C, D, E, F, (G, (H, ()))>>(alloc, Self::declaration(alloc)?, map)
     }
 
     ghost describes = { λ defs h.
@@ -251,15 +247,11 @@ impl<
         ⟦<(A, (B, (C, (D, (E, (F, (G, (H, (I, ()))))))))) as FieldTypes>⟧.described refl };
 
     fn declaration(alloc: Global) -> SchemaResult<Declaration> {
-        tuple_declaration::<A, (B, (C, (D, (E, (F, (G, (H, (I, ()))))))))>(alloc)
+        tuple_declaration::<A, Six<B, C, D, E, F, G, (H, (I, ()))>>(alloc)
     }
 
     fn add_definitions_recursively(alloc: Global, map: &mut DefinitionMap) -> SchemaResult<()> {
-        add_tuple::<(A, (B, (C, (D, (E, (F, (G, (H, (I, ())))))))))>(
-            alloc,
-            Self::declaration(alloc)?,
-            map,
-        )
+        add_tuple::<Six<A, B, C, D, E, F, (G, (H, (I, ())))>>(alloc, Self::declaration(alloc)?, map)
     }
 
     ghost describes = { λ defs h.
@@ -269,7 +261,7 @@ impl<
         (all_more (E.describes defs h.1.1.1.1.1.0) (all_more (F.describes defs h.1.1.1.1.1.1.0)
         (all_more (G.describes defs h.1.1.1.1.1.1.1.0)
         (all_more (H.describes defs h.1.1.1.1.1.1.1.1.0)
-        (all_one (I.describes defs h.1.1.1.1.1.1.1.1.1.0))))))))))) };
+        (let h1 = h.1.1.1.1.1.1.1.1.1 in all_one (I.describes defs h1.0))))))))))) };
 }
 
 impl<
@@ -295,11 +287,11 @@ impl<
         ⟦<(A, (B, (C, (D, (E, (F, (G, (H, (I, (J, ())))))))))) as FieldTypes>⟧.described refl };
 
     fn declaration(alloc: Global) -> SchemaResult<Declaration> {
-        tuple_declaration::<A, (B, (C, (D, (E, (F, (G, (H, (I, (J, ())))))))))>(alloc)
+        tuple_declaration::<A, Six<B, C, D, E, F, G, (H, (I, (J, ())))>>(alloc)
     }
 
     fn add_definitions_recursively(alloc: Global, map: &mut DefinitionMap) -> SchemaResult<()> {
-        add_tuple::<(A, (B, (C, (D, (E, (F, (G, (H, (I, (J, ()))))))))))>(
+        add_tuple::<Six<A, B, C, D, E, F, (G, (H, (I, (J, ()))))>>(
             alloc,
             Self::declaration(alloc)?,
             map,
@@ -313,8 +305,8 @@ impl<
         (all_more (E.describes defs h.1.1.1.1.1.0) (all_more (F.describes defs h.1.1.1.1.1.1.0)
         (all_more (G.describes defs h.1.1.1.1.1.1.1.0)
         (all_more (H.describes defs h.1.1.1.1.1.1.1.1.0)
-        (all_more (I.describes defs h.1.1.1.1.1.1.1.1.1.0)
-        (all_one (J.describes defs h.1.1.1.1.1.1.1.1.1.1.0)))))))))))) };
+        (let h1 = h.1.1.1.1.1.1.1.1.1 in all_more (I.describes defs h1.0)
+        (all_one (J.describes defs h1.1.0)))))))))))) };
 }
 
 impl<
@@ -341,11 +333,11 @@ impl<
         ⟦<(A, (B, (C, (D, (E, (F, (G, (H, (I, (J, (K, ()))))))))))) as FieldTypes>⟧.described refl };
 
     fn declaration(alloc: Global) -> SchemaResult<Declaration> {
-        tuple_declaration::<A, (B, (C, (D, (E, (F, (G, (H, (I, (J, (K, ()))))))))))>(alloc)
+        tuple_declaration::<A, Six<B, C, D, E, F, G, (H, (I, (J, (K, ()))))>>(alloc)
     }
 
     fn add_definitions_recursively(alloc: Global, map: &mut DefinitionMap) -> SchemaResult<()> {
-        add_tuple::<(A, (B, (C, (D, (E, (F, (G, (H, (I, (J, (K, ())))))))))))>(
+        add_tuple::<Six<A, B, C, D, E, F, (G, (H, (I, (J, (K, ())))))>>(
             alloc,
             Self::declaration(alloc)?,
             map,
@@ -359,9 +351,8 @@ impl<
         (all_more (E.describes defs h.1.1.1.1.1.0) (all_more (F.describes defs h.1.1.1.1.1.1.0)
         (all_more (G.describes defs h.1.1.1.1.1.1.1.0)
         (all_more (H.describes defs h.1.1.1.1.1.1.1.1.0)
-        (all_more (I.describes defs h.1.1.1.1.1.1.1.1.1.0)
-        (all_more (J.describes defs h.1.1.1.1.1.1.1.1.1.1.0)
-        (all_one (K.describes defs h.1.1.1.1.1.1.1.1.1.1.1.0))))))))))))) };
+        (let h1 = h.1.1.1.1.1.1.1.1.1 in all_more (I.describes defs h1.0)
+        (all_more (J.describes defs h1.1.0) (all_one (K.describes defs h1.1.1.0))))))))))))) };
 }
 
 impl<
@@ -389,11 +380,11 @@ impl<
         ⟦<(A, (B, (C, (D, (E, (F, (G, (H, (I, (J, (K, (L, ())))))))))))) as FieldTypes>⟧.described refl };
 
     fn declaration(alloc: Global) -> SchemaResult<Declaration> {
-        tuple_declaration::<A, (B, (C, (D, (E, (F, (G, (H, (I, (J, (K, (L, ())))))))))))>(alloc)
+        tuple_declaration::<A, Six<B, C, D, E, F, G, (H, (I, (J, (K, (L, ())))))>>(alloc)
     }
 
     fn add_definitions_recursively(alloc: Global, map: &mut DefinitionMap) -> SchemaResult<()> {
-        add_tuple::<(A, (B, (C, (D, (E, (F, (G, (H, (I, (J, (K, (L, ()))))))))))))>(
+        add_tuple::<Six<A, B, C, D, E, F, (G, (H, (I, (J, (K, (L, ()))))))>>(
             alloc,
             Self::declaration(alloc)?,
             map,
@@ -407,8 +398,7 @@ impl<
         (all_more (E.describes defs h.1.1.1.1.1.0) (all_more (F.describes defs h.1.1.1.1.1.1.0)
         (all_more (G.describes defs h.1.1.1.1.1.1.1.0)
         (all_more (H.describes defs h.1.1.1.1.1.1.1.1.0)
-        (all_more (I.describes defs h.1.1.1.1.1.1.1.1.1.0)
-        (all_more (J.describes defs h.1.1.1.1.1.1.1.1.1.1.0)
-        (all_more (K.describes defs h.1.1.1.1.1.1.1.1.1.1.1.0)
-        (all_one (L.describes defs h.1.1.1.1.1.1.1.1.1.1.1.1.0)))))))))))))) };
+        (let h1 = h.1.1.1.1.1.1.1.1.1 in all_more (I.describes defs h1.0)
+        (all_more (J.describes defs h1.1.0) (all_more (K.describes defs h1.1.1.0)
+        (all_one (L.describes defs h1.1.1.1.0)))))))))))))) };
 }

@@ -1,4 +1,4 @@
-// Tuples of one to twelve places: their parts in order.
+// Tuples of one to twenty places: their parts in order.
 use super::lengths::joined_length;
 use super::parts::{
     write_eight, write_eleven, write_five, write_four, write_nine, write_seven, write_six,
@@ -378,5 +378,261 @@ impl<
         let rest = joined_length(self.2.encoded_length(), rest);
         let rest = joined_length(self.1.encoded_length(), rest);
         joined_length(self.0.encoded_length(), rest)
+    }
+}
+
+impl<
+    A: BorshSerialize,
+    B: BorshSerialize,
+    C: BorshSerialize,
+    D: BorshSerialize,
+    E: BorshSerialize,
+    F: BorshSerialize,
+    G: BorshSerialize,
+    H: BorshSerialize,
+    I: BorshSerialize,
+    J: BorshSerialize,
+    K: BorshSerialize,
+    L: BorshSerialize,
+    M: BorshSerialize,
+> BorshSerialize for (A, B, C, D, E, F, G, H, I, J, K, L, M) {
+    #[inline]
+    fn serialize<W: Write>(&self, alloc: Global, writer: &mut W) -> Result<()> {
+        self.0.serialize(alloc, writer)?;
+        write_twelve(
+            &self.1, &self.2, &self.3, &self.4, &self.5, &self.6, &self.7, &self.8, &self.9,
+            &self.10, &self.11, &self.12, alloc, writer,
+        )
+    }
+}
+
+impl<
+    A: BorshSerialize,
+    B: BorshSerialize,
+    C: BorshSerialize,
+    D: BorshSerialize,
+    E: BorshSerialize,
+    F: BorshSerialize,
+    G: BorshSerialize,
+    H: BorshSerialize,
+    I: BorshSerialize,
+    J: BorshSerialize,
+    K: BorshSerialize,
+    L: BorshSerialize,
+    M: BorshSerialize,
+    N: BorshSerialize,
+> BorshSerialize for (A, B, C, D, E, F, G, H, I, J, K, L, M, N) {
+    #[inline]
+    fn serialize<W: Write>(&self, alloc: Global, writer: &mut W) -> Result<()> {
+        self.0.serialize(alloc, writer)?;
+        self.1.serialize(alloc, writer)?;
+        write_twelve(
+            &self.2, &self.3, &self.4, &self.5, &self.6, &self.7, &self.8, &self.9, &self.10,
+            &self.11, &self.12, &self.13, alloc, writer,
+        )
+    }
+}
+
+impl<
+    A: BorshSerialize,
+    B: BorshSerialize,
+    C: BorshSerialize,
+    D: BorshSerialize,
+    E: BorshSerialize,
+    F: BorshSerialize,
+    G: BorshSerialize,
+    H: BorshSerialize,
+    I: BorshSerialize,
+    J: BorshSerialize,
+    K: BorshSerialize,
+    L: BorshSerialize,
+    M: BorshSerialize,
+    N: BorshSerialize,
+    O: BorshSerialize,
+> BorshSerialize for (A, B, C, D, E, F, G, H, I, J, K, L, M, N, O) {
+    #[inline]
+    fn serialize<W: Write>(&self, alloc: Global, writer: &mut W) -> Result<()> {
+        self.0.serialize(alloc, writer)?;
+        self.1.serialize(alloc, writer)?;
+        self.2.serialize(alloc, writer)?;
+        write_twelve(
+            &self.3, &self.4, &self.5, &self.6, &self.7, &self.8, &self.9, &self.10, &self.11,
+            &self.12, &self.13, &self.14, alloc, writer,
+        )
+    }
+}
+
+impl<
+    A: BorshSerialize,
+    B: BorshSerialize,
+    C: BorshSerialize,
+    D: BorshSerialize,
+    E: BorshSerialize,
+    F: BorshSerialize,
+    G: BorshSerialize,
+    H: BorshSerialize,
+    I: BorshSerialize,
+    J: BorshSerialize,
+    K: BorshSerialize,
+    L: BorshSerialize,
+    M: BorshSerialize,
+    N: BorshSerialize,
+    O: BorshSerialize,
+    P: BorshSerialize,
+> BorshSerialize for (A, B, C, D, E, F, G, H, I, J, K, L, M, N, O, P) {
+    #[inline]
+    fn serialize<W: Write>(&self, alloc: Global, writer: &mut W) -> Result<()> {
+        self.0.serialize(alloc, writer)?;
+        self.1.serialize(alloc, writer)?;
+        self.2.serialize(alloc, writer)?;
+        self.3.serialize(alloc, writer)?;
+        write_twelve(
+            &self.4, &self.5, &self.6, &self.7, &self.8, &self.9, &self.10, &self.11, &self.12,
+            &self.13, &self.14, &self.15, alloc, writer,
+        )
+    }
+}
+
+impl<
+    A: BorshSerialize,
+    B: BorshSerialize,
+    C: BorshSerialize,
+    D: BorshSerialize,
+    E: BorshSerialize,
+    F: BorshSerialize,
+    G: BorshSerialize,
+    H: BorshSerialize,
+    I: BorshSerialize,
+    J: BorshSerialize,
+    K: BorshSerialize,
+    L: BorshSerialize,
+    M: BorshSerialize,
+    N: BorshSerialize,
+    O: BorshSerialize,
+    P: BorshSerialize,
+    Q: BorshSerialize,
+> BorshSerialize for (A, B, C, D, E, F, G, H, I, J, K, L, M, N, O, P, Q) {
+    #[inline]
+    fn serialize<W: Write>(&self, alloc: Global, writer: &mut W) -> Result<()> {
+        self.0.serialize(alloc, writer)?;
+        self.1.serialize(alloc, writer)?;
+        self.2.serialize(alloc, writer)?;
+        self.3.serialize(alloc, writer)?;
+        self.4.serialize(alloc, writer)?;
+        write_twelve(
+            &self.5, &self.6, &self.7, &self.8, &self.9, &self.10, &self.11, &self.12, &self.13,
+            &self.14, &self.15, &self.16, alloc, writer,
+        )
+    }
+}
+
+impl<
+    A: BorshSerialize,
+    B: BorshSerialize,
+    C: BorshSerialize,
+    D: BorshSerialize,
+    E: BorshSerialize,
+    F: BorshSerialize,
+    G: BorshSerialize,
+    H: BorshSerialize,
+    I: BorshSerialize,
+    J: BorshSerialize,
+    K: BorshSerialize,
+    L: BorshSerialize,
+    M: BorshSerialize,
+    N: BorshSerialize,
+    O: BorshSerialize,
+    P: BorshSerialize,
+    Q: BorshSerialize,
+    S: BorshSerialize,
+> BorshSerialize for (A, B, C, D, E, F, G, H, I, J, K, L, M, N, O, P, Q, S) {
+    #[inline]
+    fn serialize<W: Write>(&self, alloc: Global, writer: &mut W) -> Result<()> {
+        self.0.serialize(alloc, writer)?;
+        self.1.serialize(alloc, writer)?;
+        self.2.serialize(alloc, writer)?;
+        self.3.serialize(alloc, writer)?;
+        self.4.serialize(alloc, writer)?;
+        self.5.serialize(alloc, writer)?;
+        write_twelve(
+            &self.6, &self.7, &self.8, &self.9, &self.10, &self.11, &self.12, &self.13, &self.14,
+            &self.15, &self.16, &self.17, alloc, writer,
+        )
+    }
+}
+
+impl<
+    A: BorshSerialize,
+    B: BorshSerialize,
+    C: BorshSerialize,
+    D: BorshSerialize,
+    E: BorshSerialize,
+    F: BorshSerialize,
+    G: BorshSerialize,
+    H: BorshSerialize,
+    I: BorshSerialize,
+    J: BorshSerialize,
+    K: BorshSerialize,
+    L: BorshSerialize,
+    M: BorshSerialize,
+    N: BorshSerialize,
+    O: BorshSerialize,
+    P: BorshSerialize,
+    Q: BorshSerialize,
+    S: BorshSerialize,
+    T: BorshSerialize,
+> BorshSerialize for (A, B, C, D, E, F, G, H, I, J, K, L, M, N, O, P, Q, S, T) {
+    #[inline]
+    fn serialize<W: Write>(&self, alloc: Global, writer: &mut W) -> Result<()> {
+        self.0.serialize(alloc, writer)?;
+        self.1.serialize(alloc, writer)?;
+        self.2.serialize(alloc, writer)?;
+        self.3.serialize(alloc, writer)?;
+        self.4.serialize(alloc, writer)?;
+        self.5.serialize(alloc, writer)?;
+        self.6.serialize(alloc, writer)?;
+        write_twelve(
+            &self.7, &self.8, &self.9, &self.10, &self.11, &self.12, &self.13, &self.14, &self.15,
+            &self.16, &self.17, &self.18, alloc, writer,
+        )
+    }
+}
+
+impl<
+    A: BorshSerialize,
+    B: BorshSerialize,
+    C: BorshSerialize,
+    D: BorshSerialize,
+    E: BorshSerialize,
+    F: BorshSerialize,
+    G: BorshSerialize,
+    H: BorshSerialize,
+    I: BorshSerialize,
+    J: BorshSerialize,
+    K: BorshSerialize,
+    L: BorshSerialize,
+    M: BorshSerialize,
+    N: BorshSerialize,
+    O: BorshSerialize,
+    P: BorshSerialize,
+    Q: BorshSerialize,
+    S: BorshSerialize,
+    T: BorshSerialize,
+    U: BorshSerialize,
+> BorshSerialize for (A, B, C, D, E, F, G, H, I, J, K, L, M, N, O, P, Q, S, T, U) {
+    #[inline]
+    fn serialize<W: Write>(&self, alloc: Global, writer: &mut W) -> Result<()> {
+        self.0.serialize(alloc, writer)?;
+        self.1.serialize(alloc, writer)?;
+        self.2.serialize(alloc, writer)?;
+        self.3.serialize(alloc, writer)?;
+        self.4.serialize(alloc, writer)?;
+        self.5.serialize(alloc, writer)?;
+        self.6.serialize(alloc, writer)?;
+        self.7.serialize(alloc, writer)?;
+        write_twelve(
+            &self.8, &self.9, &self.10, &self.11, &self.12, &self.13, &self.14, &self.15, &self.16,
+            &self.17, &self.18, &self.19, alloc, writer,
+        )
     }
 }

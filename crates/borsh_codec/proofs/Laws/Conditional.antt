@@ -22,3 +22,7 @@ from_two f r s = record { premises = r.premises × s.premises; fact = λ p. f (r
 
 abbrev pub from_three : {Q R S T : Type 0} → (Q → R → S → T) → Conditional Q → Conditional R → Conditional S → Conditional T
 from_three f q r s = record { premises = q.premises × r.premises × s.premises; fact = λ p. f (q.fact p.0) (r.fact p.1) (s.fact p.2) }
+
+-- the premises of two parts
+abbrev pub both : {P Q : Type 0} → P → Q → P × Q
+both p q = (p, q)

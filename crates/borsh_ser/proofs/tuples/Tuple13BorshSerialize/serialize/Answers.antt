@@ -1,0 +1,8 @@
+use Rattle.borsh_codec.proofs.WriteOutcomes.{writes_exit_first, writes_then}
+use Rattle.borsh_ser.proofs.tuples.Tuple13BorshSerialize.serialize.Goals as goal
+
+pub returns-in_err-serialize : goal.returns-in_err-serialize
+returns-in_err-serialize g c = writes_exit_first g.met.W.Write.lawful _ _ _ c.from_residual.ensures.1 c.in_err-serialize.ensures
+
+pub returns : goal.returns
+returns g c = writes_then g.met.W.Write.lawful _ c.in_ok-serialize.ensures (c.write_twelve.ensures)
