@@ -69,6 +69,8 @@ fn tuples(alloc: Global, name: &str, call: &Call<'_>) -> Result<Report, Fault> {
         (bool,), (u8, u16), (String, u64), (u8, bool, u16), (i32, String, u64), (i32, String, f64),
         (u8, u16, u32, u64, i8, i16, i32, i64),
         (u8, String, i8, bool, u16, u32, u64, i16, i32, i64, u128, usize),
+        (u8, u16, u32, u64, i8, i16, i32, i64, bool, u128, i128, String, u8),
+        (u8, u16, u32, u64, i8, i16, i32, i64, bool, u128, i128, u8, u16, u32, u64, i8, i16, i32, i64, bool),
         ((u8, u8, u8, u8), (u8, u8, u8, u8, u8), (u8, u8, u8, u8, u8, u8),
         (u8, u8, u8, u8, u8, u8, u8), (u8, u8, u8, u8, u8, u8, u8, u8),
         (u8, u8, u8, u8, u8, u8, u8, u8, u8), (u8, u8, u8, u8, u8, u8, u8, u8, u8, u8),
