@@ -12,10 +12,10 @@ import subprocess
 import sys
 import tempfile
 
-from registered import holders, numbers, tuples
+from registered import holders, numbers, tuples, wrapped
 
 TOP = pathlib.Path(__file__).resolve().parent.parent
-KINDS = (numbers, tuples, holders)
+KINDS = (numbers, tuples, holders, wrapped)
 
 # Each file that is written, and the parts of others, by their places below crates/.
 FILES = {name: text for kind in KINDS for name, text in kind.FILES.items()}

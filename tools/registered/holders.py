@@ -1,5 +1,6 @@
 """Types that hold a text, a list, or one value, and are encoded as what they hold; and ranges of one end."""
 from registered.layout import Part, key, member, ser_methods
+from registered.wrapped import Wrapped, de_wrapped, key_wrapped, ser_wrapped, types_wrapped
 
 
 class Holder:
@@ -236,59 +237,19 @@ impl<T: BorshSchema> BorshSchema for {it.name} {{
 # ---- ranges of one end
 
 
-class End:
+class End(Wrapped):
     """A range that has one end: its name, the field of the end, and how it is made."""
 
     def __init__(self, name, field, made):
-        self.name, self.field, self.made = name, field, made
-        self.type, self.view = f"{name}<T>", f"(λ r. r.{field})"
-
-    def head(self, trait):
-        return f"impl<T: {trait}> {trait} for {self.type}"
+        super().__init__(f"{name}<T>", f"std::ops::{name}", "T", f"(λ r. r.{field})", made)
+        self.range, self.field = name, field
 
 
-ENDS = [End("RangeFrom", "start", "start.."), End("RangeTo", "end", "..end"), End("RangeToInclusive", "end", "..=end")]
-
-
-def types_end(it):
-    law = f"from (contramap-lawful {it.view}) T.lawful_if"
-    return types_holder(it.head("BorshType"), f"contramap {it.view} T.codec", law, "T.premises", "T::encodes_empty()", "T::element_size()")
-
-
-def key_end(it):
-    law = f"λ a b. T.key a.{it.field} b.{it.field}"
-    return key(it.type, f"contramap_ordered {it.view} T.ordered", law, "<T: BorshKey>")
-
-
-def ser_end(it):
-    value = f"self.{it.field}"
-    return ser_holder(it.head("BorshSerialize"), f"{value}.serialize(alloc, writer)", f"{value}.put(room)", f"{value}.encoded_length()")
-
-
-def de_end(it):
-    return f"""
-impl<T: BorshDeserialize> FromParts for {it.type} {{
-    type Parts = T;
-
-    ghost view = {{ {it.view[1:-1]} }};
-
-    #[inline]
-    fn from_parts({it.field}: T) -> {it.type} {{
-        {it.made}
-    }}
-}}
-
-{it.head("BorshDeserialize")} {{
-    #[inline]
-    fn deserialize_reader<R: Read>(alloc: Global, reader: &mut R) -> Result<{it.type}> {{
-        read_parts(alloc, reader)
-    }}
-}}
-"""
+ENDS = [End("RangeFrom", "start", "parts.."), End("RangeTo", "end", "..parts"), End("RangeToInclusive", "end", "..=parts")]
 
 
 def schema_end(it):
-    begin = f'(codes "{it.name}<")'
+    begin = f'(codes "{it.range}<")'
     definition = "range_from" if it.field == "start" else "range_to"
     parts = ["defined", f"(applied {begin} T.name)", f"({definition} T.name)", "(both T.parts none)"]
     # A line may have 106 columns here, as those of the first ranges had.
@@ -302,7 +263,7 @@ def schema_end(it):
 
     fn declaration(alloc: Global) -> SchemaResult<Declaration> {{
         let {it.field} = T::declaration(alloc)?;
-        Ok(format!(in alloc; "{it.name}<{{{it.field}}}>")?)
+        Ok(format!(in alloc; "{it.range}<{{{it.field}}}>")?)
     }}
 
     fn add_definitions_recursively(alloc: Global, map: &mut DefinitionMap) -> SchemaResult<()> {{
@@ -326,9 +287,9 @@ def part(first, behind, template, holders):
 
 FILES = {}
 PARTS = {
-    "borsh_types/src/ranges.rt": [part(f"{ENDS[0].head('BorshType')} {{", None, types_end, ENDS)],
-    "borsh_ser/src/ranges.rt": [part(f"{ENDS[0].head('BorshSerialize')} {{", None, ser_end, ENDS)],
-    "borsh_de/src/ranges.rt": [part("impl<T: BorshDeserialize> FromParts for RangeFrom<T> {", None, de_end, ENDS)],
+    "borsh_types/src/ranges.rt": [part(f"{ENDS[0].head('BorshType')} {{", None, types_wrapped, ENDS)],
+    "borsh_ser/src/ranges.rt": [part(f"{ENDS[0].head('BorshSerialize')} {{", None, ser_wrapped, ENDS)],
+    "borsh_de/src/ranges.rt": [part("impl<T: BorshDeserialize> FromParts for RangeFrom<T> {", None, de_wrapped, ENDS)],
     "borsh_schema/src/ranges.rt": [part(f"{ENDS[0].head('BorshSchema')} {{", None, schema_end, ENDS)],
     "borsh_types/src/texts.rt": [part("impl BorshType for String {", None, types_text, TEXTS)],
     "borsh_types/src/lists.rt": [
@@ -346,7 +307,7 @@ PARTS = {
     "borsh_types/src/keys.rt": [
         Part("impl BorshKey for String {", "impl<T: BorshKey> BorshKey for &T {", KEY_TEXTS),
         Part("impl<T: BorshKey> BorshKey for Box<T> {", "impl<T: BorshKey> BorshKey for Cow<'_, T> {", KEY_POINTERS),
-        part("impl<T: BorshKey> BorshKey for RangeFrom<T> {", "impl<A: BorshKey> BorshKey for (A,) {", key_end, ENDS),
+        part("impl<T: BorshKey> BorshKey for RangeFrom<T> {", "impl<A: BorshKey> BorshKey for (A,) {", key_wrapped, ENDS),
         Part("impl<T: BorshKey> BorshKey for BoxedSlice<T> {", "impl<K: BorshKey + Ord, V: BorshKey> BorshKey for BTreeMap<K, V> {", KEY_SLICES),
     ],
     "borsh_ser/src/texts.rt": [part("impl BorshSerialize for String {", None, ser_text, TEXTS)],

@@ -22,6 +22,7 @@ pub mod sums;
 pub mod texts;
 pub mod tuples;
 pub mod units;
+pub mod wrapped;
 
 pub use deserialize::{BorshDeserialize, EnumExt};
 pub use parts::{FromParts, TryFromParts, read_checked, read_parts};

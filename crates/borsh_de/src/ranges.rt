@@ -38,8 +38,8 @@ impl<T: BorshDeserialize> FromParts for RangeFrom<T> {
     ghost view = { λ r. r.start };
 
     #[inline]
-    fn from_parts(start: T) -> RangeFrom<T> {
-        start..
+    fn from_parts(parts: T) -> RangeFrom<T> {
+        parts..
     }
 }
 
@@ -56,8 +56,8 @@ impl<T: BorshDeserialize> FromParts for RangeTo<T> {
     ghost view = { λ r. r.end };
 
     #[inline]
-    fn from_parts(end: T) -> RangeTo<T> {
-        ..end
+    fn from_parts(parts: T) -> RangeTo<T> {
+        ..parts
     }
 }
 
@@ -74,8 +74,8 @@ impl<T: BorshDeserialize> FromParts for RangeToInclusive<T> {
     ghost view = { λ r. r.end };
 
     #[inline]
-    fn from_parts(end: T) -> RangeToInclusive<T> {
-        ..=end
+    fn from_parts(parts: T) -> RangeToInclusive<T> {
+        ..=parts
     }
 }
 

@@ -24,6 +24,7 @@ pub mod texts;
 mod tuple_parts;
 pub mod tuples;
 pub mod units;
+mod wrapped;
 pub mod variants;
 
 pub use container::{BorshSchemaContainer, Definitions};

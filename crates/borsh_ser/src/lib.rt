@@ -24,6 +24,7 @@ pub mod sums;
 pub mod texts;
 pub mod tuples;
 pub mod units;
+pub mod wrapped;
 
 pub use lengths::{bytes_length, joined_length, tagged_length};
 pub use parts::{

@@ -115,7 +115,7 @@ fn kind_of(name: &str) -> Option<Kind>
         "String" | "str" => Some(Kind::Text),
         "Bytes" | "BytesMut" => Some(Kind::Octets),
         "PhantomData" => Some(Kind::Phantom),
-        "Box" | "Rc" | "Arc" | "Cow" => Some(Kind::Through),
+        "Box" | "Rc" | "Arc" | "Cow" | "Wrapping" => Some(Kind::Through),
         "Vec" | "VecDeque" | "LinkedList" | "BTreeSet" | "HashSet" | "IndexSet" => Some(Kind::List),
         "BTreeMap" | "HashMap" | "IndexMap" => Some(Kind::Map),
         "Option" => Some(Kind::Option),

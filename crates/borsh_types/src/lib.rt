@@ -17,6 +17,7 @@ pub mod texts;
 pub mod tuples;
 pub mod types;
 pub mod units;
+pub mod wrapped;
 
 pub use keys::BorshKey;
 pub use types::{BorshType, refuse_empty};

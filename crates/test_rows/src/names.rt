@@ -18,7 +18,7 @@ use std::marker::PhantomData;
 use std::net::{IpAddr, Ipv4Addr, Ipv6Addr, SocketAddr, SocketAddrV4, SocketAddrV6};
 use std::num::{
     NonZeroI8, NonZeroI16, NonZeroI32, NonZeroI64, NonZeroI128, NonZeroU8, NonZeroU16, NonZeroU32,
-    NonZeroU64, NonZeroU128, NonZeroUsize,
+    NonZeroU64, NonZeroU128, NonZeroUsize, Wrapping,
 };
 use std::ops::{Range, RangeFrom, RangeFull, RangeInclusive, RangeTo, RangeToInclusive};
 use std::rc::{Rc, RcSlice, RcStr};
@@ -112,7 +112,8 @@ fn lists(alloc: Global, name: &str, call: &Call<'_>) -> Result<Report, Fault> {
 
 fn pointers(alloc: Global, name: &str, call: &Call<'_>) -> Result<Report, Fault> {
     at_one_of!(call_with_schema, alloc, name, call, units;
-        (Box<u8>, Box<u16>, Box<String>, Rc<String>, Rc<Option<u8>>);
+        (Box<u8>, Box<u16>, Box<String>, Rc<String>, Rc<Option<u8>>),
+        (Wrapping<u8>, Vec<Wrapping<u32>>, BTreeSet<Wrapping<i16>>);
         "Box<str>" = BoxedStr, "Rc<str>" = RcStr, "Arc<str>" = ArcStr, "Cow<str>" = CowStr,
         "Box<[u8]>" = BoxedSlice<u8>, "Rc<[u8]>" = RcSlice<u8>, "Cow<[u8]>" = CowSlice<u8>,
         "(Rc<u8>, Rc<[i32]>)" = (Rc<u8>, RcSlice<i32>),
