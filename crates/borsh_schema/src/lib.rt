@@ -24,8 +24,8 @@ pub mod texts;
 mod tuple_parts;
 pub mod tuples;
 pub mod units;
-mod wrapped;
 pub mod variants;
+mod wrapped;
 
 pub use container::{BorshSchemaContainer, Definitions};
 pub use definitions::{DefinitionMap, SchemaBuildError, SchemaResult, add_definition};
