@@ -175,6 +175,19 @@ After BORSH_NO the text is `overflow`, `recursive`, or `missing` and a name.""",
         no="`overflow`, `recursive`, or `missing` and a name",
     ),
     Call(
+        "names",
+        gives="json",
+        has_place=False,
+        long_of="schema",
+        says="""How the values of each name that the root leads to are written as JSON: a JSON object in UTF-8, with a member for each,
+that of the root first. It is a word: `empty` (no bytes, `null`), `bool`, `number`, `signed number`, `float`, `bytes` (another primitive),
+`text`, `byte list`, `list`, `map` (an object), `row` (an array of so many), `newtype` (what its part is), `object`, `option` (`null`, or
+its value), `enum`, or `refused`, of which JSON says no value. `sorted byte list` and `sorted list` are sets and maps whose keys have a
+known order. BORSH_NO isn't returned.""",
+        yes="a JSON object: how the values of each name are written",
+        no="it isn't returned",
+    ),
+    Call(
         "member",
         Bytes("value"),
         says="""Whether all of the bytes are a value of the root. After BORSH_NO the text says where they stop being one, and
@@ -274,6 +287,7 @@ SAMPLES = [
     ("valid", "schema", 0),
     ("valid", "value", 2),
     ("size", "schema &size", 0),
+    ("names", "schema", 0),
     ("member", "schema value", 0),
     ("member", "schema cut", 1),
     ("to_json", "schema value false false", 0),

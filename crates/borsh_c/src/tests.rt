@@ -3,7 +3,7 @@ use super::codes::{MALFORMED, NO, SHORT, UNDECIDED, YES};
 use super::place::{NOWHERE, Place};
 use super::{
     borsh_c_compare, borsh_c_compile, borsh_c_from_json, borsh_c_json_lines, borsh_c_member,
-    borsh_c_records, borsh_c_size, borsh_c_to_json, borsh_c_valid,
+    borsh_c_names, borsh_c_records, borsh_c_size, borsh_c_to_json, borsh_c_valid,
 };
 use std::alloc::Global;
 use std::process::Abort;
@@ -135,6 +135,23 @@ fn answers_of_size(alloc: Global) -> bool {
 #[test]
 fn answers_the_greatest_size(rt: HostRuntime) -> Result<(), Fail> {
     assert!(rt; answers_of_size(rt.alloc()));
+    Ok(())
+}
+
+fn answers_of_names(alloc: Global) -> bool {
+    let mut room = [0u8; 64];
+    let mut needed = 1;
+    borsh_c_names(alloc, SCHEMA, &mut room, &mut needed) == YES
+        && given(&room, needed)
+            == "{\"A\":\"object\",\"u64\":\"number\",\"String\":\"text\",\"u8\":\"number\"}"
+        && borsh_c_names(alloc, MISSING, &mut room, &mut needed) == YES
+        && given(&room, needed) == "{\"A\":\"refused\"}"
+        && borsh_c_names(alloc, b"", &mut room, &mut needed) == MALFORMED
+}
+
+#[test]
+fn answers_what_names_are(rt: HostRuntime) -> Result<(), Fail> {
+    assert!(rt; answers_of_names(rt.alloc()));
     Ok(())
 }
 
