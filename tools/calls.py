@@ -68,7 +68,8 @@ class Bytes:
         self.rust = f"{name}: &[u8]"
         self.rust_c = [f"{name}: *const u8", f"{name}_length: usize"]
         self.rust_given = [f"{name}.as_ptr()", f"{name}.len()"]
-        self.js, self.js_given = camel(name), camel(name)
+        self.js = self.js_given = camel(name)
+        self.js_tested = f"it.{self.js}"
         python = "data" if name == "bytes" else name
         self.python, self.python_given, self.python_type = f"{python}: bytes", f"{python}, len({python})", "_BYTES"
         self.short = [name, "length" if name == "schema" else f"{name}_length"]
@@ -82,7 +83,7 @@ class Flag:
         self.declared = f"bool {name}"
         self.rattle = self.rust = f"{name}: bool"
         self.rust_c, self.rust_given = [self.rust], [name]
-        self.js, self.js_given = camel(name), f"Number({camel(name)})"
+        self.js, self.js_given, self.js_tested = camel(name), f"Number({camel(name)})", "random(2) === 1"
         self.python, self.python_given, self.python_type = self.rust, name, "[ctypes.c_bool]"
         self.short = [name]
 
@@ -96,7 +97,8 @@ class Numbers:
         self.rattle = self.rust = f"{name}: &[usize]"
         self.rust_c = [f"{name}: *const usize", f"{name}_count: usize"]
         self.rust_given = [f"{name}.as_ptr()", f"{name}.len()"]
-        self.js, self.js_given = camel(name), camel(name)
+        self.js = self.js_given = camel(name)
+        self.js_tested = f"it.{self.js}"
         self.python, self.python_given = f"{name}: ctypes.Array[ctypes.c_size_t]", f"{name}, len({name})"
         self.python_type = "_NUMBERS"
         self.short = [name, f"{name}_count"]
@@ -111,7 +113,7 @@ class Room:
         self.rattle = self.rust = f"{name}: &mut [usize]"
         self.rust_c = [f"{name}: *mut usize", f"{name}_room: usize"]
         self.rust_given = [f"{name}.as_mut_ptr()", f"{name}.len()"]
-        self.js, self.js_given = camel(f"{name}_room"), f"new Room({camel(f'{name}_room')})"
+        self.js, self.js_given, self.js_tested = camel(f"{name}_room"), f"new Room({camel(f'{name}_room')})", "MOST_VALUES"
         self.python, self.python_given = f"{name}: ctypes.Array[ctypes.c_size_t]", f"{name}, len({name})"
         self.python_type = "_NUMBERS"
         self.short = [name, f"{name}_room"]
@@ -141,10 +143,10 @@ class Count(Number):
 class Call:
     """A call: its name; what it is given, after the schema if it has one; what it gives, which is `json`, `lines` or the like, or
     nothing; whether that is a text or bytes; whether a refusal has a place; of which argument the answer's length depends; what it
-    says to C; and what is so after BORSH_YES, and in its text after BORSH_NO."""
+    says to C; and what is so after BORSH_YES, and in its text after BORSH_NO, if it returns that."""
 
     def __init__(
-        self, name, *arguments, has_schema=True, gives=None, is_text=True, has_place=True, long_of=None, says, yes, no
+        self, name, *arguments, has_schema=True, gives=None, is_text=True, has_place=True, long_of=None, says, yes, no=None
     ):
         self.name = name
         self.arguments = [Bytes("schema"), *arguments] if has_schema else list(arguments)
@@ -173,6 +175,18 @@ CALLS = [
 After BORSH_NO the text is `overflow`, `recursive`, or `missing` and a name.""",
         yes="the greatest size of the root in bytes is in `size`",
         no="`overflow`, `recursive`, or `missing` and a name",
+    ),
+    Call(
+        "names",
+        gives="json",
+        has_place=False,
+        long_of="schema",
+        says="""How the values of each name that the root leads to are written as JSON: a JSON object in UTF-8, with a member for each,
+that of the root first. It is a word: `empty` (no bytes, `null`), `bool`, `number`, `signed number`, `float`, `bytes` (another primitive),
+`text`, `byte list`, `list`, `map` (an object), `row` (an array of so many), `newtype` (what its part is), `object`, `option` (`null`, or
+its value), `enum`, or `refused`, of which JSON says no value. `sorted byte list` and `sorted list` are sets and maps whose keys have a
+known order. BORSH_NO isn't returned.""",
+        yes="a JSON object: how the values of each name are written",
     ),
     Call(
         "member",
@@ -274,6 +288,7 @@ SAMPLES = [
     ("valid", "schema", 0),
     ("valid", "value", 2),
     ("size", "schema &size", 0),
+    ("names", "schema", 0),
     ("member", "schema value", 0),
     ("member", "schema cut", 1),
     ("to_json", "schema value false false", 0),
@@ -510,6 +525,14 @@ def js_codes():
     return "const KINDS = [" + ", ".join(f'"{code.kind}"' for code in CODES) + "];\n"
 
 
+def js_tests():
+    rows = []
+    for call in CALLS:
+        given = ", ".join(it.js_tested for it in call.arguments if it.js)
+        rows.append(f'  ["{camel(call.name)}", {"true" if call.no else "false"}, (it) => [{given}]],\n')
+    return "".join(rows)
+
+
 def python_types():
     rows = []
     for call in CALLS:
@@ -553,7 +576,7 @@ def readme_calls():
     rows = []
     for call in CALLS:
         given = ", ".join([*(name for it in call.arguments for name in it.short), f"&{call.out}"])
-        rows.append(f"| `borsh_{call.name}({given})` | {call.yes} | {call.no} |\n")
+        rows.append(f"| `borsh_{call.name}({given})` | {call.yes} | {call.no or 'not returned'} |\n")
     return head + "".join(rows)
 
 
@@ -568,6 +591,7 @@ PARTS = {
     "bindings/rust/src/sys.rs": {"declarations": rust_declarations(), "calls": "\n".join(map(rust_call, CALLS))},
     "bindings/js/tests/native.c": {"calls": c_native()},
     "bindings/js/calls.js": {"codes": js_codes(), "calls": js_calls()},
+    "bindings/js/tests/compare.test.js": {"calls": js_tests()},
     "bindings/python/src/borsh_proved/_library.py": {"arguments": python_types(), "calls": python_calls()},
     "crates/borsh_c/src/codes.rt": {"codes": rattle_codes()},
 }

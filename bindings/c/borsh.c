@@ -21,6 +21,7 @@ struct place {
 uint32_t borsh_c_valid(const uint8_t *schema, size_t schema_length, uint8_t *room, size_t room_length, size_t *needed);
 uint32_t borsh_c_size(const uint8_t *schema, size_t schema_length, size_t *size,
                       uint8_t *room, size_t room_length, size_t *needed);
+uint32_t borsh_c_names(const uint8_t *schema, size_t schema_length, uint8_t *room, size_t room_length, size_t *needed);
 uint32_t borsh_c_member(const uint8_t *schema, size_t schema_length, const uint8_t *value, size_t value_length,
                         struct place *place, uint8_t *room, size_t room_length, size_t *needed);
 uint32_t borsh_c_to_json(const uint8_t *schema, size_t schema_length, const uint8_t *value, size_t value_length,
@@ -167,6 +168,16 @@ static uint32_t call_size(ASKED) {
 uint32_t borsh_size(const uint8_t *schema, size_t schema_length, size_t *size, struct borsh_buffer *text) {
     struct question q = {.call = call_size, .bytes = {{schema, schema_length}}};
     return ask_number(&q, size, false, text);
+}
+
+static uint32_t call_names(ASKED) {
+    (void)place;
+    return borsh_c_names(q->bytes[0].start, q->bytes[0].length, room, room_length, needed);
+}
+
+uint32_t borsh_names(const uint8_t *schema, size_t schema_length, struct borsh_buffer *json) {
+    struct question q = {.call = call_names, .bytes = {{schema, schema_length}}, .long_of = 1};
+    return ask(&q, json);
 }
 
 static uint32_t call_member(ASKED) {

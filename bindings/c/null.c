@@ -34,6 +34,8 @@ static void check_null(void) {
     refuses("borsh_size, schema", borsh_size(NULL, 1, &number, &text), &text);
     refuses("borsh_size, size", borsh_size(byte, n, NULL, &text), &text);
     refuses("borsh_size, text", borsh_size(byte, n, &number, NULL), NULL);
+    refuses("borsh_names, schema", borsh_names(NULL, 1, &text), &text);
+    refuses("borsh_names, json", borsh_names(byte, n, NULL), NULL);
     refuses("borsh_member, schema", borsh_member(NULL, 1, byte, n, &text), &text);
     refuses("borsh_member, value", borsh_member(byte, n, NULL, 1, &text), &text);
     refuses("borsh_member, text", borsh_member(byte, n, byte, n, NULL), NULL);

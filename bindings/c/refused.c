@@ -77,6 +77,7 @@ static const struct {
     {"borsh_valid", 0, false},
     {"borsh_valid", 2, false},
     {"borsh_size", 0, false},
+    {"borsh_names", 0, false},
     {"borsh_member", 0, false},
     {"borsh_member", 1, false},
     {"borsh_to_json", 0, false},
@@ -104,30 +105,32 @@ static uint32_t ask(size_t call, struct borsh_buffer *out) {
     case 2:
         return borsh_size(schema, LENGTH(schema), &size, out);
     case 3:
-        return borsh_member(schema, LENGTH(schema), value, LENGTH(value), out);
+        return borsh_names(schema, LENGTH(schema), out);
     case 4:
-        return borsh_member(schema, LENGTH(schema), cut, LENGTH(cut), out);
+        return borsh_member(schema, LENGTH(schema), value, LENGTH(value), out);
     case 5:
-        return borsh_to_json(schema, LENGTH(schema), value, LENGTH(value), false, false, out);
+        return borsh_member(schema, LENGTH(schema), cut, LENGTH(cut), out);
     case 6:
-        return borsh_from_json(schema, LENGTH(schema), json, LENGTH(json), out);
+        return borsh_to_json(schema, LENGTH(schema), value, LENGTH(value), false, false, out);
     case 7:
-        return borsh_records(schema, LENGTH(schema), values, LENGTH(values), found, COUNT(found), &size, out);
+        return borsh_from_json(schema, LENGTH(schema), json, LENGTH(json), out);
     case 8:
-        return borsh_records(schema, LENGTH(schema), cut, LENGTH(cut), found, COUNT(found), &size, out);
+        return borsh_records(schema, LENGTH(schema), values, LENGTH(values), found, COUNT(found), &size, out);
     case 9:
-        return borsh_json_lines(schema, LENGTH(schema), values, LENGTH(values), lengths, COUNT(lengths), false, &size, out);
+        return borsh_records(schema, LENGTH(schema), cut, LENGTH(cut), found, COUNT(found), &size, out);
     case 10:
-        return borsh_compile(source, LENGTH(source), type, LENGTH(type), out);
+        return borsh_json_lines(schema, LENGTH(schema), values, LENGTH(values), lengths, COUNT(lengths), false, &size, out);
     case 11:
-        return borsh_compile(source, LENGTH(source), unknown, LENGTH(unknown), out);
+        return borsh_compile(source, LENGTH(source), type, LENGTH(type), out);
     case 12:
-        return borsh_compile(source, LENGTH(source), cut, LENGTH(cut), out);
+        return borsh_compile(source, LENGTH(source), unknown, LENGTH(unknown), out);
     case 13:
-        return borsh_compare(schema, LENGTH(schema), schema, LENGTH(schema), out);
+        return borsh_compile(source, LENGTH(source), cut, LENGTH(cut), out);
     case 14:
-        return borsh_compare(schema, LENGTH(schema), other, LENGTH(other), out);
+        return borsh_compare(schema, LENGTH(schema), schema, LENGTH(schema), out);
     case 15:
+        return borsh_compare(schema, LENGTH(schema), other, LENGTH(other), out);
+    case 16:
         return borsh_compare(schema, LENGTH(schema), value, LENGTH(value), out);
     /* tools/calls.py: end */
     }

@@ -68,6 +68,10 @@ export class Calls {
     return this.#call("borsh_c_size", [schema, RESULT], 256);
   }
 
+  names(schema) {
+    return this.#call("borsh_c_names", [schema], roomFor(schema));
+  }
+
   member(schema, value) {
     return this.#call("borsh_c_member", [schema, value, PLACE], 256);
   }

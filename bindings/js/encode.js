@@ -48,7 +48,7 @@ class Writer {
 
   #number({ kind, size }, value, level) {
     if (kind === "float") return jsonOfFloat(size, value);
-    if (kind !== "whole") return "0";
+    if (kind !== "number") return "0";
     if (typeof value === "bigint") value = value > TOO_LARGE || value < -TOO_LARGE ? TOO_LARGE : value;
     else if (!Number.isInteger(value)) return NOT_WHOLE;
     else if (!Number.isSafeInteger(value)) throw this.#refusal(level, `${value} isn't exact as a number: give a bigint`);
@@ -64,7 +64,7 @@ class Writer {
     if (isBytes(value)) {
       const bytes = viewOfBytes(value);
       if (bytes === undefined) throw this.#refusal(level, "the bytes are gone: their buffer is detached, or shorter");
-      return form.kind === "text" || form.kind === "choice" ? "[]" : `"0x${hexOf(bytes)}"`;
+      return form.kind === "text" || form.kind === "enum" ? "[]" : `"0x${hexOf(bytes)}"`;
     }
     const kind = this.#read(level, () => (Array.isArray(value) ? "Array" : Object.prototype.toString.call(value).slice(8, -1)));
     switch (kind) {
@@ -89,10 +89,10 @@ class Writer {
   }
 
   #array({ kind, element, parts }, value, level) {
-    if (kind !== "list" && kind !== "tuple") return "[]";
+    if (kind !== "list" && kind !== "row") return "[]";
     const length = this.#read(level, () => value.length);
     if (!Number.isSafeInteger(length) || length < 0) throw this.#refusal(level, "it has no length");
-    if (kind === "tuple" && length !== parts.length) return "[]";
+    if (kind === "row" && length !== parts.length) return "[]";
     this.#enter(level);
     let json = "[";
     for (let index = 0; index < length; index++) {

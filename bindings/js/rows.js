@@ -1,6 +1,6 @@
 // What each byte of a value is. The bytes are gone through here, and not by the proved code, which has said before that they are a
 // value, or where they stop being one.
-import { isText, nameText, numberOf } from "./definitions.js";
+import { nameText } from "./definitions.js";
 
 /** How many values a part may be in, as for the proved code's JSON. */
 const MOST_DEPTH = 128;
@@ -167,7 +167,7 @@ export class Walk {
       case "tag":
         return this.#variant.name;
       default:
-        return textOfPrimitive(this.#type, bytes);
+        return textOfPrimitive(this.#definitions, this.#type, bytes);
     }
   }
 
@@ -179,7 +179,7 @@ export class Walk {
         continue;
       }
       this.#inside = at;
-      if (this.#definitions.isZeroSize(at.type)) {
+      if (this.#definitions.kind(at.type) === "empty") {
         // So are all elements of a list.
         if (at.definition.kind === "sequence") this.#inside = at.outer;
       } else if (this.#enter(at)) {
@@ -223,11 +223,11 @@ export class Walk {
     this.#lengthWidth = lengthWidth;
     const element = this.#definitions.get(elements);
     if (element?.kind === "primitive" && element.size > 0) {
-      const kind = isText(this.#definitions, type) ? "text" : "elements";
+      const kind = this.#definitions.kind(type) === "text" ? "text" : "elements";
       return this.#row(at, type, lengthWidth + this.#inBytes(count, at) * element.size, kind);
     }
     const isRow = this.#row(at, type, lengthWidth, "elements");
-    if (!this.#definitions.isZeroSize(elements)) this.#inside = new Inside(definition, -1, this.#inBytes(count, at), undefined, at);
+    if (this.#definitions.kind(elements) !== "empty") this.#inside = new Inside(definition, -1, this.#inBytes(count, at), undefined, at);
     return isRow;
   }
 
@@ -259,12 +259,12 @@ export class Walk {
   }
 }
 
-function textOfPrimitive(type, bytes) {
-  if (type === "bool" && bytes.length === 1) return ["false", "true"][bytes[0]] ?? "neither true nor false";
-  const number = numberOf(type, bytes.length);
-  if (number === undefined) return "";
+function textOfPrimitive(definitions, type, bytes) {
+  const kind = definitions.kind(type);
+  if (kind === "bool") return ["false", "true"][bytes[0]] ?? "neither true nor false";
+  if (kind !== "number") return "";
   const value = unsigned(bytes);
-  return String(number.isSigned ? BigInt.asIntN(8 * bytes.length, value) : value);
+  return String(definitions.isSigned(type) ? BigInt.asIntN(8 * bytes.length, value) : value);
 }
 
 /** A text, or how it begins. */

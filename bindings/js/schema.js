@@ -202,12 +202,15 @@ export class Schema {
   }
 
   #defined() {
-    if (this.#definitions === undefined) {
-      const answer = calls.toJson(Schema.ofSchemas().#bytes, this.#bytes, true, true);
-      this.#definitions = new Definitions(JSON.parse(decoded(answerOf(answer))));
-    }
+    this.#definitions ??= definitionsOf(this.#bytes);
     return this.#definitions;
   }
+}
+
+/** What the encoding of a schema defines. */
+export function definitionsOf(bytes) {
+  const said = (answer) => JSON.parse(decoded(answerOf(answer)));
+  return new Definitions(said(calls.toJson(Schema.ofSchemas().bytes, bytes, true, true)), said(calls.names(bytes)));
 }
 
 /** Whether data of the old schema is still read by the new one. */

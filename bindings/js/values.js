@@ -7,21 +7,21 @@ export function valueOfJson(definitions, name, json, takesLongNumbers) {
   const form = definitions.form(name);
   const valueOf = (type, part) => valueOfJson(definitions, type, part, takesLongNumbers);
   switch (form.kind) {
-    case "whole":
+    case "number":
       return takesLongNumbers && typeof json === "string" ? BigInt(json) : json;
     case "float":
       return Number(json === "inf" ? Infinity : json === "-inf" ? -Infinity : json);
-    case "other":
-      return typeof json === "string" ? bytesOfHex(json) : json;
+    case "bytes":
+      return bytesOfHex(json);
     case "list":
       return typeof json === "string" ? bytesOfHex(json) : replaceAll(json, () => form.element, valueOf);
     case "map":
       return replaceAll(json, () => form.value, valueOf);
-    case "tuple":
+    case "row":
       return replaceAll(json, (index) => form.parts[index], valueOf);
-    case "record":
+    case "object":
       return replaceAll(json, (field) => form.types.get(field), valueOf);
-    case "choice":
+    case "enum":
       return typeof json === "string" ? json : replaceAll(json, (variant) => form.types.get(variant), valueOf);
     default:
       return json;

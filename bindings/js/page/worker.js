@@ -98,7 +98,7 @@ const CHANGES = {
   async open(_, goOn) {
     const { schema, bytes } = held;
     if (schema === undefined || bytes === undefined) return {};
-    const parts = new Parts(definitionsOf(schema), bytes);
+    const parts = new Parts(definitionsOf(schema.bytes), bytes);
     held.parts = parts;
     let verdict;
     if (bytes.length <= SMALL) {
@@ -168,11 +168,6 @@ function schemaOfFile(bytes, isText, format, chosen) {
   }
   const text = new TextDecoder().decode(bytes);
   return { text, ...schemaOfText(text, format, chosen) };
-}
-
-/** The definitions, as the package has them of a schema. */
-function definitionsOf(schema) {
-  return new Definitions(JSON.parse(Schema.ofSchemas().toJson(schema.bytes, { longNumbers: "string" })));
 }
 
 /** The JSON of a value, which may be longer than a text can be. */

@@ -53,6 +53,10 @@ static uint32_t ask(const char *call, size_t *number, struct borsh_buffer *out) 
         struct bytes schema = bytes_in();
         return borsh_size(schema.start, schema.length, number, out);
     }
+    if (strcmp(call, "names") == 0) {
+        struct bytes schema = bytes_in();
+        return borsh_names(schema.start, schema.length, out);
+    }
     if (strcmp(call, "member") == 0) {
         struct bytes schema = bytes_in();
         struct bytes value = bytes_in();

@@ -1,5 +1,5 @@
-//! The definitions of a schema, and how the values of each name are written as JSON: the table is in docs/TOOL.md. What is mistaken
-//! here is refused by the library, or the type, and changes no value.
+//! The definitions of a schema, and how the values of each name are written as JSON, as the library says it. What is mistaken here is
+//! refused by the library, or the type, and changes no value.
 
 use std::collections::HashMap;
 
@@ -44,8 +44,8 @@ pub(crate) struct Definition {
     pub is_empty: bool,
     /// Whether it is a set, or a map that isn't an object, which a type may give in any order.
     pub is_hashed: bool,
-    /// Whether the order of values as keys is known.
-    pub is_ordered: bool,
+    /// Whether it is one whose keys have a known order.
+    pub is_sorted: bool,
 }
 
 /// The definitions of a schema.
@@ -56,12 +56,13 @@ pub(crate) struct Definitions {
     pub root: usize,
 }
 
-/// As many newtypes are gone through to see whether a value may be `null`, and to find what they are of.
+/// As many newtypes are gone through to find what they are of.
 const MOST_NEWTYPES: usize = 128;
 
 impl Definitions {
-    /// Those of a schema with this encoding; none if it isn't one.
-    pub fn new(encoding: &[u8]) -> Option<Definitions> {
+    /// Those of a schema with this encoding, of whose names the library says these words; none if it isn't one.
+    pub fn new(encoding: &[u8], words: &[u8]) -> Option<Definitions> {
+        let words: HashMap<String, String> = serde_json::from_slice(words).ok()?;
         let mut names = Names::default();
         let mut reader = Reader(encoding);
         let root = names.place(reader.text()?);
@@ -75,7 +76,12 @@ impl Definitions {
         for (at, shape) in shapes {
             found[at] = shape;
         }
-        Some(Composer::new(names.all, found).compose(root))
+        let composer = Composer {
+            names: names.all,
+            shapes: found,
+            words,
+        };
+        Some(composer.compose(root))
     }
 
     /// The name of the root.
@@ -146,10 +152,7 @@ enum Shape<'b> {
         element: usize,
     },
     Tuple(Vec<usize>),
-    Enum {
-        width: u8,
-        variants: Vec<(i64, &'b str, usize)>,
-    },
+    Enum(Vec<(&'b str, usize)>),
     Named(Vec<(&'b str, usize)>),
     Unnamed(Vec<usize>),
 }
@@ -197,13 +200,13 @@ impl<'b> Reader<'b> {
                 element: self.name(names)?,
             },
             2 => Shape::Tuple(self.list(|it| it.name(names))?),
-            3 => Shape::Enum {
-                width: self.byte()?,
-                variants: self.list(|it| {
-                    let tag = it.take().map(i64::from_le_bytes)?;
-                    Some((tag, it.text()?, it.name(names)?))
-                })?,
-            },
+            3 => {
+                self.byte()?;
+                Shape::Enum(self.list(|it| {
+                    it.take::<8>()?;
+                    Some((it.text()?, it.name(names)?))
+                })?)
+            }
             4 => match self.byte()? {
                 0 => Shape::Named(self.list(|it| Some((it.text()?, it.name(names)?)))?),
                 1 => Shape::Unnamed(self.list(|it| it.name(names))?),
@@ -219,128 +222,13 @@ impl<'b> Reader<'b> {
 struct Composer<'b> {
     names: Vec<&'b str>,
     shapes: Vec<Shape<'b>>,
-    are_empty: Vec<bool>,
-    are_ordered: Vec<bool>,
+    words: HashMap<String, String>,
 }
 
-const NUMBERS: [&str; 21] = [
-    "u8",
-    "u16",
-    "u32",
-    "u64",
-    "u128",
-    "i8",
-    "i16",
-    "i32",
-    "i64",
-    "i128",
-    "NonZeroU8",
-    "NonZeroU16",
-    "NonZeroU32",
-    "NonZeroU64",
-    "NonZeroUsize",
-    "NonZeroU128",
-    "NonZeroI8",
-    "NonZeroI16",
-    "NonZeroI32",
-    "NonZeroI64",
-    "NonZeroI128",
-];
-
-impl<'b> Composer<'b> {
-    fn new(names: Vec<&'b str>, shapes: Vec<Shape<'b>>) -> Self {
-        let count = names.len();
-        let mut composer = Composer {
-            names,
-            shapes,
-            are_empty: vec![false; count],
-            are_ordered: vec![false; count],
-        };
-        composer.are_empty = composer.least(|at| composer.emptied_by(at));
-        composer.are_ordered = composer.least(|at| composer.ordered_by(at));
-        composer
-    }
-
-    /// The places of which something holds that holds where it does of all these other places: of none that only leads back to itself.
-    fn least(&self, needs: impl Fn(usize) -> Option<Vec<usize>>) -> Vec<bool> {
-        let count = self.names.len();
-        let (mut holds, mut ready) = (vec![false; count], Vec::new());
-        let (mut users, mut open) = (vec![Vec::new(); count], vec![0; count]);
-        for (at, open) in open.iter_mut().enumerate() {
-            let Some(parts) = needs(at) else { continue };
-            *open = parts.len();
-            parts.iter().for_each(|&part| users[part].push(at));
-            if parts.is_empty() {
-                ready.push(at);
-            }
-        }
-        while let Some(at) = ready.pop() {
-            holds[at] = true;
-            for &user in &users[at] {
-                open[user] -= 1;
-                if open[user] == 0 {
-                    ready.push(user);
-                }
-            }
-        }
-        holds
-    }
-
-    /// The places whose values have to have no bytes that those of this one have none.
-    fn emptied_by(&self, at: usize) -> Option<Vec<usize>> {
-        match &self.shapes[at] {
-            Shape::Primitive(0)
-            | Shape::Sequence {
-                width: 0,
-                least: 0,
-                most: 0,
-                ..
-            } => Some(Vec::new()),
-            Shape::Sequence {
-                width: 0, element, ..
-            } => Some(vec![*element]),
-            Shape::Tuple(parts) | Shape::Unnamed(parts) => Some(parts.clone()),
-            Shape::Named(fields) => Some(fields.iter().map(|it| it.1).collect()),
-            Shape::Enum { width: 0, variants } => Some(variants.iter().map(|it| it.2).collect()),
-            _ => None,
-        }
-    }
-
-    /// The places whose order has to be known that the one of this place is.
-    fn ordered_by(&self, at: usize) -> Option<Vec<usize>> {
-        let name = self.names[at];
-        match &self.shapes[at] {
-            Shape::Primitive(_) => match self.form(at) {
-                Form::Bool | Form::Number { .. } => Some(Vec::new()),
-                _ => None,
-            },
-            Shape::Sequence { .. } if self.is_text(at) => Some(Vec::new()),
-            Shape::Sequence { element, .. } if self.is_list(at) => {
-                let part = self.names[*element];
-                let is_list = ["Vec", "VecDeque", "LinkedList", "BTreeSet"]
-                    .iter()
-                    .any(|it| name == format!("{it}<{part}>"));
-                let is_tree = name.starts_with("BTreeMap<") && self.entry(at).is_some();
-                (is_list || is_tree).then(|| vec![*element])
-            }
-            Shape::Sequence {
-                width: 0,
-                least,
-                element,
-                ..
-            } => {
-                let is_array = name == format!("[{}; {least}]", self.names[*element]);
-                is_array.then(|| vec![*element])
-            }
-            Shape::Tuple(parts) => {
-                let names: Vec<&str> = parts.iter().map(|&it| self.names[it]).collect();
-                let comma = if names.len() == 1 { "," } else { "" };
-                let is_tuple = name == format!("({}{comma})", names.join(", "));
-                is_tuple.then(|| parts.clone())
-            }
-            Shape::Enum { .. } => self.option_part(at).map(|it| vec![it]),
-            _ => None,
-        }
+impl Composer<'_> {
+    /// What the library says of the name at a place, if the root leads to it.
+    fn word(&self, at: usize) -> &str {
+        self.words.get(self.names[at]).map_or("", |it| it)
     }
 
     /// Whether the name at a place is a list of any length, behind a length of four bytes.
@@ -354,19 +242,6 @@ impl<'b> Composer<'b> {
                 ..
             }
         )
-    }
-
-    fn is_byte(&self, at: usize) -> bool {
-        self.names[at] == "u8" && matches!(self.shapes[at], Shape::Primitive(1))
-    }
-
-    fn is_text(&self, at: usize) -> bool {
-        match self.shapes[at] {
-            Shape::Sequence { element, .. } => {
-                self.names[at] == "String" && self.is_list(at) && self.is_byte(element)
-            }
-            _ => false,
-        }
     }
 
     /// The key and the value of the map at a place.
@@ -385,75 +260,33 @@ impl<'b> Composer<'b> {
         (self.is_list(at) && matches!(kind, "BTree" | "Hash")).then_some((key, value))
     }
 
-    /// The value of the `Option` at a place.
-    fn option_part(&self, at: usize) -> Option<usize> {
-        let Shape::Enum { width: 1, variants } = &self.shapes[at] else {
-            return None;
-        };
-        let [(0, "None", none), (1, "Some", some)] = variants[..] else {
-            return None;
-        };
-        let is_unit = self.names[none] == "()" && self.are_empty[none];
-        let is_named = self.names[at] == format!("Option<{}>", self.names[some]);
-        (is_unit && is_named).then_some(some)
-    }
-
-    fn may_be_null(&self, mut at: usize) -> bool {
-        for _ in 0..MOST_NEWTYPES {
-            if self.are_empty[at] || self.option_part(at).is_some() {
-                return true;
-            }
-            match self.shapes[at] {
-                Shape::Unnamed(ref parts) if parts.len() == 1 => at = parts[0],
-                _ => return false,
-            }
-        }
-        true
-    }
-
     fn form(&self, at: usize) -> Form {
         let named = |it: &(&str, usize)| (it.0.to_owned(), it.1);
-        match &self.shapes[at] {
-            Shape::Undefined => Form::Undefined,
-            Shape::Primitive(size) => self.form_of_primitive(at, *size),
-            Shape::Sequence { .. } if self.is_text(at) => Form::Text,
-            Shape::Sequence { element, .. } if self.is_byte(*element) => Form::Bytes(*element),
-            Shape::Sequence { element, .. } => match self.entry(at) {
+        match (&self.shapes[at], self.word(at)) {
+            (Shape::Undefined, _) => Form::Undefined,
+            (Shape::Primitive(_), "bool") => Form::Bool,
+            (Shape::Primitive(size), "float") => Form::Float(*size),
+            (Shape::Primitive(size), "number" | "signed number") => Form::Number {
+                is_quoted: *size > 8,
+            },
+            (Shape::Primitive(_), _) => Form::Digits,
+            (Shape::Sequence { .. }, "text") => Form::Text,
+            (Shape::Sequence { element, .. }, "byte list" | "sorted byte list") => {
+                Form::Bytes(*element)
+            }
+            (Shape::Sequence { element, .. }, word) => match self.entry(at) {
                 Some((key, value)) => Form::Map {
                     key,
                     value,
-                    is_object: self.is_text(key) || matches!(self.form(key), Form::Number { .. }),
+                    is_object: word == "map",
                 },
                 None => Form::List(*element),
             },
-            Shape::Tuple(parts) => Form::Tuple(parts.clone()),
-            Shape::Unnamed(parts) => match parts[..] {
-                [part] => Form::Newtype(part),
-                _ => Form::Tuple(parts.clone()),
-            },
-            Shape::Named(fields) => Form::Struct(fields.iter().map(named).collect()),
-            Shape::Enum { variants, .. } => match self.option_part(at) {
-                Some(part) if !self.may_be_null(part) => Form::Option(part),
-                _ => Form::Enum(variants.iter().map(|it| named(&(it.1, it.2))).collect()),
-            },
-        }
-    }
-
-    fn form_of_primitive(&self, at: usize, size: u8) -> Form {
-        let name = self.names[at];
-        match (name, size) {
-            ("bool", 1) => return Form::Bool,
-            ("f32", 4) | ("f64", 8) => return Form::Float(size),
-            _ => {}
-        }
-        let digits = name.trim_start_matches(|it: char| !it.is_ascii_digit());
-        let bits = digits.parse().unwrap_or(64);
-        if NUMBERS.contains(&name) && bits == u32::from(size) * 8 {
-            Form::Number {
-                is_quoted: bits == 128,
-            }
-        } else {
-            Form::Digits
+            (Shape::Unnamed(parts), _) if parts.len() == 1 => Form::Newtype(parts[0]),
+            (Shape::Tuple(parts) | Shape::Unnamed(parts), _) => Form::Tuple(parts.clone()),
+            (Shape::Named(fields), _) => Form::Struct(fields.iter().map(named).collect()),
+            (Shape::Enum(variants), "option") => Form::Option(variants[1].1),
+            (Shape::Enum(variants), _) => Form::Enum(variants.iter().map(named).collect()),
         }
     }
 
@@ -473,9 +306,9 @@ impl<'b> Composer<'b> {
         let definition = |at: usize| Definition {
             name: self.names[at].to_owned(),
             form: self.form(at),
-            is_empty: self.are_empty[at],
+            is_empty: self.word(at) == "empty",
             is_hashed: self.is_hashed(at),
-            is_ordered: self.are_ordered[at],
+            is_sorted: self.word(at).starts_with("sorted"),
         };
         Definitions {
             all: (0..self.names.len()).map(definition).collect(),

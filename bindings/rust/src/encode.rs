@@ -549,8 +549,9 @@ impl Parts<'_> {
         if let Some(mut hashed) = self.hashed.take() {
             let mut between: &[u8] = b",";
             match self.places {
-                Places::Entries { key, .. } => hashed = sort(self.part.definitions, key, hashed)?,
-                Places::Elements(at) => hashed = sort(self.part.definitions, at, hashed)?,
+                Places::Entries { key: at, .. } | Places::Elements(at) => {
+                    hashed = sort(self.part.definitions, at, self.definition.is_sorted, hashed)?;
+                }
                 // Digits of bytes are ordered as the bytes.
                 _ => {
                     hashed.sort_by(|left, right| left.key.cmp(&right.key));

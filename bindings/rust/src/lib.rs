@@ -285,7 +285,8 @@ impl Schema {
     #[cfg(feature = "serde")]
     fn definitions(&self) -> Result<definitions::Definitions, Error> {
         let error = || Error::new(2, "not a schema container".to_owned());
-        definitions::Definitions::new(&self.encoding).ok_or_else(error)
+        let words = outcome(sys::names(&self.encoding))?;
+        definitions::Definitions::new(&self.encoding, &words).ok_or_else(error)
     }
 
     /// The bytes of a value of any type that implements `serde::Serialize` (feature `serde`). Its parts go to those of the schema: fields

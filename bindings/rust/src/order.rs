@@ -19,10 +19,11 @@ enum Key {
     List(Vec<Key>),
 }
 
-/// Sorts entries by their keys, whose name is at a place. Where their order isn't known there is one at most.
+/// Sorts entries by their keys, whose name is at a place, if their order is known. Where it isn't there is one at most.
 pub(crate) fn sort(
     definitions: &Definitions,
     at: usize,
+    is_known: bool,
     entries: Vec<Entry>,
 ) -> Result<Vec<Entry>, Fault> {
     if entries.len() < 2 {
@@ -34,7 +35,7 @@ pub(crate) fn sort(
             "they come in any order, and the schema doesn't say how values of `{name}` are ordered: use an ordered set or map"
         ))
     };
-    if !definitions.get(at).is_ordered {
+    if !is_known {
         return Err(unknown());
     }
     let mut sorted = Vec::with_capacity(entries.len());

@@ -33,6 +33,7 @@ extern "C" {
         size: *mut usize,
         text: *mut Buffer,
     ) -> u32;
+    fn borsh_names(schema: *const u8, schema_length: usize, json: *mut Buffer) -> u32;
     fn borsh_member(
         schema: *const u8,
         schema_length: usize,
@@ -134,6 +135,10 @@ pub fn size(schema: &[u8]) -> (usize, Answer) {
     let mut number = 0;
     let answer = call(|out| unsafe { borsh_size(schema.as_ptr(), schema.len(), &mut number, out) });
     (number, answer)
+}
+
+pub fn names(schema: &[u8]) -> Answer {
+    call(|out| unsafe { borsh_names(schema.as_ptr(), schema.len(), out) })
 }
 
 pub fn member(schema: &[u8], value: &[u8]) -> Answer {

@@ -1,5 +1,5 @@
 -- What the calls answer about the container whose encoding the bytes are.
-use Rattle.std.specs.Prelude.{◌≡◌, ◌⊎◌, ◌^◌, ◌<◌, ◌≤◌, ◌++◌, ⊤, ℕ, List, [], length, Bool, true, false, Option, None, Some, String, string_bytes, codes, IsUtf8}
+use Rattle.std.specs.Prelude.{◌≡◌, ◌⊎◌, ◌^◌, ◌<◌, ◌≤◌, ◌++◌, ⊤, ℕ, List, [], length, Bool, true, false, Option, None, Some, String, Vec, string_bytes, codes, IsUtf8}
 use Rattle.std.specs.Global.{Global}
 use Rattle.std.specs.BTreeMap.{BTreeMap}
 use Rattle.borsh_json.specs.Errors.{IsTextReason}
@@ -7,6 +7,7 @@ use Rattle.borsh_json.specs.Forms.{forms_in}
 use Rattle.borsh_json.specs.InOrder.{TextRepresents}
 use Rattle.borsh_json.specs.Printed.{IsPrinted}
 use Rattle.borsh_json.specs.Represents.{TextSays}
+use Rattle.borsh_json.specs.Names.{TellsNames}
 use Rattle.borsh_json.specs.NoJson.{RefusesBytes}
 use Rattle.borsh_json.specs.NoValue.{ShowsNoValue}
 use Rattle.borsh_json.specs.declared.error.JsonError.{JsonError}
@@ -20,6 +21,8 @@ use Rattle.borsh_walks.specs.Container.{Shape, Rule, Breaks, Member, MaxSize, Pa
 use Rattle.borsh_walks.specs.Definitions.{definitions_in}
 use Rattle.borsh_walks.specs.Errors.{rule_name}
 use Rattle.borsh_walks.specs.declared.definition.Definition.{Definition}
+use Rattle.borsh_plan.specs.Names.{IsPlanned}
+use Rattle.borsh_plan.specs.declared.named.Named.{Named}
 use Rattle.borsh_values.specs.Membership.{IsUndecided}
 use Rattle.borsh_values.specs.Unambiguous.{IsUnambiguous}
 use Rattle.borsh_values.specs.Faults.{IsFault}
@@ -129,6 +132,10 @@ pub data IsUnsized (C : List ℕ → Option Shape) (root text : List ℕ) : Type
 abbrev pub HasNoSize : List ℕ → Saying
 HasNoSize text m root = ((n : ℕ) → MaxSize (definitions_in m) root n → n < 2 ^ 64 → ⊥) × IsUnsized (definitions_in m) root text
 
+-- the text says how the values of each name are written that the root leads to
+abbrev pub TellsKinds : List ℕ → Saying
+TellsKinds text m root = (ns : List Named) × (parts : List (Vec ℕ Global)) × IsPlanned m root ns parts × TellsNames (forms_in m) ns text
+
 -- the bytes are no member of the root, and there is a fault at the offset, which is told
 abbrev pub IsNoMember : List ℕ → Option ℕ → List ℕ → Saying
 IsNoMember value None text m root = ⊥
@@ -196,6 +203,10 @@ AnswersValid schema = Answers schema (Alone IsValid) IsInvalid Never
 -- code 0: the number is the greatest size; code 1: there is none below 2^64
 abbrev pub AnswersSize : List ℕ → ℕ → ℕ → List ℕ → Type 0
 AnswersSize schema most = Answers schema (Alone (λ C root. MaxSize C root most)) HasNoSize Never
+
+-- code 0: the text says how the values of names are written
+abbrev pub AnswersNames : List ℕ → ℕ → List ℕ → Type 0
+AnswersNames schema = Answers schema TellsKinds Never Never
 
 -- code 0: the bytes are a member of the root; code 1: they aren't, and the offset is a fault's; code 5: the container breaks a rule or is ambiguous
 abbrev pub AnswersMember : List ℕ → List ℕ → Option ℕ → ℕ → List ℕ → Type 0

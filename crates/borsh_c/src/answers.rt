@@ -1,6 +1,6 @@
 // What is asked of a container, and of bytes by it.
 ghost use Rattle.std.specs.Prelude.{[], ◌≡◌, IfErr, IfOk, None, OnOk, Some, string_bytes};
-ghost use Rattle.borsh_c.specs.Answers.{About, Alone, AreBytesOf, HasNoJson, HasNoSize, IsInvalid, IsJsonOf, IsNoMember, IsNoText, IsRefused, IsShort, IsUnclear, Never, Tells, unclear_text, wherever};
+ghost use Rattle.borsh_c.specs.Answers.{About, Alone, AreBytesOf, HasNoJson, HasNoSize, IsInvalid, IsJsonOf, IsNoMember, IsNoText, IsRefused, IsShort, IsUnclear, Never, Tells, TellsKinds, unclear_text, wherever};
 ghost use Rattle.borsh_c.specs.Texts.{TellsBroken, TellsNoSize, TellsNoValue, TellsUnread};
 ghost use Rattle.borsh_definitions.specs.Codecs.{root_and_map};
 ghost use Rattle.borsh_json.specs.declared.output.Characters.TheVariants.{Any};
@@ -14,8 +14,8 @@ use super::place::Span;
 use super::refusal::{Refusal, Said};
 use borsh_de::BorshDeserialize;
 use borsh_io::{Error, ErrorKind};
-use borsh_json::{JsonError, Style, from_json, to_json};
-use borsh_values::{Fault, Membership, Path, is_member};
+use borsh_json::{Json, JsonError, Style, from_json, to_json};
+use borsh_values::{Fault, Membership, Path, Plan, is_member};
 use borsh_walks::{
     Counted, Definition, Expansions, SchemaContainerValidateError, SchemaMaxSerializedSizeError,
     check_rules, root_size,
@@ -171,6 +171,16 @@ fn no_size(alloc: Global, error: &SchemaMaxSerializedSizeError) -> Result<String
         // The size of a container never has two definitions of one name: only that of a type has.
         None => Err(AllocError),
     }
+}
+
+/// How the values of each name are written that the root leads to.
+pub fn kinds_of(alloc: Global, schema: &[u8]) -> Result<String, Refusal>
+    ensures ok { IfOk result (λ text. About schema.now (TellsKinds (string_bytes text))) }
+    ensures err { IfErr result (λ e. IsRefused schema.now (wherever Never) Never e) }
+{
+    let (root, definitions) = container_from(alloc, schema)?;
+    let plan = Plan::new(alloc, root.as_str(), &definitions)?;
+    Ok(Json::new(alloc, &plan)?.names()?)
 }
 
 /// Whether all of the bytes are a value of the root.

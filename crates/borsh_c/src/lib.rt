@@ -19,7 +19,7 @@ mod tests;
 mod types;
 
 ghost use Rattle.std.specs.Prelude.{◌≡◌, ◌≢◌, ◌+◌, ◌≤◌};
-ghost use Rattle.borsh_c.specs.Answers.{AnswersBytes, AnswersJson, AnswersMember, AnswersSize, AnswersValid, Gives, layout_if};
+ghost use Rattle.borsh_c.specs.Answers.{AnswersBytes, AnswersJson, AnswersMember, AnswersNames, AnswersSize, AnswersValid, Gives, layout_if};
 ghost use Rattle.borsh_c.specs.Many.{AnswersLines, AnswersRecords};
 ghost use Rattle.borsh_c.specs.Pairs.{AnswersCompared};
 ghost use Rattle.borsh_c.specs.Places.{IsNowhere, offset_of};
@@ -27,7 +27,7 @@ ghost use Rattle.borsh_c.specs.Room.{IsKept};
 ghost use Rattle.borsh_c.specs.Types.{AnswersContainer};
 ghost use Rattle.borsh_json.specs.declared.output.Characters.TheVariants.{Any};
 
-use answers::{greatest_size, json_of, membership, rules, value_of};
+use answers::{greatest_size, json_of, kinds_of, membership, rules, value_of};
 use borsh_json::{Layout, LongNumbers, Style};
 use codes::{SHORT, YES};
 use many::{Whole, lines_of, whole_values};
@@ -85,6 +85,31 @@ pub extern "C" fn borsh_c_size(
         Ok(most) => {
             *size = most;
             give(b"", room, needed);
+            YES
+        }
+        Err(refusal) => refusal.tell(&mut { NOWHERE }, room, needed),
+    }
+}
+
+/// How the values of each name that the container's root leads to are written as JSON, as `borsh_json::Json::names` says it. Left
+/// open: code 3; as there.
+///
+/// ```c
+/// uint32_t code = borsh_c_names(schema, schema_length, room, room_length, &needed);
+/// ```
+#[unsafe(no_mangle)]
+pub extern "C" fn borsh_c_names(
+    alloc: Global,
+    schema: &[u8],
+    room: &mut [u8],
+    needed: &mut usize,
+) -> u32
+    ensures answer { Gives (AnswersNames schema.now result) room.new needed.new }
+    ensures kept { IsKept room.old room.new needed.new }
+{
+    match kinds_of(alloc, schema) {
+        Ok(text) => {
+            give(text.as_bytes(), room, needed);
             YES
         }
         Err(refusal) => refusal.tell(&mut { NOWHERE }, room, needed),

@@ -3,7 +3,7 @@ use super::codes::{MALFORMED, NO, SHORT, UNDECIDED, YES};
 use super::place::{NOWHERE, Place};
 use super::{
     borsh_c_compare, borsh_c_compile, borsh_c_from_json, borsh_c_json_lines, borsh_c_member,
-    borsh_c_records, borsh_c_size, borsh_c_to_json, borsh_c_valid,
+    borsh_c_names, borsh_c_records, borsh_c_size, borsh_c_to_json, borsh_c_valid,
 };
 use std::alloc::Global;
 use std::process::Abort;
@@ -44,9 +44,11 @@ fn given<'a>(room: &'a [u8], needed: usize) -> &'a str {
     str::from_utf8(given_bytes(room, needed)).unwrap_or("no text")
 }
 
-/// A call about a schema and a value, or two of such inputs.
+/// A call about a schema, and a value where it takes one, or two of such inputs.
 #[derive(Clone, Copy)]
 enum Call {
+    Valid,
+    Names,
     Member,
     ToJson(bool, bool),
     FromJson,
@@ -69,6 +71,8 @@ fn ask(alloc: Global, call: Call, schema: &[u8], value: &[u8]) -> Answer {
     let mut needed = 1;
     let (at, to, length) = (&mut place, &mut room, &mut needed);
     let code = match call {
+        Call::Valid => borsh_c_valid(alloc, schema, to, length),
+        Call::Names => borsh_c_names(alloc, schema, to, length),
         Call::Member => borsh_c_member(alloc, schema, value, at, to, length),
         Call::ToJson(compact, quoted) => {
             borsh_c_to_json(alloc, schema, value, compact, quoted, at, to, length)
@@ -103,14 +107,10 @@ impl Answer {
 }
 
 fn answers_of_rules(alloc: Global) -> bool {
-    let mut room = [0u8; 64];
-    let mut needed = 1;
-    borsh_c_valid(alloc, SCHEMA, &mut room, &mut needed) == YES
-        && needed == 0
-        && borsh_c_valid(alloc, MISSING, &mut room, &mut needed) == NO
-        && given(&room, needed) == "invalid MissingDefinition A"
-        && borsh_c_valid(alloc, b"", &mut room, &mut needed) == MALFORMED
-        && given(&room, needed) == "not a schema container: Unexpected length of input"
+    let cut = b"not a schema container: Unexpected length of input";
+    ask(alloc, Call::Valid, SCHEMA, b"").is(YES, b"")
+        && ask(alloc, Call::Valid, MISSING, b"").is(NO, b"invalid MissingDefinition A")
+        && ask(alloc, Call::Valid, b"", b"").is(MALFORMED, cut)
 }
 
 #[test]
@@ -135,6 +135,19 @@ fn answers_of_size(alloc: Global) -> bool {
 #[test]
 fn answers_the_greatest_size(rt: HostRuntime) -> Result<(), Fail> {
     assert!(rt; answers_of_size(rt.alloc()));
+    Ok(())
+}
+
+fn answers_of_names(alloc: Global) -> bool {
+    let kinds = b"{\"A\":\"object\",\"u64\":\"number\",\"String\":\"text\",\"u8\":\"number\"}";
+    ask(alloc, Call::Names, SCHEMA, b"").is(YES, kinds)
+        && ask(alloc, Call::Names, MISSING, b"").is(YES, b"{\"A\":\"refused\"}")
+        && ask(alloc, Call::Names, b"", b"").code == MALFORMED
+}
+
+#[test]
+fn answers_what_names_are(rt: HostRuntime) -> Result<(), Fail> {
+    assert!(rt; answers_of_names(rt.alloc()));
     Ok(())
 }
 

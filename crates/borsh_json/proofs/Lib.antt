@@ -61,3 +61,4 @@ pub mod PackedDescent
 pub mod UnitLaws
 pub mod WordLaws
 pub mod EscapeLaws
+pub mod TellingLaws

@@ -15,6 +15,7 @@ mod kinds;
 mod laws;
 mod leaves;
 mod maps;
+mod names;
 mod not_json;
 mod numbers;
 mod opening;

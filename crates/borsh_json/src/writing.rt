@@ -109,7 +109,7 @@ fn in_characters(alloc: Global, text: String, characters: Characters) -> Result<
 }
 
 /// The text of bytes, which are UTF-8.
-fn text_of(bytes: Vec<u8>) -> String
+pub fn text_of(bytes: Vec<u8>) -> String
     requires { IsUtf8 bytes.items }
     ensures { string_bytes result ≡ bytes.items }
 {

@@ -8,7 +8,6 @@ use super::values::Schema;
 use borsh_source::{Cause, CompileError, Compiled, Source, compile, nearest_name};
 use borsh_texts::{TextError, parse_items, parse_type};
 use std::alloc::{AllocError, Global};
-use std::fmt::Display;
 use std::str;
 
 /// A type by its Rust text, and the file whose items it may name.
@@ -77,7 +76,7 @@ fn source_in<'a>(alloc: Global, file: &'a str, items: &[u8]) -> Result<Source, F
 fn no_tree<'a>(alloc: Global, path: &'a str, error: &TextError<'_>) -> Failure<'a> {
     match error {
         TextError::OutOfMemory => Failure::OutOfMemory,
-        _ => no_type(path, said(alloc, error)),
+        _ => no_type(path, format!(in alloc; "{error}")),
     }
 }
 
@@ -113,7 +112,7 @@ fn said_of(
     {
         return format!(in alloc; "{error}; `{near}` is");
     }
-    said(alloc, error)
+    format!(in alloc; "{error}")
 }
 
 fn no_type<'a>(path: &'a str, why: Result<String, AllocError>) -> Failure<'a> {
@@ -121,8 +120,4 @@ fn no_type<'a>(path: &'a str, why: Result<String, AllocError>) -> Failure<'a> {
         Ok(why) => Failure::NotType(path, why),
         Err(_) => Failure::OutOfMemory,
     }
-}
-
-fn said<D: Display>(alloc: Global, error: &D) -> Result<String, AllocError> {
-    format!(in alloc; "{error}")
 }

@@ -20,6 +20,9 @@ _TOO_LARGE = 2**128
 _NOT_WHOLE = 0.5
 _NO_FLOAT: List[Any] = []
 
+# By their sizes, as `struct` has them.
+_FLOATS = {4: "<f", 8: "<d"}
+
 _IDENTIFIER = re.compile("[A-Za-z_][A-Za-z0-9_]*")
 _SURROGATE = re.compile("[\ud800-\udfff]")
 _BYTES = (bytes, bytearray, memoryview)
@@ -65,11 +68,11 @@ class Writer:
             digits = _library.bytes_of(value).hex()
         except ValueError:  # of a memoryview that was released
             self._refuse("the bytes are gone")
-        return [] if form.kind in ("text", "choice") else "0x" + digits
+        return [] if form.kind in ("text", "enum") else "0x" + digits
 
     def _list(self, form: Form, value: Any, level: int) -> List[Any]:
         is_list = form.kind == "list"
-        if not is_list and (form.kind != "tuple" or len(value) != len(form.parts)):
+        if not is_list and (form.kind != "row" or len(value) != len(form.parts)):
             return []
         self._enter(level)
         written = []
@@ -81,7 +84,7 @@ class Writer:
     def _mapping(self, form: Form, value: Mapping[Any, Any], level: int) -> Any:
         if form.is_of_pairs:
             return self._list(form, list(value.items()), level)
-        if form.kind not in ("map", "record", "choice"):
+        if form.kind not in ("map", "object", "enum"):
             return {}
         self._enter(level)
         entries = list(value.items())
@@ -94,7 +97,7 @@ class Writer:
                 self._steps.append((keys, key))
                 written[name] = self.part(form.element, item, level + 2)
             elif name in form.types:
-                self._steps.append(("." if form.kind == "record" else "::") + _name_text(name))
+                self._steps.append(("." if form.kind == "object" else "::") + _name_text(name))
                 written[name] = self.part(form.types[name], item, level + 2)
             else:
                 written[name] = None
@@ -129,11 +132,12 @@ def _name_text(name: str) -> str:
 def _number(form: Form, value: Any) -> Any:
     if form.kind == "float":
         try:
-            near = struct.unpack(form.layout, struct.pack(form.layout, value))[0]
+            layout = _FLOATS[form.size]
+            near = struct.unpack(layout, struct.pack(layout, value))[0]
         except (OverflowError, struct.error):
             return _NO_FLOAT
         return value if math.isfinite(near) else str(near)
-    if form.kind != "whole":
+    if form.kind != "number":
         return 0
     if isinstance(value, float):
         return _NOT_WHOLE

@@ -44,6 +44,7 @@ _OUT = [ctypes.POINTER(_Buffer)]
 _ARGUMENTS = {
     "valid": _BYTES + _OUT,
     "size": _BYTES + _NUMBER + _OUT,
+    "names": _BYTES + _OUT,
     "member": _BYTES + _BYTES + _OUT,
     "to_json": _BYTES + _BYTES + [ctypes.c_bool] + [ctypes.c_bool] + _OUT,
     "from_json": _BYTES + _BYTES + _OUT,
@@ -102,6 +103,10 @@ def size(schema: bytes) -> int:
     number = ctypes.c_size_t()
     _ask("size", schema, len(schema), ctypes.byref(number))
     return number.value
+
+
+def names(schema: bytes) -> str:
+    return _ask("names", schema, len(schema)).decode()
 
 
 def member(schema: bytes, value: bytes) -> None:

@@ -38,7 +38,7 @@ class Schema:
         self._encoding = _library.bytes_of(encoding)
         described = self._described()
         self._root: str = described["declaration"]
-        self._forms = Forms(self._encoding, self._root, described["definitions"])
+        self._forms = Forms(self._encoding, described["definitions"])
         self._values = Values(self._forms)
 
     def _described(self) -> Dict[str, Any]:

@@ -27,7 +27,7 @@ class Values:
     def _reader(self, form: Form) -> Callable[[Any], Any]:
         """How JSON that isn't null is read."""
         read, element, parts, types = self.of, form.element, form.parts, form.types
-        if form.kind == "whole":
+        if form.kind == "number":
             return int
         if form.kind == "float":
             return float
@@ -37,14 +37,14 @@ class Values:
             return lambda json: {int(key): read(element, part) for key, part in json.items()}
         if form.kind == "map":
             return lambda json: {key: read(element, part) for key, part in json.items()}
-        if form.kind == "tuple":
+        if form.kind == "row":
             return lambda json: tuple(map(read, parts, json))
-        if form.kind == "record":
+        if form.kind == "object":
             return lambda json: {name: read(types[name], part) for name, part in json.items()}
-        if form.kind == "choice":
+        if form.kind == "enum":
             return lambda json: json if isinstance(json, str) else {name: read(types[name], part) for name, part in json.items()}
-        if form.kind == "other":
-            return lambda json: _bytes(json) if isinstance(json, str) else json
+        if form.kind == "bytes":
+            return _bytes
         return lambda json: json
 
 

@@ -1,0 +1,56 @@
+-- What is told of the names of a plan: each with a word for how its values are written.
+use Rattle.std.specs.Prelude.{◌≡◌, ◌⊎◌, ℕ, List, [], ◌∷◌, ◌++◌, map, All, if◌then◌else◌, codes, Option, Some}
+use Rattle.json.specs.Json.{Members, no_members, member, string, object, document}
+use Rattle.borsh_plan.specs.declared.named.Named.{Named}
+use Rattle.borsh_json.specs.declared.definitions.Known.{Known}
+use Rattle.borsh_json.specs.declared.kinds.Kind.{Kind as Found}
+use Rattle.borsh_json.specs.Descents.{HasKeys}
+use Rattle.borsh_json.specs.Forms.{Form}
+use Rattle.borsh_json.specs.Ordered.{IsOrdered}
+use Rattle.borsh_json.specs.Orders.{KindHasOrder, KindTellsOrder, KnowsNoOrder}
+use Rattle.borsh_json.specs.Places.{IsKindOf, IsUnsayable}
+use Rattle.borsh_json.specs.Table.{Kind, no_bytes, truth, whole, float, raw, utf8, byte_list, list, row, inner, fields, optional, variants, entries, HasKind}
+
+module _ (F : List ℕ → Option Form) where
+  -- the word of a list, and whether it is a set or map whose keys have a known order, so that its elements ascend
+  abbrev pub IsListWord : List ℕ → List ℕ → List ℕ → Type 0
+  IsListWord x list_word word =
+      ((e : List ℕ) × (k : List ℕ) × HasKeys F x e k × IsOrdered F k × (word ≡ codes "sorted " ++ list_word)) ⊎ (KnowsNoOrder F x × (word ≡ list_word))
+
+  -- the word of a kind of x; the keys of a map ascend
+  abbrev pub IsKindWord : List ℕ → Kind → List ℕ → Type 0
+  IsKindWord x no_bytes word = word ≡ codes "empty"
+  IsKindWord x truth word = word ≡ codes "bool"
+  IsKindWord x (whole n signed non_zero) word = word ≡ (if signed then codes "signed number" else codes "number")
+  IsKindWord x (float f) word = word ≡ codes "float"
+  IsKindWord x (raw n) word = word ≡ codes "bytes"
+  IsKindWord x (utf8 l) word = word ≡ codes "text"
+  IsKindWord x (byte_list l e) word = IsListWord x (codes "byte list") word
+  IsKindWord x (list l e) word = IsListWord x (codes "list") word
+  IsKindWord x (row xs) word = word ≡ codes "row"
+  IsKindWord x (inner y) word = word ≡ codes "newtype"
+  IsKindWord x (fields fs) word = word ≡ codes "object"
+  IsKindWord x (optional y) word = word ≡ codes "option"
+  IsKindWord x (variants w vs) word = word ≡ codes "enum"
+  IsKindWord x (entries l keys k v) word = word ≡ codes "map"
+
+  module _ (ns : List Named) where
+    -- the word of a name: that of its kind, or `refused` where no JSON says a value of it
+    abbrev pub IsWord : List ℕ → List ℕ → Type 0
+    IsWord x word = ((kind : Kind) × HasKind F x kind × IsKindWord x kind word) ⊎ (IsUnsayable F ns x × (word ≡ codes "refused"))
+
+-- a word of each name of which the code finds this kind
+abbrev pub IsFoundWord : Found → List ℕ → Type 0
+IsFoundWord kind word =
+    (F : List ℕ → Option Form) (ns : List Named) (orders : List Known) (x : List ℕ) (f : Form)
+    → IsKindOf F ns x f kind → KindHasOrder F ns orders x kind → KindTellsOrder F x kind → IsWord F ns x word
+
+-- a member for each name, which is its word
+abbrev pub words_of : List (List ℕ × List ℕ) → Members
+words_of [] = no_members
+words_of (p ∷ ps) = member p.0 (string p.1) (words_of ps)
+
+-- the text is a JSON object with a member for each of the names, in their order, which is its word
+abbrev pub TellsNames : (List ℕ → Option Form) → List Named → List ℕ → Type 0
+TellsNames F ns text =
+    (ps : List (List ℕ × List ℕ)) × (document text ≡ Some (object (words_of ps))) × (map (λ p. p.0) ps ≡ map (λ n. n.name.now) ns) × All (λ p. IsWord F ns p.0 p.1) ps

@@ -1,0 +1,81 @@
+// What is told of the names of a plan.
+ghost use Rattle.borsh_json.specs.Names.{IsFoundWord, IsWord, TellsNames};
+ghost use Rattle.borsh_json.specs.Words.{IsAt, forms_of, names_of};
+ghost use Rattle.std.specs.Prelude.{ℕ, List, IfOk, string_bytes};
+
+use crate::kinds::Kind;
+use crate::output::{Layout, Output};
+use crate::table::Table;
+use crate::writing::text_of;
+use json::Token;
+use std::alloc::AllocError;
+
+impl Table<'_, '_> {
+    /// A JSON object that has each name the root leads to, the root first, and how its values are written as JSON: `empty` where they
+    /// have no bytes, `bool`, `number`, `signed number`, `float`, `bytes` (other primitives), `text`, `byte list`, `list`, `map` (those that
+    /// are objects), `row` (an array of so many), `newtype`, `object`, `option` (those that may be `null`), `enum`; or `refused`. A list
+    /// that is a set or map whose keys have a known order is `sorted`. Left open: memory; names whose fields or variants repeat a name.
+    ///
+    /// ```
+    /// assert_eq!(rt; json.names()?, "{\"Vec<u8>\":\"byte list\",\"u8\":\"number\"}");
+    /// ```
+    pub fn names(&self) -> Result<String, AllocError>
+        ensures { IfOk result (λ text. TellsNames (forms_of self.now) (names_of self.now) (string_bytes text)) }
+    {
+        let mut output = Output::new(self.alloc(), Layout::Compact);
+        output.put(Token::BeginObject)?;
+        for at in 0..self.plan().len() {
+            output.put(Token::Key(self.name(at)))?;
+            output.put(Token::String(self.word(at)))?;
+        }
+        output.put(Token::EndObject)?;
+        Ok(text_of(output.into_bytes()))
+    }
+
+    /// How the values of the name at a place are written.
+    fn word(&self, at: usize) -> &'static str
+        ensures { (x : List ℕ) → IsAt (names_of self.now) at x →
+            IsWord (forms_of self.now) (names_of self.now) x result.now }
+    {
+        if self.is_zero_size(at) {
+            return "empty";
+        }
+        match self.kind(at) {
+            Some((_, kind)) => word_of(kind),
+            None => "refused",
+        }
+    }
+}
+
+fn word_of(kind: Kind<'_>) -> &'static str
+    ensures { IsFoundWord kind.entry result.now }
+{
+    match kind {
+        Kind::Number(number) if number.is_signed => "signed number",
+        Kind::Number(_) => "number",
+        Kind::Bool => "bool",
+        Kind::Text => "text",
+        Kind::Bytes(_) => "bytes",
+        Kind::Float(_) => "float",
+        Kind::ByteList(elements) => match elements.order {
+            Some(_) => "sorted byte list",
+            None => "byte list",
+        },
+        Kind::Numbers(elements) => match elements.order {
+            Some(_) => "sorted list",
+            None => "list",
+        },
+        Kind::List(elements) => match elements.order {
+            _ if elements.is_refused => "refused",
+            Some(_) => "sorted list",
+            None => "list",
+        },
+        Kind::Map(_, _) => "map",
+        Kind::Row(_) => "row",
+        Kind::Newtype(_) => "newtype",
+        Kind::Object(_) => "object",
+        Kind::Optional(_) => "option",
+        Kind::Choice(_, _) => "enum",
+        Kind::Repeated(_) => "refused",
+    }
+}
