@@ -35,6 +35,8 @@ mod fault;
 #[cfg(feature = "serde")]
 mod order;
 mod records;
+// Only types by serde ask what names are.
+#[cfg_attr(not(feature = "serde"), allow(dead_code))]
 mod sys;
 
 pub use comparison::{compare, Answer, Comparison};
