@@ -57,6 +57,7 @@ pub mod KeyRanks
 pub mod SaidRanks
 pub mod InOrderLaws
 pub mod AscentLaws
+pub mod Lockstep
 pub mod PackedDescent
 pub mod UnitLaws
 pub mod WordLaws
