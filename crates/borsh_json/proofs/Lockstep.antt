@@ -321,22 +321,22 @@ module _ (F : List ℕ → Option Form) where
         let u = only.2 (own ++ o.more) o.names (o.rest ++ left) cs o.opens (is ∙ e) in
         o.locked others left ds xs (q ∙ ap (λ l. l ++ xs) (sym u.2)) m (subst (λ l. AreChecked F (ds ++ others) l) (sym u.1) a)
 
-    follow : {all : List ℕ} {ds : List Due} → AreChecked F (one x ∷ (ds ++ others)) all → own ++ (bs ++ left) ≡ all → Match ps (due_names ds) → Locked others left (qs ++ ps) bs
-    follow {all} {ds} (empty z a) e m =
+    follow : (ds : List Due) {all : List ℕ} → AreChecked F (one x ∷ (ds ++ others)) all → own ++ (bs ++ left) ≡ all → Match ps (due_names ds) → Locked others left (qs ++ ps) bs
+    follow ds {all} (empty z a) e m =
         let k : HasKind F x no_bytes = inl (z, refl) in
         let s = subst (λ (k : Kind). Says F k j own qs) (kind_one F says.1 k) says.2 in
         let b : bs ++ left ≡ all = ap (λ o. o ++ (bs ++ left)) (sym s.1) ∙ e in
         subst (λ (l : List Part). Locked others left (l ++ ps) bs) (sym s.2) (due ds m (subst (λ l. AreChecked F (ds ++ others) l) (sym b) a))
-    follow {all} {ds} (plain {bs = cs} front parts full needs only a) e m = opened full only e (map one parts ++ ds) (due_names ds) (due_parts parts ds) m (subst (λ (l : List Due). AreChecked F l cs) (sym (append_assoc (map one parts) ds others)) a)
-    follow {all} {ds} (collection {e = y} {k = k} front n keys p only a) e m = opened (full_list F keys.0) only e (ascending y k n None ∷ ds) (due_names ds) refl m a
-    follow {all} {ds} (packed front n signed set order rise only a) e m = opened (full_list F set.0) only e ds (due_names ds) refl m a
+    follow ds {all} (plain {bs = cs} front parts full needs only a) e m = opened full only e (map one parts ++ ds) (due_names ds) (due_parts parts ds) m (subst (λ (l : List Due). AreChecked F l cs) (sym (append_assoc (map one parts) ds others)) a)
+    follow ds {all} (collection {e = y} {k = k} front n keys p only a) e m = opened (full_list F keys.0) only e (ascending y k n None ∷ ds) (due_names ds) refl m a
+    follow ds {all} (packed front n signed set order rise only a) e m = opened (full_list F set.0) only e ds (due_names ds) refl m a
 
   module _ {others : List Due} {left : List ℕ} where
     -- behind the own bytes of the first part
     onward : {x all own bs : List ℕ} {j : Json} {qs ps : List Part} → Locked others left ((x, j) ∷ ps) all → SaysFirst F x j own qs → HaveBytes F (qs ++ ps) bs → AreBytes (own ++ bs) → all ≡ own ++ bs → Locked others left (qs ++ ps) bs
     onward {all = all} {own = own} {bs = bs} (due ds m a) s h small e =
         let r = reached m ds others (all ++ left) refl a in
-        follow others left s h small r.2 (sym (ap (λ l. l ++ left) e ∙ append_assoc own bs left)) r.1
+        follow others left s h small r.0 r.2 (sym (ap (λ l. l ++ left) e ∙ append_assoc own bs left)) r.1
     onward {own = own} {bs = bs} {ps = ps} (number {bs = cs} n front c l k) s h small e =
         let t = number_said n c s in
         let q = same_front front own cs bs e (l ∙ sym t.0) in
@@ -409,7 +409,26 @@ module _ (F : List ℕ → Option Form) where
   numbers_some (suc m) (inr h) = (m, refl, h.1.0)
 
   -- ---- nothing falls
-  module _ (left : List ℕ) {x : List ℕ} {j : Json} {own bs : List ℕ} {qs ps : List Part} (says : SaysFirst F x j own qs) (more : HaveBytes F (qs ++ ps) bs) (small : AreBytes (own ++ bs)) (index : ℕ) where
+  falls_list : {x : List ℕ} {j : Json} {index : ℕ} → Falls F x j index → (e : List ℕ) × IsList F x e
+  falls_list (inl d) = (d.1, d.7.0)
+  falls_list (inr f) = (f.e, f.keys.0)
+
+  -- a byte is in its list
+  bytes_packed : {x : List ℕ} (l : Lengths) (d e : List ℕ) → HasKind F x (byte_list l d) → IsList F x e → packed_size (C e) ≡ 0 → ⊥
+  bytes_packed l d e h c p =
+      let f = form_known F (byte_list l d) (sequence 4 0 4294967295 e) h c (λ z. cc) in
+      let same : d ≡ e = (let q = f.0 in cc) in
+      let q : 0 ≡ 1 = sym p ∙ ap (λ d. packed_size d) (shaped (F e) (subst (λ e. IsByte F e) same f.1).1) in
+      omega (arith, q)
+
+  -- an element that falls isn't above the one before it
+  fallen : {x : List ℕ} {j : Json} {index : ℕ} (f : ItemsFall F x j index) (k : List ℕ) → f.k ≡ k → AreAbove k (f.e, f.left) (f.e, f.right) → ⊥
+  fallen f k key r =
+      let c = subst (λ k. Compare F (a_value k ∷ []) (a_value k ∷ []) (f.first ++ f.second) f.second f.result) key f.compares in
+      let d = subst (λ ys. Compare F (a_value k ∷ []) (a_value k ∷ []) (r.0 ++ ys) ys f.result) (bytes_one F f.right_says r.4) (subst (λ xs. Compare F (a_value k ∷ []) (a_value k ∷ []) (xs ++ f.second) f.second f.result) (bytes_one F f.left_says r.3) c) in
+      f.falls (r.5 f.result (longer_compare k r.0 r.1 r.2 f.result d))
+
+  module _ (left : List ℕ) (ps : List Part) {x : List ℕ} {j : Json} {own bs : List ℕ} {qs : List Part} (says : SaysFirst F x j own qs) (more : HaveBytes F (qs ++ ps) bs) (small : AreBytes (own ++ bs)) (index : ℕ) where
     -- elements that come next
     items_rise : ItemsFall F x j index → {e k front cs : List ℕ} {n : ℕ} {ds : List Due} → HasKeys F x e k → packed_size (C e) ≡ 0 → IsOnly F x front (replicate n e) → AreChecked F (ascending e k n None ∷ ds) cs → own ++ (bs ++ left) ≡ front ++ cs → ⊥
     items_rise f {e} {k} {front} {cs} {n} {ds} keys p only a eq =
@@ -426,11 +445,9 @@ module _ (F : List ℕ → Option Form) where
         let there = subst (λ n. AreChecked F (ascending e k n None ∷ ds) (t.0 ++ (t.1 ++ left))) count (subst (λ l. AreChecked F (ascending e k n None ∷ ds) l) is a) in
         let fine = before t.0 t.1 (subst (λ b. AreBytes b) t.4 (behind own bs small)) in
         let r = climb e k ds (t.1 ++ left) f.before (f.e, f.left) (f.e, f.right) f.after None t.0 (subst (λ (l : List Part). AreNamed e l) parts all_e) (subst (λ (l : List Part). HaveBytes F l t.0) parts t.2) fine (subst (λ (l : List Part). AreChecked F (ascending e k (length l) None ∷ ds) (t.0 ++ (t.1 ++ left))) parts there) in
-        let c = subst (λ k. Compare F (a_value k ∷ []) (a_value k ∷ []) (f.first ++ f.second) f.second f.result) key f.compares in
-        let d = subst (λ ys. Compare F (a_value k ∷ []) (a_value k ∷ []) (r.0 ++ ys) ys f.result) (bytes_one F f.right_says r.4) (subst (λ xs. Compare F (a_value k ∷ []) (a_value k ∷ []) (xs ++ f.second) f.second f.result) (bytes_one F f.left_says r.3) c) in
-        f.falls (r.5 f.result (longer_compare k r.0 r.1 r.2 f.result d))
+        fallen f k key r
 
-    module _ {e front cs : List ℕ} (n : ℕ) (signed : Bool) (set : IsSet F x e) (order : HasOrder F e (numbers n signed)) (rise : (i : ℕ) → NumbersDescend n signed (drop 4 front) i → ⊥) (only : IsOnly F x front []) (eq : own ++ (bs ++ left) ≡ front ++ cs) where
+    module _ (cs : List ℕ) {e front : List ℕ} (n : ℕ) (signed : Bool) (set : IsSet F x e) (order : HasOrder F e (numbers n signed)) (rise : (i : ℕ) → NumbersDescend n signed (drop 4 front) i → ⊥) (only : IsOnly F x front []) (eq : own ++ (bs ++ left) ≡ front ++ cs) where
       -- numbers as an array
       numbers_rise : ItemsFall F x j index → ⊥
       numbers_rise f =
@@ -465,8 +482,9 @@ module _ (F : List ℕ → Option Form) where
           let i = f.index_is in
           let w = suc-mul 0 (suc m.0) in
           let z = zero-mul (suc m.0) in
-          let y_is = same_front f.first (tag n s.0) f.second s.2 s.6 (ap (λ l. length l) (sym first_is) ∙ one_is ∙ omega (arith, h, w, z) ∙ sym (long_tag n s.0)) in
-          let z_is = same_front f.second (tag n s.1) [] s.3 (append-nil f.second ∙ s.7) (ap (λ l. length l) (sym second_is) ∙ two_is ∙ omega (arith, h, w, z) ∙ sym (long_tag n s.1)) in
+          let one_n : 1 * suc m.0 ≡ n = omega (arith, h, w, z) in
+          let y_is = same_front f.first (tag n s.0) f.second s.2 s.6 (ap (λ l. length l) (sym first_is) ∙ one_is ∙ one_n ∙ sym (long_tag n s.0)) in
+          let z_is = same_front f.second (tag n s.1) [] s.3 (append-nil f.second ∙ s.7) (ap (λ l. length l) (sym second_is) ∙ two_is ∙ one_n ∙ sym (long_tag n s.1)) in
           let at : length f.before ≡ index - 1 = omega (arith, i) in
           rise index (subst (λ l. NumbersDescend n signed l index) (sym body) (record {
             before = a.0;
@@ -502,31 +520,19 @@ module _ (F : List ℕ → Option Form) where
             | inr s ↦ (let q : array s.0 ≡ string _ = sym s.1 ∙ d.8.1 in cc)
           ]
 
-    falls_list : Falls F x j index → (e : List ℕ) × IsList F x e
-    falls_list (inl d) = (d.1, d.7.0)
-    falls_list (inr f) = (f.e, f.keys.0)
-
-    -- a byte is in its list
-    bytes_packed : (l : Lengths) (d e : List ℕ) → HasKind F x (byte_list l d) → IsList F x e → packed_size (C e) ≡ 0 → ⊥
-    bytes_packed l d e h c p =
-        let f = form_known F (byte_list l d) (sequence 4 0 4294967295 e) h c (λ z. cc) in
-        let same : d ≡ e = (let q = f.0 in cc) in
-        let q : 0 ≡ 1 = sym p ∙ ap (λ d. packed_size d) (shaped (F e) (subst (λ e. IsByte F e) same f.1).1) in
-        omega (arith, q)
-
     none_falls : {all : List ℕ} {ds : List Due} → Falls F x j index → AreChecked F (one x ∷ ds) all → own ++ (bs ++ left) ≡ all → ⊥
     none_falls f (empty z a) e = full_list F (falls_list f).1 z
     none_falls (inl d) (plain front parts full needs only a) e = let k = set_ordered F x d.0 d.1 d.6 d.7 in needs (byte_list d.0 d.1) d.6 (d.0, d.1, inr refl) d.1 d.1 k.0 k.1
     none_falls (inr f) (plain front parts full needs only a) e = needs says.0 says.1 (items_said F x j index says.0 own qs f says.1 says.2).0 f.e f.k f.keys f.known
     none_falls (inl d) (collection {e = y} front n keys p only a) e = bytes_packed d.0 d.1 y d.6 keys.0 p
     none_falls (inr f) (collection front n keys p only a) e = items_rise f keys p only a e
-    none_falls (inl d) (packed front n signed set order rise only a) e = digits_rise n signed set order rise only e d
-    none_falls (inr f) (packed front n signed set order rise only a) e = numbers_rise n signed set order rise only e f
+    none_falls (inl d) (packed {bs = cs} front n signed set order rise only a) e = digits_rise cs n signed set order rise only e d
+    none_falls (inr f) (packed {bs = cs} front n signed set order rise only a) e = numbers_rise cs n signed set order rise only e f
 
   module _ {others : List Due} {left : List ℕ} where
     rises : {x all own bs : List ℕ} {j : Json} {qs ps : List Part} → Locked others left ((x, j) ∷ ps) all → SaysFirst F x j own qs → HaveBytes F (qs ++ ps) bs → AreBytes (own ++ bs) → all ≡ own ++ bs → (index : ℕ) → Falls F x j index → ⊥
-    rises {all = all} {own = own} {bs = bs} (due ds m a) s h small e index f = none_falls left s h small index f (reached m ds others (all ++ left) refl a).2 (sym (ap (λ l. l ++ left) e ∙ append_assoc own bs left))
-    rises {x = x} (number n front c l k) s h small e index f = clash (F x) c (falls_list left s h small index f).1 (λ q. cc)
+    rises {all = all} {own = own} {bs = bs} {ps = ps} (due ds m a) s h small e index f = none_falls left ps s h small index f (reached m ds others (all ++ left) refl a).2 (sym (ap (λ l. l ++ left) e ∙ append_assoc own bs left))
+    rises {x = x} (number n front c l k) s h small e index f = clash (F x) c (falls_list f).1 (λ q. cc)
 
     all_in_order : {ps : List Part} {bytes : List ℕ} → HaveBytes F ps bytes → Locked others left ps bytes → AreBytes bytes → AreInOrder F ps
     all_in_order none_left k small = tt
