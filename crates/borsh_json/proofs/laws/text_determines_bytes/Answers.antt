@@ -1,4 +1,3 @@
-use Rattle.borsh_json.proofs.Lockstep.{in_order}
 use Rattle.borsh_json.specs.Forms.{forms_in}
 use Rattle.borsh_json.proofs.FormsLaws.{text_member}
 use Rattle.borsh_json.proofs.RepresentsLaws.{text_one}
