@@ -1,19 +1,18 @@
 -- JSON that says bytes is in order if they were checked: it has the parts that are due, in the same order.
-use Rattle.std.proofs.Common.{◌≡◌, ◌⊎◌, inl, inr, ℕ, suc, zero, ◌+◌, ◌-◌, ◌*◌, ◌<◌, ◌≤◌, List, [], ◌∷◌, ◌++◌, length, map, replicate, drop, Bool, false, Option, Some, None, refl, sym, ◌∙◌, ap, subst, arith, append_assoc, append-nil, length-append}
+use Rattle.std.proofs.Common.{◌≡◌, inl, inr, ℕ, suc, zero, ◌+◌, ◌-◌, ◌*◌, ◌<◌, ◌≤◌, List, [], ◌∷◌, ◌++◌, length, map, replicate, drop, Bool, false, Option, Some, None, refl, sym, ◌∙◌, ap, subst, arith, append_assoc, append-nil, length-append}
 use Rattle.std.specs.Prelude.{ℤ, pos, codes, All, IfSome}
 use Rattle.std.specs.List.{AllByRecursion}
-use Rattle.std.specs.Ordering.{int_cmp}
 use Rattle.std.specs.declared.cmp.Ordering.{Ordering}
 use Rattle.std.specs.declared.cmp.Ordering.TheVariants.{Less}
 use Rattle.std.proofs.Math.Nat.{suc-mul, zero-mul}
 use Rattle.std.proofs.lemmas.List.{length-replicate}
 use Rattle.json.specs.Json.{Json, array, string, Items, no_items, item, Members}
-use Rattle.borsh_walks.specs.Container.{Shape, IsIn, first, later, zeroed, IsListedVariant, first_variant, later_variant, tag}
+use Rattle.borsh_walks.specs.Container.{Shape, first, later, zeroed, IsListedVariant, first_variant, later_variant, tag}
 use Rattle.borsh_walks.specs.Container as shape
 use Rattle.borsh_values.specs.Nodes.{packed_size, OpensElements, Opens}
 use Rattle.borsh_values.specs.Steps.{OpensOnce}
 use Rattle.borsh_values.proofs.PrefixFree.{same_front}
-use Rattle.borsh_json.specs.Checked.{Due, one, ascending, IsOnly, AreChecked, nothing_due, empty, plain, collection, packed, elements_end, next_element}
+use Rattle.borsh_json.specs.Checked.{Due, one, ascending, IsOnly, AreChecked, empty, plain, collection, packed, elements_end, next_element}
 use Rattle.borsh_json.specs.Descents.{HasKeys, NumbersDescend}
 use Rattle.borsh_json.specs.Forms.{Form, primitive, sequence, tuple, newtype, unnamed, named, choice, shape_of_form, shapes, HasNoBytes, IsList, IsByte}
 use Rattle.borsh_json.specs.Found.{IsSet}
@@ -22,10 +21,10 @@ use Rattle.borsh_json.specs.InOrder.{DigitsFall, ItemsFall, Falls, InOrder}
 use Rattle.borsh_json.specs.Leaves.{HasSize}
 use Rattle.borsh_json.specs.Ordered.{numbers, HasOrder, Ranked, a_value, Rank, no_rank, more_rank, Compare, Continues}
 use Rattle.borsh_json.specs.Represents.{SaysFirst, HaveBytes, none_left, next_part}
-use Rattle.borsh_json.specs.Table.{Lengths, Keys, Kind, no_bytes, truth, whole, float, raw, utf8, byte_list, list, row, inner, fields, optional, variants, entries, primitive_kind, a_text, some_bytes, an_object, some_elements, nullable, by_name, DefinedKind, HasKind, IsHex, IsPrefixed, Part, row_parts, list_parts, field_parts, IsVariant, this, that, Entry, entry_parts, IsArray, Says}
+use Rattle.borsh_json.specs.Table.{Lengths, Keys, Kind, no_bytes, truth, whole, float, raw, utf8, byte_list, list, row, inner, fields, optional, variants, entries, primitive_kind, a_text, some_bytes, an_object, some_elements, nullable, by_name, DefinedKind, HasKind, IsPrefixed, Part, row_parts, list_parts, field_parts, IsVariant, this, that, Entry, entry_parts, IsArray, Says}
 use Rattle.borsh_json.proofs.BytesFall.{unsigned, bytes_descend, set_ordered}
 use Rattle.borsh_json.proofs.DescentLaws.{all_left, all_right}
-use Rattle.borsh_json.proofs.FormKinds.{map_elements, form_known, form_found}
+use Rattle.borsh_json.proofs.FormKinds.{map_elements, form_known}
 use Rattle.borsh_json.proofs.FoundLaws.{full_list, full_primitive, list_element, zero_part}
 use Rattle.borsh_json.proofs.InOrderLaws.{items_said, keys_one, whole_in_order}
 use Rattle.borsh_json.proofs.LeafLaws.{primitive_sized, float_length}
