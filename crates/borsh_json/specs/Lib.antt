@@ -15,6 +15,7 @@ pub mod NoValue
 pub mod Found
 pub mod Descents
 pub mod Orders
+pub mod Checked
 pub mod Frames
 pub mod Leaves
 pub mod Printed
