@@ -118,13 +118,16 @@ module _ (F : List ℕ → Option Form) where
   pub byte_full : {e : List ℕ} → IsByte F e → HasNoBytes F e → ⊥
   byte_full b = full_primitive {n = 0} b.1
 
-  pub zero_key : {e k v : List ℕ} → F e ≡ Some (tuple (k ∷ v ∷ [])) → HasNoBytes F e → HasNoBytes F k
-  zero_key {k = k} {v = v} e (zeroed d ps c r all) =
-      let g : Some d ≡ Some (shape.product (k ∷ v ∷ [])) = sym c ∙ ap (λ o. option_map shape_of_form o) e in
+  pub zero_first : {e k v : List ℕ} → option_map shape_of_form (F e) ≡ Some (shape.product (k ∷ v ∷ [])) → HasNoBytes F e → HasNoBytes F k
+  zero_first {k = k} {v = v} e (zeroed d ps c r all) =
+      let g : Some d ≡ Some (shape.product (k ∷ v ∷ [])) = sym c ∙ e in
       let h : d ≡ shape.product (k ∷ v ∷ []) = cc in
       let i : Some ps ≡ Some (k ∷ v ∷ []) = sym r ∙ ap zero_size_references h in
       let j : ps ≡ k ∷ v ∷ [] = cc in
       all k (subst (λ l. IsIn k l) (sym j) first)
+
+  pub zero_key : {e k v : List ℕ} → F e ≡ Some (tuple (k ∷ v ∷ [])) → HasNoBytes F e → HasNoBytes F k
+  zero_key e z = zero_first (ap (λ o. option_map shape_of_form o) e) z
 
 -- two elements of a list of two
 pub two : {X : Type 0} (xs : List X) (a b : X) → length xs ≡ 2 → a ≡ get_or xs 0 a → b ≡ get_or xs 1 b → xs ≡ a ∷ b ∷ []
