@@ -36,9 +36,9 @@ module _ (F : List ℕ → Option Form) where
   IsDueAs x own parts None = (ds : List Due) (after : List ℕ) → AreChecked F (map one parts ++ ds) after → AreChecked F (one x ∷ ds) (own ++ after)
   IsDueAs x own parts (Some k) = (e : List ℕ) × (n : ℕ) × (parts ≡ replicate n e) × ((ds : List Due) (after : List ℕ) → AreChecked F (ascending e k n None ∷ ds) after → AreChecked F (one x ∷ ds) (own ++ after))
 
-  pub plain_due : {x own : List ℕ} {parts : List (List ℕ)} (k : Option (List ℕ)) → IsDueAs x own parts k → IfSome k (λ k. ⊥) → IsDueAs x own parts None
-  plain_due None due h = due
-  plain_due (Some k) due h = absurd h
+  pub plain_due : (x own : List ℕ) (parts : List (List ℕ)) (k : Option (List ℕ)) → IsDueAs x own parts k → IfSome k (λ k. ⊥) → IsDueAs x own parts None
+  plain_due x own parts None due h = due
+  plain_due x own parts (Some k) due h = absurd h
 
   -- parts without bytes
   pub zeros_due : (zs : List (List ℕ)) {ds : List Due} {bs : List ℕ} → ((y : List ℕ) → IsIn y zs → HasNoBytes F y) → AreChecked F ds bs → AreChecked F (map one zs ++ ds) bs
@@ -85,9 +85,9 @@ module _ (F : List ℕ → Option Form) where
     IsTaken m ms t rs y done left ds = (es : List Due) × AreOwed bytes ((m.0, Some (length done), m.2) ∷ ms) (t ∷ rs) es × (AreChecked F (one y ∷ es) left → AreChecked F ds left)
 
     next_owed : (m : Mark) {ms : List Mark} (r t : Rest) {rs : List Rest} {ds : List Due} (y done left : List ℕ) → names_of_rest r ≡ y ∷ names_of_rest t → drop (length done) bytes ≡ left → IsRisen m left → AreOwed bytes (m ∷ ms) (r ∷ rs) ds → IsTaken m ms t rs y done left ds
-    next_owed m r t y done left names d rises (names_owed {ds = ds} x s r a) = (map one (names_of_rest t) ++ ds, names_owed x (Some (length done)) t a, λ c. subst (λ l. AreChecked F (map one l ++ ds) left) (sym names) c)
-    next_owed m r t y done left names d rises (elements_owed x s r e k zero c a) = let q : y ∷ names_of_rest t ≡ [] = sym names ∙ c in cc
-    next_owed m r t y done left names d rises (elements_owed {ds = ds} x s r e k (suc n) c a) =
+    next_owed _ _ t y done left names d rises (names_owed {ds = ds} x s r a) = (map one (names_of_rest t) ++ ds, names_owed x (Some (length done)) t a, λ c. subst (λ l. AreChecked F (map one l ++ ds) left) (sym names) c)
+    next_owed _ _ t y done left names d rises (elements_owed x s r e k zero c a) = let q : y ∷ names_of_rest t ≡ [] = sym names ∙ c in cc
+    next_owed _ _ t y done left names d rises (elements_owed {ds = ds} x s r e k (suc n) c a) =
         let q : y ∷ names_of_rest t ≡ e ∷ replicate n e = sym names ∙ c in
         let h : y ≡ e = cc in
         let l : names_of_rest t ≡ replicate n e = cc in
@@ -98,9 +98,9 @@ module _ (F : List ℕ → Option Form) where
         )
 
     end_owed : (m : Mark) {ms : List Mark} (r : Rest) {rs : List Rest} {ds : List Due} (left : List ℕ) → names_of_rest r ≡ [] → AreOwed bytes (m ∷ ms) (r ∷ rs) ds → (es : List Due) × AreOwed bytes ms rs es × (AreChecked F es left → AreChecked F ds left)
-    end_owed m r left none (names_owed {ds = ds} x s r a) = (ds, a, λ c. subst (λ l. AreChecked F (map one l ++ ds) left) (sym none) c)
-    end_owed m r left none (elements_owed {ds = ds} x s r e k zero c a) = (ds, a, λ c. elements_end c)
-    end_owed m r left none (elements_owed x s r e k (suc n) c a) = let q : [] ≡ e ∷ replicate n e = sym none ∙ c in cc
+    end_owed _ _ left none (names_owed {ds = ds} x s r a) = (ds, a, λ c. subst (λ l. AreChecked F (map one l ++ ds) left) (sym none) c)
+    end_owed _ _ left none (elements_owed {ds = ds} x s r e k zero c a) = (ds, a, λ c. elements_end c)
+    end_owed _ _ left none (elements_owed x s r e k (suc n) c a) = let q : [] ≡ e ∷ replicate n e = sym none ∙ c in cc
 
     pub nothing_owed : {ds : List Due} → AreOwed bytes [] [] ds → ds ≡ []
     nothing_owed none_owed = refl
@@ -117,9 +117,9 @@ module _ (F : List ℕ → Option Form) where
 
       -- the value of an entry, behind its key
       pub entry_checked : (m : Mark) {ms : List Mark} (r t : Rest) {rs : List Rest} (pair key value own after done left : List ℕ) → names_of_rest r ≡ pair ∷ names_of_rest t → drop (length done) bytes ≡ left → IsRisen m left → left ≡ own ++ after → IsDueAs pair [] (key ∷ value ∷ []) None → IsDueAs key own [] None → IsCheckedTo F root bytes [] (m ∷ ms) (r ∷ rs) left → IsCheckedTo F root bytes (value ∷ []) ((m.0, Some (length done), m.2) ∷ ms) (t ∷ rs) after
-      entry_checked m r t pair key value own after done left names d rises l two first h =
+      entry_checked m r t pair key value own after done left names d rises l two begins h =
           let n = next_owed m r t pair done left names d rises h.owed in
-          record { dues = n.0; owed = n.1; checked = λ c. h.checked (n.2 (subst (λ b. AreChecked F (one pair ∷ n.0) b) (sym l) (two n.0 (own ++ after) (first (one value ∷ n.0) after c)))) }
+          record { dues = n.0; owed = n.1; checked = λ c. h.checked (n.2 (subst (λ b. AreChecked F (one pair ∷ n.0) b) (sym l) (two n.0 (own ++ after) (begins (one value ∷ n.0) after c)))) }
 
       -- a value was written whole, whose parts have no bytes
       pub leaf_checked : {ms : List Mark} {rs : List Rest} (x own after left : List ℕ) (zeros : List (List ℕ)) → left ≡ own ++ after → ((y : List ℕ) → IsIn y zeros → HasNoBytes F y) → IsDueAs x own zeros None → IsCheckedTo F root bytes (x ∷ []) ms rs left → IsCheckedTo F root bytes [] ms rs after

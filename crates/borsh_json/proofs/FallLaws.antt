@@ -234,11 +234,11 @@ module _ (F : List ℕ → Option Form) (ns : List Named) (orders : List Known) 
       list_falls n.0 depth l.width l.least l.greatest t.0 error h s (k.3 t.0 t.1 ∙ ap (λ n. Some (primitive_form n)) n.1) n.1 d g
 
 -- elements that don't fall are those in the own bytes
-elements_one : (s : Shape) (own as bs : List ℕ) → AreElementsOf s own as → AreElementsOf s own bs → as ≡ bs
-elements_one (primitive n) own as bs a b = a ∙ sym b
-elements_one (sequence w lo hi e) own as bs a b = a ∙ sym b
-elements_one (product ps) own as bs a b = a ∙ sym b
-elements_one (choice w vs) own as bs a b = a ∙ sym b
+elements_one : (s : Shape) (own cs bs : List ℕ) → AreElementsOf s own cs → AreElementsOf s own bs → cs ≡ bs
+elements_one (primitive n) own cs bs a b = a ∙ sym b
+elements_one (sequence w lo hi e) own cs bs a b = a ∙ sym b
+elements_one (product ps) own cs bs a b = a ∙ sym b
+elements_one (choice w vs) own cs bs a b = a ∙ sym b
 
 pub rises_in : {A E : Type 0} (r : Result A E) (f : Form) (own bytes : List ℕ) (es : FoundElements) (P : FoundElements → Type 0) → ((fs : FoundElements) → P fs → fs ≡ es) → AreElementsOf (shape_of_form f) own bytes → OnOk r (NoneFalls es bytes) → OnOk r ((fs : FoundElements) → P fs → NoneFallsIn fs f own)
 rises_in (Ok t) f own bytes es P one a h = λ fs p bs b. subst (λ (fs : FoundElements). NoneFalls fs bs) (sym (one fs p)) (subst (λ b. NoneFalls es b) (elements_one (shape_of_form f) own bytes bs a b) h)

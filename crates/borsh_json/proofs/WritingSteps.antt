@@ -115,7 +115,7 @@ module _ (F : List ℕ → Option Form) (ns : List Named) (root bytes : List ℕ
           → IsHalved F root bytes (w.done ++ own) after (t.value ∷ (replicate t.count t.pair ++ names_of_all w.around)) → new ≡ written ++ Token.key s ∷ []
           → IsRisen F bytes m left → left ≡ own ++ after → IsDueAs F t.pair [] (t.key ∷ t.value ∷ []) None → IsDueAs F t.key own [] None
           → IsAwaiting F ns root bytes t.value (128 - length w.around) q ps (m.0, Some (length w.done), m.2) ms after new
-      awaits_entry own after key s last k says above member halved e rises joins pair first =
+      awaits_entry own after key s last k says above member halved e rises joins pair begins =
           let rest = entries_rest t.keys t.key t.value t.pair t.count (Some s) in
           record {
             inner = rest;
@@ -131,7 +131,7 @@ module _ (F : List ℕ → Option Form) (ns : List Named) (root bytes : List ℕ
             outer = opened m.0 (Some (length w.done)) (replicate t.count t.pair) ∷ w.outer;
             levels = no_place t.pair (Some (length (w.done ++ own))) (level rest (m.0, Some (length w.done), m.2) w.levels);
             nested = passed entry_nested member;
-            rises = entry_checked F bytes root m w.inner rest t.pair t.key t.value own after w.done left names_there (behind_done w.done left w.halved.joined) rises joins pair first w.rises;
+            rises = entry_checked F bytes root m w.inner rest t.pair t.key t.value own after w.done left names_there (behind_done w.done left w.halved.joined) rises joins pair begins w.rises;
             begun = begun_so F root _ _ new _ (w.done ++ own) e refl (key_written F root w.inner rest w.around t.value (Token.key s ∷ []) ((t.key, key_json t.keys s) ∷ []) own (128 - length w.around) written w.done room_for
                 (λ i j ts qs nj dj m. subst (λ r. MayFollow r i (Token.key s ∷ (json_tokens j ++ ts)) ((t.key, key_json t.keys s) ∷ (t.value, j) ∷ qs)) (sym t.is) (entry_taken t.keys t.key t.value t.pair t.count t.before s above i j ts qs nj dj m))
                 (λ ps bs h. next_part says.0 own [] says.1 says.2 h) w.begun);

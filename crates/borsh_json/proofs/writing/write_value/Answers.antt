@@ -2,6 +2,7 @@ use Rattle.std.proofs.Common.{◌≡◌, List, [], ◌∷◌, length, None, ℕ,
 use Rattle.std.specs.Prelude.{Bool}
 use Rattle.json.specs.Print.{print}
 use Rattle.borsh_plan.specs.Plan.{planned, root_of}
+use Rattle.borsh_values.proofs.Bytes.{small_bytes}
 use Rattle.borsh_json.specs.Ascii.{IsInLine}
 use Rattle.borsh_json.specs.Checked.{one, AreChecked}
 use Rattle.borsh_json.specs.Found.{forms_of, names_of}
@@ -54,7 +55,7 @@ returns-then-is_in-clause-says c =
     let w = subst (λ (b : List ℕ). IsWhole F root (output_tokens new.out) b) (b ∙ c.loop.invariant.1) h.whole in
     let r = whole_read F root c.into_bytes.result.items (output_tokens new.out) c.args.bytes.now (c.into_bytes.ensures.tokens h.fresh) w in
     let a = subst (λ (b : List ℕ). AreChecked F (one root ∷ []) b) (b ∙ c.loop.invariant.1) h.rises in
-    (r.0, r.1, r.2, c.requires, in_order F root r.0 c.args.bytes.now r.2 a)
+    (r.0, r.1, r.2, c.requires, in_order F root r.0 c.args.bytes.now (small_bytes c.args.bytes.now (λ k. let b = c.type_inv.bytes k in omega (arith, b))) r.2 a)
 
 pub returns-then-is_in-clause-line : goal.returns-then-is_in-clause-line
 returns-then-is_in-clause-line c = λ q.

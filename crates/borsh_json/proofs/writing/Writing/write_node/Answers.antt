@@ -91,7 +91,7 @@ returns-in-Ok-None-clause-part c x f i e kind order tells full has a =
     let rises = c.in_ok-check_elements.ensures in
     let only = same_only F (form_of n.definition.now) written.1 op.0 written.2 (node_only d w walk c.args.at x l i o n c.in-Some.is t) in
     let due = value_due d x (form_of n.definition.now) n.bytes.now written.1 op.0 written.2 only full c.args.kind None has kd order tells rises.bytes rises.numbers (λ es q. absurd (written.4 es q)) in
-    leaf_begun d w new x (form_of n.definition.now) n.bytes.now a refl (ap (λ l. l.now) c.in_ok-node.ensures.plan ∙ l) c.in_ok-node.ensures.walk h.bytes h.next (node_on d w walk c.args.at x l i o n c.in-Some.is t) c.args.kind (node_shape d w walk c.args.at x l i o n c.in-Some.is t) (leaf_room c.args.kind a.room (length w.position.outer.items) (room_awaiting d w x a) c.in_ok-check_elements.ensures.room) written (plain_due F due.0 due.1 due.2) refl refl
+    leaf_begun d w new x (form_of n.definition.now) n.bytes.now a refl (ap (λ l. l.now) c.in_ok-node.ensures.plan ∙ l) c.in_ok-node.ensures.walk h.bytes h.next (node_on d w walk c.args.at x l i o n c.in-Some.is t) c.args.kind (node_shape d w walk c.args.at x l i o n c.in-Some.is t) (leaf_room c.args.kind a.room (length w.position.outer.items) (room_awaiting d w x a) c.in_ok-check_elements.ensures.room) written (plain_due F x n.bytes.now written.1 due.0 due.1 due.2) refl refl
 
 pub returns-in-Err-clause-part : goal.returns-in-Err-clause-part
 returns-in-Err-clause-part c x f i e kind order tells full has a =
