@@ -119,9 +119,9 @@ module _ (F : List ℕ → Option Form) where
   byte_full b = full_primitive {n = 0} b.1
 
   -- the parts of a tuple without bytes have none
-  pub zero_part : {e p : List ℕ} {parts : List (List ℕ)} → F e ≡ Some (tuple parts) → HasNoBytes F e → IsIn p parts → HasNoBytes F p
+  pub zero_part : {e p : List ℕ} {parts : List (List ℕ)} → option_map shape_of_form (F e) ≡ Some (shape.product parts) → HasNoBytes F e → IsIn p parts → HasNoBytes F p
   zero_part {p = p} {parts = parts} e (zeroed d ps c r all) i =
-      let g : Some d ≡ Some (shape.product parts) = sym c ∙ ap (λ o. option_map shape_of_form o) e in
+      let g : Some d ≡ Some (shape.product parts) = sym c ∙ e in
       let h : d ≡ shape.product parts = cc in
       let k : Some ps ≡ Some parts = sym r ∙ ap zero_size_references h in
       let j : ps ≡ parts = cc in

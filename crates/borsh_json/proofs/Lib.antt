@@ -29,6 +29,8 @@ pub mod WritingPlaces
 pub mod NestedLaws
 pub mod WritingSteps
 pub mod FallLaws
+pub mod CheckedLaws
+pub mod Lockstep
 pub mod WriterLaws
 pub mod MemberLaws
 pub mod EachLaws
@@ -57,7 +59,6 @@ pub mod KeyRanks
 pub mod SaidRanks
 pub mod InOrderLaws
 pub mod AscentLaws
-pub mod Lockstep
 pub mod PackedDescent
 pub mod UnitLaws
 pub mod WordLaws

@@ -122,7 +122,7 @@ module _ (F : List ℕ → Option Form) where
   skipped z (packed own n signed set order rise only a) = absurd (full_list F set.0 z)
 
   parted : {e k v all : List ℕ} {ds : List Due} → F e ≡ Some (tuple (k ∷ v ∷ [])) → AreChecked F (one e ∷ ds) all → AreChecked F (one k ∷ one v ∷ ds) all
-  parted c (empty z a) = empty (zero_part F c z first) (empty (zero_part F c z (later first)) a)
+  parted {e} c (empty z a) = let d = shaped (F e) c in empty (zero_part F d z first) (empty (zero_part F d z (later first)) a)
   parted {e} {k} {v} {all} {ds} c (plain {bs = bs} own parts full needs only a) =
       let o = only_one (tuple (k ∷ v ∷ [])) c only [] (k ∷ v ∷ []) (own ++ bs) bs (refl, refl) refl in
       subst (λ l. AreChecked F (one k ∷ one v ∷ ds) l) (sym o.1) (subst (λ (l : List (List ℕ)). AreChecked F (map one l ++ ds) bs) (sym o.2) a)

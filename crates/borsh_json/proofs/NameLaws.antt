@@ -183,7 +183,7 @@ module _ (F : List ℕ → Option Form) where
       no_kind (inl z) kind (an_object {k = k} {keys = keys} m a) =
           let g : Some (sequence w lo hi e) ≡ Some (sequence 4 0 4294967295 m.0) = sym d ∙ m.1 in
           let q : e ≡ m.0 = cc in
-          keys_full k keys a (zero_part F m.2 (subst (λ e. HasNoBytes F e) q z) first)
+          keys_full k keys a (zero_part F (ap (λ o. option_map shape_of_form o) m.2) (subst (λ e. HasNoBytes F e) q z) first)
       no_kind (inl z) kind (some_elements b m y k) = y z
       no_kind (inr n) kind (a_text s b) = byte_or_map F d b n.2
       no_kind (inr n) kind (some_bytes s b) = byte_or_map F d b n.2

@@ -171,8 +171,8 @@ module _ (F : List ℕ → Option Form) where
   as_element : (e k v : List ℕ) → F e ≡ Some (tuple (k ∷ v ∷ [])) → HasNoBytes F e ⊎ (HasNoBytes F e → ⊥) → (i j : Json) (bs : List ℕ) → HaveBytes F ((k, i) ∷ (v, j) ∷ []) bs → (u : Json) × HaveBytes F ((e, u) ∷ []) bs
   as_element e k v c (inl z) i j bs h =
       let s = split F h ((k, i) ∷ []) ((v, j) ∷ []) refl in
-      let key = nothing_said (zero_part F c z first) s.2 in
-      let value = nothing_said (zero_part F c z (later first)) s.3 in
+      let key = nothing_said (zero_part F (shaped (F e) c) z first) s.2 in
+      let value = nothing_said (zero_part F (shaped (F e) c) z (later first)) s.3 in
       (null, null_said z (s.4 ∙ ap (λ l. l ++ s.1) key ∙ value))
   as_element e k v c (inr n) i j bs h =
       (json_array (item i (item j no_items)), next_part (row (k ∷ v ∷ [])) [] ((k, i) ∷ (v, j) ∷ []) (inr (n, tuple (k ∷ v ∷ []), c, refl)) (refl, item i (item j no_items), refl, refl) h)
@@ -322,7 +322,7 @@ module _ (F : List ℕ → Option Form) where
 
   pair_key : (e k v : List ℕ) → F e ≡ Some (tuple (k ∷ v ∷ [])) → IsOrdered F k → (kind : Kind) (u : Json) (own : List ℕ) (qs : List Part) (bs cs more : List ℕ) → HasKind F e kind → HaveBytes F ((e, u) ∷ []) bs → Says F kind u own qs → HaveBytes F qs cs → bs ≡ own ++ cs → (zs : List ℤ) × Rank F (a_value k ∷ []) (bs ++ more) zs
   pair_key e k v c o kind u own qs bs cs more (inl z) all s h b =
-      let n = zero_part F c z.0 first in
+      let n = zero_part F (shaped (F e) c) z.0 first in
       said_none k n null bs more [] [] (null_said n (nothing_said z.0 all)) no_rank
   pair_key e k v c o kind u own qs bs cs more (inr d) all s h b =
       let q : kind ≡ row (k ∷ v ∷ []) = defined (tuple (k ∷ v ∷ [])) c d.0 (inr d) in
