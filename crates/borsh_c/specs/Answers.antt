@@ -6,7 +6,6 @@ use Rattle.borsh_json.specs.Errors.{IsTextReason}
 use Rattle.borsh_json.specs.Forms.{forms_in}
 use Rattle.borsh_json.specs.InOrder.{TextRepresents}
 use Rattle.borsh_json.specs.Printed.{IsPrinted}
-use Rattle.borsh_json.specs.Represents.{TextSays}
 use Rattle.borsh_json.specs.Names.{TellsNames}
 use Rattle.borsh_json.specs.NoJson.{RefusesBytes}
 use Rattle.borsh_json.specs.NoValue.{ShowsNoValue}
@@ -150,9 +149,9 @@ abbrev pub layout_if : Bool → Layout
 layout_if true = Compact
 layout_if false = Pretty
 
--- the text is JSON that says these bytes, which are a member of the root, with no white space but that of the layout
+-- the text is JSON that says these bytes, which are a member of the root, its keys in order, with no white space but that of the layout
 abbrev pub IsJsonOf : Layout → List ℕ → List ℕ → Saying
-IsJsonOf layout value text m root = TextSays (forms_in m) root text value × IsPrinted layout text
+IsJsonOf layout value text m root = TextRepresents (forms_in m) root text value × IsPrinted layout text
 
 -- an offset is told only where the bytes are no member of the root, and is then that of a fault; without one they are a member, and there is a reason why it has no JSON
 abbrev pub HasNoJson : List ℕ → Option ℕ → List ℕ → Saying

@@ -49,15 +49,15 @@ module _ (F : List ℕ → Option Form) (ns : List Named) (x : List ℕ) (f : Fo
       (subst (λ (l : Option EntryKey). IsRestOf F ns parts 0 l r) (sym c) i))
 
   -- the bracket of a place was written, or there was no memory for it
-  pub value_begun : (kind : Found) (own : List ℕ) (parts : Parts) (r : Rest) (old new : Output) (result : Result (Option Place) WriteError) → ((es : FoundEntries) (n : ℕ) → parts ≡ MapEntries es n → (order : Ordered) × (kind ≡ MapKind es order)) → IsRestOf F ns parts 0 None r → IsFront F x own r (begins_of parts) → Opens (shapes F) (shape_of_form f) own (names_of_rest r) → BeginsAt parts old new result → WritesValue F ns kind x f own old new result
-  value_begun kind own parts r old new (Ok None) m i w o b = absurd b
-  value_begun kind own parts r old new (Ok (Some p)) m i w o b = (r, new_place parts p r b.0 b.1 b.2 i, front_written F x own r (begins_of parts) old new w b.3, o, (b.4, b.2, λ es n e. m es n (sym b.0 ∙ e)))
-  value_begun kind own parts r old new (Err e) m i w o b = subst (λ (e : WriteError). RefusesValue F x own e) (sym b) tt
+  pub value_begun : (kind : Found) (own : List ℕ) (parts : Parts) (r : Rest) (old new : Output) (result : Result (Option Place) WriteError) → ((es : FoundEntries) (n : ℕ) → parts ≡ MapEntries es n → (order : Ordered) × (kind ≡ MapKind es order)) → ((es : FoundElements) → kind ≡ ListKind es → es.is_refused ≡ false) → IsRestOf F ns parts 0 None r → IsFront F x own r (begins_of parts) → Opens (shapes F) (shape_of_form f) own (names_of_rest r) → BeginsAt parts old new result → WritesValue F ns kind x f own old new result
+  value_begun kind own parts r old new (Ok None) m l i w o b = absurd b
+  value_begun kind own parts r old new (Ok (Some p)) m l i w o b = (r, new_place parts p r b.0 b.1 b.2 i, front_written F x own r (begins_of parts) old new w b.3, o, (b.4, b.2, (λ es n e. m es n (sym b.0 ∙ e)), l))
+  value_begun kind own parts r old new (Err e) m l i w o b = subst (λ (e : WriteError). RefusesValue F x own e) (sym b) tt
 
-  struct_begun : (kind : Found) (parts : Parts) (r : Rest) (old new : Output) (result : Result (Option Place) WriteError) → ((es : FoundEntries) (n : ℕ) → parts ≡ MapEntries es n → ⊥) → IsRestOf F ns parts 0 None r → IsFront F x [] r (begins_of parts) → shape_of_form f ≡ product (names_of_rest r) → BeginsAt parts old new result → WritesStruct F ns x f kind old new result
-  struct_begun kind parts r old new (Ok None) m i w s b = absurd b
-  struct_begun kind parts r old new (Ok (Some p)) m i w s b = (r, new_place parts p r b.0 b.1 b.2 i, front_written F x [] r (begins_of parts) old new w b.3, s, (b.4, b.2, λ es n e. absurd (m es n (sym b.0 ∙ e))))
-  struct_begun kind parts r old new (Err e) m i w s b = subst (λ (e : WriteError). RefusesValue F x [] e) (sym b) tt
+  struct_begun : (kind : Found) (parts : Parts) (r : Rest) (old new : Output) (result : Result (Option Place) WriteError) → ((es : FoundEntries) (n : ℕ) → parts ≡ MapEntries es n → ⊥) → ((es : FoundElements) → kind ≡ ListKind es → ⊥) → IsRestOf F ns parts 0 None r → IsFront F x [] r (begins_of parts) → shape_of_form f ≡ product (names_of_rest r) → BeginsAt parts old new result → WritesStruct F ns x f kind old new result
+  struct_begun kind parts r old new (Ok None) m l i w s b = absurd b
+  struct_begun kind parts r old new (Ok (Some p)) m l i w s b = (r, new_place parts p r b.0 b.1 b.2 i, front_written F x [] r (begins_of parts) old new w b.3, s, (b.4, b.2, (λ es n e. absurd (m es n (sym b.0 ∙ e))), λ es e. absurd (l es e)))
+  struct_begun kind parts r old new (Err e) m l i w s b = subst (λ (e : WriteError). RefusesValue F x [] e) (sym b) tt
 
   -- ---- structs and tuples
   module _ (at : ℕ) (i : IsAt ns at x) (d : F x ≡ Some f) (old new : Output) (result : Result (Option Place) WriteError) where
@@ -66,14 +66,14 @@ module _ (F : List ℕ → Option Form) (ns : List Named) (x : List ℕ) (f : Fo
         let refs = references (shape_of_form f) in
         let r = items_rest (map (λ (w : Wanted). w.1) (map (λ y. ([], y)) refs)) in
         let same = second_map refs in
-        struct_begun (RowKind n) (Row at n) r old new result (λ es n e. cc)
+        struct_begun (RowKind n) (Row at n) r old new result (λ es n e. cc) (λ es e. cc)
         (map (λ y. ([], y)) refs, (x, f, i, d, k.1, refl), refl)
         (subst (λ (xs : List (List ℕ)). IsFront F x [] (items_rest xs) (Token.begin_array ∷ [])) (sym same) (row_front F x [] refs k.0 refl))
         (form_known F (row refs) f k.0 d (λ e. cc) ∙ ap product (sym same)) b
 
     newtype_begun : (p : ℕ) → IsKindOf F ns x f (NewtypeKind p) → BeginsAt (Newtype p) old new result → WritesStruct F ns x f (NewtypeKind p) old new result
     newtype_begun p k b =
-        struct_begun (NewtypeKind p) (Newtype p) (value_rest (k.0 ∷ [])) old new result (λ es n e. cc)
+        struct_begun (NewtypeKind p) (Newtype p) (value_rest (k.0 ∷ [])) old new result (λ es n e. cc) (λ es e. cc)
         (([], k.0) ∷ [], (k.0, k.1, refl), refl)
         (newtype_front F x [] k.0 k.2 refl)
         (ap shape_of_form (form_known F (inner k.0) f k.2 d (λ e. cc))) b
@@ -83,7 +83,7 @@ module _ (F : List ℕ → Option Form) (ns : List Named) (x : List ℕ) (f : Fo
         let all : List Wanted = map (λ f. (string_bytes f.0, string_bytes f.1)) fs.now.items in
         let g = form_known F (fields all) f k.0 d (λ e. cc) in
         let u = subst (λ (l : List (List ℕ)). IsDistinct bytes_eq l) (sym (names_of (λ (f : String Global × String Global). string_bytes f.0) (λ f. string_bytes f.1) fs.now.items)) k.1 in
-        struct_begun (ObjectKind fs) (Object at fs) (members_rest all) old new result (λ es n e. cc)
+        struct_begun (ObjectKind fs) (Object at fs) (members_rest all) old new result (λ es n e. cc) (λ es e. cc)
         (all, (x, i, d ∙ ap (λ f. Some f) g, refl), refl)
         (object_front F x [] all k.0 u refl)
         (ap shape_of_form g) b
@@ -118,7 +118,7 @@ module _ (F : List ℕ → Option Form) (ns : List Named) (x : List ℕ) (f : Fo
         let m = counted l e found (form_known F (list l e) f t.2 o.0 (λ e. cc)) (k.1 off e t.1) c in
         let copies : map (λ (w : Wanted). w.1) (replicate count ([], e)) ≡ replicate m.0 e = second_copies count e ∙ ap (λ (i : ℕ). replicate i e) (same m.0 m.1) in
         let none : count ≡ count - 0 = omega arith in
-        value_begun (ListKind es) own (Elements es.at count) (items_rest (replicate m.0 e)) old new result (λ es n e. cc)
+        value_begun (ListKind es) own (Elements es.at count) (items_rest (replicate m.0 e)) old new result (λ es n e. cc) (λ fs q. (let s : fs ≡ es = cc in subst (λ (es : FoundElements). es.is_refused ≡ false) (sym s) off))
         (replicate count ([], e), (e, t.1, ap (λ (i : ℕ). replicate i ([], e)) none), ap items_rest (sym copies))
         (list_front F x own l e m.0 t.2 m.2 m.3 m.4) m.5 b
 
@@ -137,6 +137,6 @@ module _ (F : List ℕ → Option Form) (ns : List Named) (x : List ℕ) (f : Fo
         let ws : List Wanted = replicate count ([], v) in
         let many : length ws ≡ m.0 = copies count ([], v) ∙ same m.0 m.1 in
         let none : count ≡ count - 0 = omega arith in
-        value_begun (MapKind es order) own (MapEntries es count) (entries_rest keys k v g.0 m.0 None) old new result (λ fs n e. (let q : es ≡ fs = cc in (order, ap (λ es. MapKind es order) q)))
+        value_begun (MapKind es order) own (MapEntries es count) (entries_rest keys k v g.0 m.0 None) old new result (λ fs n e. (let q : es ≡ fs = cc in (order, ap (λ es. MapKind es order) q))) (λ es e. cc)
         (k, v, g.0, keys, None, ws, h.3, h.4, pair, h.6, refl, (v, h.4, ap (λ (i : ℕ). replicate i ([], v)) none), ap (λ (i : ℕ). entries_rest keys k v g.0 i None) (sym many))
         (map_front F x own l keys k v g.0 m.0 h.5 m.2 m.3 m.4) m.5 b

@@ -1,11 +1,11 @@
 -- Two neighbours that don't ascend, where the writer is.
 use Rattle.std.proofs.Common.{◌≡◌, inr, ℕ, suc, zero, ◌+◌, ◌<◌, ◌≤◌, List, [], ◌∷◌, ◌++◌, length, replicate, drop, Option, Some, None, refl, sym, ◌∙◌, ap, subst, arith, append_assoc, append-nil}
 use Rattle.std.proofs.Math.Seq.{drop-append_seam}
-use Rattle.std.specs.Prelude.{pos, option_map, Bool, true, false, Decides, Result, Ok, Err, IfErr, IfOk, MatchOption}
+use Rattle.std.specs.Prelude.{pos, option_map, Bool, true, false, Decides, Result, Ok, Err, IfErr, IfOk, OnOk, MatchOption}
 use Rattle.std.specs.declared.cmp.Ordering.{Ordering}
 use Rattle.std.specs.declared.cmp.Ordering.TheVariants.{Less}
 use Rattle.json.specs.Json.{null}
-use Rattle.borsh_walks.specs.Container.{Shape, sequence, tag, Member, Members, more_members}
+use Rattle.borsh_walks.specs.Container.{Shape, primitive, sequence, product, choice, tag, Member, Members, more_members}
 use Rattle.borsh_plan.specs.Plan.{root_of}
 use Rattle.borsh_values.specs.Nodes.{packed_size, Opens, OpensElements, AreElementsOf}
 use Rattle.borsh_json.specs.declared.definitions.Definitions.{Definitions}
@@ -30,13 +30,13 @@ use Rattle.borsh_json.specs.Forms.{Form, sequence as sequence_form, primitive as
 use Rattle.borsh_json.specs.Found.{forms_of, names_of}
 use Rattle.borsh_json.specs.NoJson.{IsOutOfOrder}
 use Rattle.borsh_json.specs.Ordered.{a_value, Compare}
-use Rattle.borsh_json.specs.Frames.{IsOf}
+use Rattle.borsh_json.specs.Frames.{IsOf, NoneFalls}
 use Rattle.borsh_json.specs.Leaves.{IsOpenedAs}
 use Rattle.borsh_json.specs.Orders.{KeysAscend, HasKeyOrder, OrderedBy, ValuesCompare, KindHasOrder, AreOrderedNumbers, IsElementFall}
 use Rattle.borsh_json.specs.Places.{IsAt, AreKeysOf, IsKindOf, IsListOf, lengths_of}
 use Rattle.borsh_json.specs.Represents.{SaysFirst}
 use Rattle.borsh_json.specs.Table.{Lengths, Keys, byte_list, list, entries, AreKeys, HasKind, key_json, key_order}
-use Rattle.borsh_json.specs.Writes.{IsFullOrFalls, TellsAscent, names_of_rest, names_of_all, opened, Nested, IsLast, IsAbove, IsMapOf, IsLastKey, IsWritingAt}
+use Rattle.borsh_json.specs.Writes.{IsFullOrFalls, TellsAscent, names_of_rest, names_of_all, opened, Nested, IsLast, IsAbove, IsMapOf, IsLastKey, IsWritingAt, NoneFallsIn}
 use Rattle.borsh_json.proofs.FormKinds.{form_found, form_known}
 use Rattle.borsh_json.proofs.NestedLaws.{IsLastPart, last_part}
 use Rattle.borsh_json.proofs.KeyRanks.{keys_compare}
@@ -200,12 +200,12 @@ module _ (d : Definitions) (w : Writing) (p : Place) (a : IsWritingAt d w p) (es
           last_falls key h.0 (subst (λ (l : Option EntryKey). IsLastKey d w.bytes.now es l a.mark.1) l h.1) (λ o i b. (let q : true ≡ false = sym ((g o (subst (λ (l : Option EntryKey). IsLast es.key_kind l o) (sym l) i)).1 b) ∙ e in cc))
 
 -- ---- lists that are written whole
-positive : (n : ℕ) → 0 < n → (m : ℕ) × (n ≡ suc m)
+pub positive : (n : ℕ) → 0 < n → (m : ℕ) × (n ≡ suc m)
 positive zero l = absurd (omega (arith, l))
 positive (suc m) l = (m, refl)
 
 -- the elements of a list of bytes
-byte_there : (F : List ℕ → Option Form) (x : List ℕ) (l : Lengths) (e : List ℕ) → HasKind F x (byte_list l e) → F e ≡ Some (primitive_form 1)
+pub byte_there : (F : List ℕ → Option Form) (x : List ℕ) (l : Lengths) (e : List ℕ) → HasKind F x (byte_list l e) → F e ≡ Some (primitive_form 1)
 byte_there F x l e h = (form_found F (byte_list l e) h (λ q. cc)).2.1.1
 
 module _ (F : List ℕ → Option Form) (ns : List Named) (orders : List Known) (x own after bytes : List ℕ) (f : Form) (parts : List (List ℕ)) (es : FoundElements) (o : IsOpenedAs F x f own parts) (elements : AreElementsOf (shape_of_form f) own bytes) where
@@ -215,7 +215,7 @@ module _ (F : List ℕ → Option Form) (ns : List Named) (orders : List Known) 
       let h = subst (λ (order : Option Ordered). HasKeyOrder F ns orders x order) g.1 k in
       inr (
         d,
-        packed_descent F ns orders x e h.0 own bytes after parts n w lo hi g.0 h.1 (o.0 ∙ ap (λ f. Some f) s) p (subst (λ (f : Form). Opens (shapes F) (shape_of_form f) own parts) s o.1) (subst (λ (f : Form). AreElementsOf (shape_of_form f) own bytes) s elements)
+        packed_descent F ns orders x e h.0 own bytes parts n w lo hi g.0 h.1 (o.0 ∙ ap (λ f. Some f) s) p (subst (λ (f : Form). Opens (shapes F) (shape_of_form f) own parts) s o.1) (subst (λ (f : Form). AreElementsOf (shape_of_form f) own bytes) s elements) after
             (λ signed a. subst (λ n. (i : ℕ) × NumbersDescend n signed bytes i) z (g.2 signed (subst (λ n. AreOrderedNumbers g.0 n signed bytes) (sym z) a))),
       )
 
@@ -232,6 +232,17 @@ module _ (F : List ℕ → Option Form) (ns : List Named) (orders : List Known) 
       let s = form_known F (list l t.0) f t.2 o.0 (λ e. cc) in
       let n = positive es.size k.2 in
       list_falls n.0 depth l.width l.least l.greatest t.0 error h s (k.3 t.0 t.1 ∙ ap (λ n. Some (primitive_form n)) n.1) n.1 d g
+
+-- elements that don't fall are those in the own bytes
+elements_one : (s : Shape) (own cs bs : List ℕ) → AreElementsOf s own cs → AreElementsOf s own bs → cs ≡ bs
+elements_one (primitive n) own cs bs a b = a ∙ sym b
+elements_one (sequence w lo hi e) own cs bs a b = a ∙ sym b
+elements_one (product ps) own cs bs a b = a ∙ sym b
+elements_one (choice w vs) own cs bs a b = a ∙ sym b
+
+pub rises_in : {A E : Type 0} (r : Result A E) (f : Form) (own bytes : List ℕ) (es : FoundElements) (P : FoundElements → Type 0) → ((fs : FoundElements) → P fs → fs ≡ es) → AreElementsOf (shape_of_form f) own bytes → OnOk r (NoneFalls es bytes) → OnOk r ((fs : FoundElements) → P fs → NoneFallsIn fs f own)
+rises_in (Ok t) f own bytes es P one a h = λ fs p bs b. subst (λ (fs : FoundElements). NoneFalls fs bs) (sym (one fs p)) (subst (λ b. NoneFalls es b) (elements_one (shape_of_form f) own bytes bs a b) h)
+rises_in (Err e) f own bytes es P one a h = tt
 
 -- of an error both are known
 pub both_known : {T : Type 0} {P Q R : PartError → Type 0} (r : Result T PartError) → IfErr r P → IfErr r Q → ((e : PartError) → P e → Q e → R e) → IfErr r R

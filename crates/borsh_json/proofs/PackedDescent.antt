@@ -1,5 +1,5 @@
 -- Sets of primitives that don't ascend.
-use Rattle.std.proofs.Common.{◌≡◌, inl, inr, ℕ, suc, ◌<◌, ◌≤◌, List, ◌++◌, length, drop, Bool, Option, Some, refl, sym, ◌∙◌, ap, subst, arith}
+use Rattle.std.proofs.Common.{◌≡◌, inl, inr, ℕ, suc, ◌*◌, ◌<◌, ◌≤◌, List, [], ◌++◌, length, drop, Bool, Option, Some, refl, sym, ◌∙◌, ap, subst, arith}
 use Rattle.std.specs.Prelude.{pos, All}
 use Rattle.borsh_walks.specs.Container.{tag}
 use Rattle.borsh_values.specs.Nodes.{packed_size, OpensElements, Opens, AreElementsOf}
@@ -9,6 +9,7 @@ use Rattle.borsh_json.specs.declared.order.Ordered.{Ordered}
 use Rattle.borsh_json.specs.declared.order.Ordered.TheVariants.{Single, Number, Text, Array, List as Counted, Tuple}
 use Rattle.borsh_json.specs.Descents.{NumbersDescend, HasKeys, HasDescent}
 use Rattle.borsh_json.specs.Forms.{Form, primitive, sequence, shape_of_form, shapes}
+use Rattle.borsh_json.specs.Found.{IsSet}
 use Rattle.borsh_json.specs.Ordered.{Order, single, numbers, text, array, list, parts, HasOrder}
 use Rattle.borsh_json.specs.Orders.{IsOrderOf, IsOrderIn, KeysAscend, AreOrderedNumbers}
 use Rattle.borsh_json.proofs.DescentLaws.{numbers_descend}
@@ -39,13 +40,24 @@ module _ (F : List ℕ → Option Form) (ns : List Named) where
   packed_found e n signed (Counted w at) i = let q = i.2 in cc
   packed_found e n signed (Tuple at m) i = let q = i.4 in cc
 
-  behind : (c : ℕ) (cs : List ℕ) → drop 4 (tag 4 (pos c) ++ cs) ≡ cs
-  behind c cs = refl
+  -- a set of primitives, in the order of its numbers, and its own bytes
+  pub record IsPacked (x e k own es : List ℕ) (qs : List (List ℕ)) (n : ℕ) (found : Ordered) : Type 0 where
+    pub count : ℕ
+    pub signed : Bool
+    pub keys : HasKeys F x e k
+    pub set : IsSet F x e
+    pub order : HasOrder F e (numbers (suc n) signed)
+    pub ordered : AreOrderedNumbers found (suc n) signed es
+    pub own_is : own ≡ tag 4 (pos count) ++ es
+    pub many : length es ≡ count * suc n
+    pub small : All (λ b. b < 256) es
+    pub fits : count ≤ 4294967295
+    pub no_parts : qs ≡ []
 
-  module _ (orders : List Known) where
-    -- the bytes of a set of primitives, of which two neighbours don't ascend by its order
-    pub packed_descent : (x e k own es rest : List ℕ) (qs : List (List ℕ)) (n w lo hi : ℕ) (found : Ordered) → KeysAscend F ns orders x k found → F x ≡ Some (sequence w lo hi e) → F e ≡ Some (primitive (suc n)) → Opens (shapes F) (shape_of_form (sequence w lo hi e)) own qs → AreElementsOf (shape_of_form (sequence w lo hi e)) own es → ((signed : Bool) → AreOrderedNumbers found (suc n) signed es → (i : ℕ) × NumbersDescend (suc n) signed es i) → HasDescent F x (own ++ rest)
-    packed_descent x e k own es rest qs n w lo hi found a s p o l falls =
+  module _ (orders : List Known) (x e k own es : List ℕ) (qs : List (List ℕ)) (n w lo hi : ℕ) (found : Ordered) (a : KeysAscend F ns orders x k found) (s : F x ≡ Some (sequence w lo hi e)) (p : F e ≡ Some (primitive (suc n)))
+      (o : Opens (shapes F) (shape_of_form (sequence w lo hi e)) own qs) (l : AreElementsOf (shape_of_form (sequence w lo hi e)) own es) where
+    is_packed : IsPacked x e k own es qs n found
+    is_packed =
         let g : Some (sequence w lo hi e) ≡ Some (sequence 4 0 4294967295 a.0) = sym s ∙ a.1.0 in
         let q : a.0 ≡ e = cc in
         let v : w ≡ 4 = cc in
@@ -61,7 +73,31 @@ module _ (F : List ℕ → Option Form) (ns : List Named) where
               let i = packed_found e (suc n) r.0 found (subst (λ (o : Order). IsOrderOf F ns e found o) r.1 h.2) in
               let len = ap (λ l. length l) elements ∙ f.0 in
               let small = subst (λ l. All (λ b. b < 256) l) (sym elements) f.1 in
-              let d = falls r.0 (i, omega arith, (o.0, len), small) in
-              numbers_descend F x e k own es rest n o.0 d.0 r.0 keys a.3 p (subst (λ (o : Order). HasOrder F e o) r.1 h.1) (own_is ∙ ap (λ l. tag 4 (pos o.0) ++ l) (sym elements)) len small (subst (λ hi. o.0 ≤ hi) top o.3) d.1)
+              record {
+                count = o.0;
+                signed = r.0;
+                keys = keys;
+                set = (keys.0, t.0);
+                order = subst (λ (o : Order). HasOrder F e o) r.1 h.1;
+                ordered = (i, omega arith, (o.0, len), small);
+                own_is = own_is ∙ ap (λ l. tag 4 (pos o.0) ++ l) (sym elements);
+                many = len;
+                small = small;
+                fits = subst (λ hi. o.0 ≤ hi) top o.3;
+                no_parts = f.2;
+              })
           | inr m ↦ absurd (clash (F e) p m.1 (λ q. cc))
         ]
+
+    -- of which two neighbours don't ascend by its order
+    pub packed_descent : (rest : List ℕ) → ((signed : Bool) → AreOrderedNumbers found (suc n) signed es → (i : ℕ) × NumbersDescend (suc n) signed es i) → HasDescent F x (own ++ rest)
+    packed_descent rest falls =
+        let r = is_packed in
+        let d = falls r.signed r.ordered in
+        numbers_descend F x e k own es rest n r.count d.0 r.signed r.keys a.3 p r.order r.own_is r.many r.small r.fits d.1
+
+    -- or all do
+    pub packed_rises : ((signed : Bool) → AreOrderedNumbers found (suc n) signed es → (i : ℕ) → NumbersDescend (suc n) signed es i → ⊥) → (signed : Bool) × IsSet F x e × HasOrder F e (numbers (suc n) signed) × ((i : ℕ) → NumbersDescend (suc n) signed (drop 4 own) i → ⊥) × (qs ≡ [])
+    packed_rises falls =
+        let r = is_packed in
+        (r.signed, r.set, r.order, (λ i d. falls r.signed r.ordered i (subst (λ b. NumbersDescend (suc n) r.signed b i) (ap (λ b. drop 4 b) r.own_is) d)), r.no_parts)

@@ -6,8 +6,9 @@ use Rattle.borsh_json.specs.declared.error.Refusal.{Refusal}
 use Rattle.borsh_json.specs.declared.error.Refusal.TheVariants.{TooDeep, RepeatedName, EmptyElements, NotBool, NotUtf8, Zero, NotNumber, Descends, OtherNodes, Expected, MissingField, UnknownName, RepeatedKey, Undefined}
 use Rattle.borsh_json.specs.declared.error.WriteError.{WriteError}
 use Rattle.borsh_json.specs.declared.error.WriteError.TheVariants.{OutOfMemory, Refused, Element}
+use Rattle.borsh_json.specs.declared.kinds.Elements.{Elements as FoundElements}
 use Rattle.borsh_json.specs.declared.kinds.Kind.{Kind as Found}
-use Rattle.borsh_json.specs.declared.kinds.Kind.TheVariants.{Number as NumberKind, Bool as Truth, Bytes, Float}
+use Rattle.borsh_json.specs.declared.kinds.Kind.TheVariants.{Number as NumberKind, Bool as Truth, Bytes, Float, List as ListKind}
 use Rattle.borsh_json.specs.declared.numbers.Number.{Number}
 use Rattle.borsh_json.specs.declared.output.Output.{Output}
 use Rattle.borsh_json.specs.Forms.{Form}
@@ -57,12 +58,15 @@ module _ (F : List ℕ → Option Form) (x own : List ℕ) where
   leaf_refused (Element i r) a = leaf_own r a.0 a.1 a.2 a.3
 
   module _ (ns : List Named) (f : Form) where
-    pub leaf_whole : (kind : Found) (parts : List (List ℕ)) (old new : Output) → IsOpenedAs F x f own parts → parts ≡ [] → WritesLeaf F (leaf_depth kind) x own old new → IsWrittenAs F ns kind x f own old new None
-    leaf_whole kind parts old new o e w = (w, parts, o.1, λ y i. elim (subst (λ (l : List (List ℕ)). IsIn y l) e i) [ ])
+    pub leaf_whole : (kind : Found) (parts : List (List ℕ)) (old new : Output) → IsOpenedAs F x f own parts → parts ≡ [] → ((es : FoundElements) → kind ≡ ListKind es → ⊥) → WritesLeaf F (leaf_depth kind) x own old new → IsWrittenAs F ns kind x f own old new None
+    leaf_whole kind parts old new o e n w = (w, parts, o.1, (λ y i. elim (subst (λ (l : List (List ℕ)). IsIn y l) e i) [ ]), n)
 
     -- a primitive's kind, of which the JSON has no brackets
     abbrev IsPrimitive : Found → Type 0
     IsPrimitive kind = (leaf_depth kind ≡ 0) × (k : Kind) × IsPrimitiveKind kind k
+
+    pub primitive_no_list : (kind : Found) (k : Kind) → IsPrimitiveKind kind k → (es : FoundElements) → kind ≡ ListKind es → ⊥
+    primitive_no_list kind k p es e = subst (λ (q : Found). IsPrimitiveKind q k) e p
 
     pub primitive_found : (kind : Found) → ((n : Number) × (kind ≡ NumberKind n)) ⊎ (kind ≡ Truth) ⊎ ((n : ℕ) × (kind ≡ Bytes n)) ⊎ ((n : ℕ) × (kind ≡ Float n)) → IsKindOf F ns x f kind → IsPrimitive kind
     primitive_found kind (inl e) k = let n = e.0 in subst IsPrimitive (sym e.1) (refl, whole n.size n.is_signed n.is_non_zero, refl)

@@ -15,6 +15,7 @@ use Rattle.borsh_plan.specs.Names.{name_of}
 use Rattle.borsh_plan.specs.Plan.{map_of, names_of as plan_names, root_of}
 use Rattle.borsh_values.specs.Membership.{IsUndecided}
 use Rattle.borsh_values.specs.Nodes.{Opens}
+use Rattle.borsh_values.specs.Steps.{OpensOnce}
 use Rattle.borsh_values.specs.Walks.{IsReadTo, IsCounted, IsNodeOf, FindsNode, FindsAt, IsWalker}
 use Rattle.borsh_plan.specs.declared.plan.Plan.{Plan}
 use Rattle.borsh_plan.specs.declared.named.Named.{Named}
@@ -45,6 +46,7 @@ use Rattle.borsh_json.specs.declared.position.Place.{Place}
 use Rattle.borsh_json.specs.declared.position.Position.{Position}
 use Rattle.borsh_json.specs.declared.sources.EntryKey.{EntryKey}
 use Rattle.borsh_json.specs.declared.writing.Writing.{Writing}
+use Rattle.borsh_json.specs.Checked.{one, NeedsNoOrder, IsOnly, AreChecked, plain}
 use Rattle.borsh_json.specs.Errors.{error_of}
 use Rattle.borsh_json.specs.Forms.{Form, form_of, forms_in, shape_of_form, shapes, HasNoBytes}
 use Rattle.borsh_json.specs.Found.{forms_of, names_of}
@@ -56,12 +58,13 @@ use Rattle.borsh_json.specs.Orders.{HasKeyOrder, KindHasOrder, OrderedBy, Values
 use Rattle.borsh_json.specs.Leaves.{output_tokens, output_before, Adds, IsOpenedAs, WritesLeaf, RefusesLeaf}
 use Rattle.borsh_json.specs.Places.{IsAt, AreKeysOf, IsKindOf, lengths_of}
 use Rattle.borsh_json.specs.Represents.{SaysFirst, next_part}
-use Rattle.borsh_json.specs.Table.{Keys, no_bytes, utf8, HasKind, key_order, key_json}
+use Rattle.borsh_json.specs.Table.{Keys, Kind, no_bytes, whole, utf8, HasKind, key_order, key_json}
 use Rattle.borsh_walks.proofs.Laws.{zero_member}
 use Rattle.borsh_values.proofs.NodesLaws.{opens_member}
 use Rattle.borsh_values.proofs.Required.{members_head}
 use Rattle.borsh_values.proofs.WalkedLaws.{read_product}
-use Rattle.borsh_json.specs.Writes.{IsAbove, IsLast, IsBegunOf, IsWhole, IsWrittenOn, ends_of, Rest, IsRest, WritesFront, names_of_rest, names_of_all, leaf_depth, opened, Nested, passed, Mark, AreEach, IsNewPlace, IsAscending, IsKeyed, IsLastKey, IsMarked, IsRestOf, BeginsNext, TellsAscent, IsWriterOf, IsHalved, IsWriting, IsAwaiting, RefusesOwn, RefusesValue, IsWrittenAs, Stops, IsWritingAt, IsAwaitingAt, IsFull, IsFullOrFalls, AscendsFrom, IsOfWrite}
+use Rattle.borsh_json.specs.Writes.{IsAbove, IsLast, IsBegunOf, IsWhole, IsWrittenOn, ends_of, Rest, IsRest, WritesFront, names_of_rest, names_of_all, leaf_depth, opened, Nested, passed, Mark, AreEach, IsNewPlace, IsAscending, IsKeyed, IsLastKey, IsComparing, IsMarked, IsRestOf, BeginsNext, TellsAscent, RisesAt, IsWriterOf, IsHalved, IsWriting, IsAwaiting, RefusesOwn, RefusesValue, IsWrittenAs, Stops, IsWritingAt, IsAwaitingAt, IsFull, IsFullOrFalls, AscendsFrom, IsOfWrite}
+use Rattle.borsh_json.proofs.CheckedLaws.{IsDueAs, IsRisen, kind_free, same_only, product_due, pair_due, leaf_checked, zero_checked}
 use Rattle.borsh_json.proofs.FormsLaws.{shape_is, shapes_are}
 use Rattle.borsh_json.proofs.FallLaws.{neighbours, falls}
 use Rattle.borsh_json.proofs.NestedLaws.{read_leaf, inside_of, as_deep}
@@ -155,14 +158,20 @@ room_only n P (RefusedPart path r) f = inl f
 
 -- ---- order
 -- a place that was begun, in the order of its kind
-pub in_order : (d : Definitions) (bytes x : List ℕ) (kind : Found) (o : Option Ordered) (new : Option Ascent) → KindHasOrder (forms_of d) (names_of d) d.orders.items x kind → IfSome o (λ order. (es : FoundElements) × (kind ≡ ListKind es) × (es.order ≡ Some order)) → AscendsFrom o new → IsAscending d bytes new (x, None)
-in_order d bytes x kind None new k h a = subst (λ (a : Option Ascent). IsAscending d bytes a (x, None)) (sym a) tt
-in_order d bytes x kind (Some order) new k h a =
+pub in_order : (d : Definitions) (bytes x : List ℕ) (keys : Option (List ℕ)) (kind : Found) (o : Option Ordered) (new : Option Ascent) → KindHasOrder (forms_of d) (names_of d) d.orders.items x kind → IfSome o (λ order. (es : FoundElements) × (kind ≡ ListKind es) × (es.order ≡ Some order)) → AscendsFrom o new → IsAscending d bytes new (x, None, keys)
+in_order d bytes x keys kind None new k h a = subst (λ (a : Option Ascent). IsAscending d bytes a (x, None, keys)) (sym a) tt
+in_order d bytes x keys kind (Some order) new k h a =
     let F = forms_of d in
     let ns = names_of d in
     let l = subst (λ (kind : Found). KindHasOrder F ns d.orders.items x kind) h.1 k in
     let o = subst (λ (o : Option Ordered). HasKeyOrder F ns d.orders.items x o) (h.2 ∙ ap (λ o. Some o) (sym a.2)) l in
-    subst (λ (a : Option Ascent). IsAscending d bytes a (x, None)) (sym a.1) (o, a.3)
+    subst (λ (a : Option Ascent). IsAscending d bytes a (x, None, keys)) (sym a.1) (o, a.3)
+
+-- its keys are those that are due
+pub in_turn : (d : Definitions) (bytes : List ℕ) (keys : Option (List ℕ)) (o : Option Ordered) (new : Option Ascent) → AscendsFrom o new → IfSome keys (λ k. MatchOption o ⊥ (λ order. OrderedBy d k order)) → IsComparing d bytes new keys
+in_turn d bytes None o new a h = tt
+in_turn d bytes (Some k) None new a h = absurd h
+in_turn d bytes (Some k) (Some order) new a h = subst (λ (a : Option Ascent). IsComparing d bytes a (Some k)) (sym a.1) (subst (λ (o : Ordered). OrderedBy d k o) (sym a.2) h)
 
 pub still_rest : (F : List ℕ → Option Form) (ns : List Named) (p q : Place) (r : Rest) → q.parts ≡ p.parts → q.begun ≡ p.begun → q.last ≡ p.last → IsRest F ns p r → IsRest F ns q r
 still_rest F ns p q r a b c h =
@@ -192,8 +201,8 @@ abbrev pub IsPlaceBegun : (List ℕ → Option Form) → List Named → List ℕ
 IsPlaceBegun F ns x f own old new q = (r : Rest) × IsRest F ns q r × WritesFront F x own r old new × Opens (shapes F) (shape_of_form f) own (names_of_rest r)
 
 -- the root's place has no order
-pub root_marked : (d : Definitions) (bytes : List ℕ) (p : Place) → p.parts ≡ Root → p.ascent ≡ None → IsMarked d bytes p ([], None)
-root_marked d bytes p r a = (subst (λ (a : Option Ascent). IsAscending d bytes a ([], None)) (sym a) tt, λ es n e. let q : Root ≡ MapEntries es n = sym r ∙ e in cc)
+pub root_marked : (d : Definitions) (bytes : List ℕ) (p : Place) → p.parts ≡ Root → p.ascent ≡ None → IsMarked d bytes p ([], None, None)
+root_marked d bytes p r a = (subst (λ (a : Option Ascent). IsAscending d bytes a ([], None, None)) (sym a) tt, (λ es n e. let q : Root ≡ MapEntries es n = sym r ∙ e in cc), tt)
 
 -- the offset after some bytes
 moved : (w new : Writing) (own : List ℕ) → w.walk.offset + length w.walk.left.now ≡ length w.bytes.now → new.bytes ≡ w.bytes → w.walk.left.now ≡ own ++ new.walk.left.now → new.walk.offset ≡ w.walk.offset + length own → new.walk.offset + length new.walk.left.now ≡ length new.bytes.now
@@ -216,15 +225,15 @@ module _ (d : Definitions) (w new : Writing) (x : List ℕ) (f : Form) (own : Li
     (bytes : w.walk.left.now ≡ own ++ new.walk.left.now) (next : new.walk.offset ≡ w.walk.offset + length own)
     (onward : (done : List ℕ) (parts ps : List (List ℕ)) → Opens (shapes (forms_of d)) (shape_of_form f) own parts → IsReadTo (shapes (forms_of d)) (root_of d.plan.now) done (x ∷ ps) w.walk.left.now → IsReadTo (shapes (forms_of d)) (root_of d.plan.now) (done ++ own) (parts ++ ps) new.walk.left.now) where
   -- the writer is in front of the next part of the place
-  pub leaf_begun : (kind : Found) → shapes (forms_of d) x ≡ Some (shape_of_form f) → leaf_depth kind ≤ a.room → IsWrittenAs (forms_of d) (names_of d) kind x f own w.out new.out None → new.position.place ≡ w.position.place → new.position.outer.items ≡ w.position.outer.items → IsWritingAt d new new.position.place
-  leaf_begun kind c l h p o =
+  pub leaf_begun : (kind : Found) → shapes (forms_of d) x ≡ Some (shape_of_form f) → leaf_depth kind ≤ a.room → (h : IsWrittenAs (forms_of d) (names_of d) kind x f own w.out new.out None) → IsDueAs (forms_of d) x own h.1 None → new.position.place ≡ w.position.place → new.position.outer.items ≡ w.position.outer.items → IsWritingAt d new new.position.place
+  leaf_begun kind c l h due p o =
       let F = forms_of d in
       let ns = names_of d in
       let root = root_of d.plan.now in
       let s = a.state in
       let k = halved_on F ns root w.bytes.now x (shape_of_form f) s.done w.walk.left.now own new.walk.left.now h.1 (names_of_all (s.inner ∷ s.around)) bytes (λ r. onward s.done h.1 (names_of_all (s.inner ∷ s.around)) h.2 r) s.halved in
       let n = read_leaf (shapes F) root own (names_of_all (s.inner ∷ s.around)) (shape_of_form f) s.nested c h.2 h.3 k.read.1 in
-      let t = leaf_writes F ns root w.bytes.now x a.room w.position.place w.position.outer.items a.mark a.marks w.walk.left.now w.out s own new.walk.left.now new.out (leaf_depth kind) h.1 l n h.0 h.3 k in
+      let t = leaf_writes F ns root w.bytes.now x a.room w.position.place w.position.outer.items a.mark a.marks w.walk.left.now w.out s own new.walk.left.now new.out (leaf_depth kind) h.1 l n h.0 h.3 k (leaf_checked F w.bytes.now root x own new.walk.left.now w.walk.left.now h.1 bytes h.3 due s.rises) in
       record {
         writer = record { plan = plan; walk = walk; fresh = h.0.adds.before ∙ a.writer.fresh; offset = moved w new own a.writer.offset same bytes next };
         mark = a.mark;
@@ -238,8 +247,8 @@ module _ (d : Definitions) (w new : Writing) (x : List ℕ) (f : Form) (own : Li
       }
 
   -- or of the first part of another place
-  pub place_begun : (q : Place) → shapes (forms_of d) x ≡ Some (shape_of_form f) → length w.position.outer.items < 128 → IsPlaceBegun (forms_of d) (names_of d) x f own w.out new.out q → IsMarked d w.bytes.now q (x, None) → new.position.place ≡ q → new.position.outer.items ≡ w.position.outer.items ++ w.position.place ∷ [] → IsWritingAt d new new.position.place
-  place_begun q c room h z p o =
+  pub place_begun : (q : Place) → shapes (forms_of d) x ≡ Some (shape_of_form f) → length w.position.outer.items < 128 → (h : IsPlaceBegun (forms_of d) (names_of d) x f own w.out new.out q) → (keys : Option (List ℕ)) → IsDueAs (forms_of d) x own (names_of_rest h.0) keys → IsMarked d w.bytes.now q (x, None, keys) → new.position.place ≡ q → new.position.outer.items ≡ w.position.outer.items ++ w.position.place ∷ [] → IsWritingAt d new new.position.place
+  place_begun q c room h keys due z p o =
       let F = forms_of d in
       let ns = names_of d in
       let root = root_of d.plan.now in
@@ -247,25 +256,26 @@ module _ (d : Definitions) (w new : Writing) (x : List ℕ) (f : Form) (own : Li
       let r = h.0 in
       let k = halved_on F ns root w.bytes.now x (shape_of_form f) s.done w.walk.left.now own new.walk.left.now (names_of_rest r) (names_of_all (s.inner ∷ s.around)) bytes (λ t. onward s.done (names_of_rest r) (names_of_all (s.inner ∷ s.around)) h.3 t) s.halved in
       let l = as_many (IsRest F ns) w.position.outer.items s.around s.there in
-      let t = front_writes F ns root w.bytes.now x a.room w.position.place w.position.outer.items a.mark a.marks w.walk.left.now w.out s own new.walk.left.now new.out (shape_of_form f) r q new.position.outer.items (omega (arith, l, room)) c h.3 h.1 h.2 o k in
+      let t = front_writes F ns root w.bytes.now x a.room w.position.place w.position.outer.items a.mark a.marks w.walk.left.now w.out s own new.walk.left.now new.out (shape_of_form f) r q new.position.outer.items (omega (arith, l, room)) c h.3 h.1 h.2 o k keys bytes due in
       record {
         writer = record { plan = plan; walk = walk; fresh = h.2.adds.before ∙ a.writer.fresh; offset = moved w new own a.writer.offset same bytes next };
-        mark = (x, None);
+        mark = (x, None, keys);
         marks = a.mark ∷ a.marks;
         state =
-            subst (λ (b : Bor (List ℕ)). IsWriting F ns root b.now new.position.place new.position.outer.items (x, None) (a.mark ∷ a.marks) new.walk.left.now (output_tokens new.out)) (sym same)
-            (subst (λ (z : Place). IsWriting F ns root w.bytes.now z new.position.outer.items (x, None) (a.mark ∷ a.marks) new.walk.left.now (output_tokens new.out)) (sym p) t);
-        here = still_marked d w.bytes new.bytes same q new.position.place (x, None) p z;
+            subst (λ (b : Bor (List ℕ)). IsWriting F ns root b.now new.position.place new.position.outer.items (x, None, keys) (a.mark ∷ a.marks) new.walk.left.now (output_tokens new.out)) (sym same)
+            (subst (λ (z : Place). IsWriting F ns root w.bytes.now z new.position.outer.items (x, None, keys) (a.mark ∷ a.marks) new.walk.left.now (output_tokens new.out)) (sym p) t);
+        here = still_marked d w.bytes new.bytes same q new.position.place (x, None, keys) p z;
         around = still_around d w.bytes new.bytes same (w.position.outer.items ++ w.position.place ∷ []) new.position.outer.items (a.mark ∷ a.marks) o (each_pushed (IsMarked d w.bytes.now) w.position.outer.items a.marks w.position.place a.mark a.around a.here);
       }
 
 -- of a place that is begun nothing is known of parts yet
-pub new_marked : (d : Definitions) (bytes x : List ℕ) (f : Form) (kind : Found) (p q : Place) → IsNewPlace kind p → IsKindOf (forms_of d) (names_of d) x f kind → KindHasOrder (forms_of d) (names_of d) d.orders.items x kind → q.parts ≡ p.parts → q.last ≡ p.last → IsAscending d bytes q.ascent (x, None) → IsMarked d bytes q (x, None)
-new_marked d bytes x f kind p q h i k a b c = (
+pub new_marked : (d : Definitions) (bytes x : List ℕ) (keys : Option (List ℕ)) (f : Form) (kind : Found) (p q : Place) → IsNewPlace kind p → IsKindOf (forms_of d) (names_of d) x f kind → KindHasOrder (forms_of d) (names_of d) d.orders.items x kind → q.parts ≡ p.parts → q.last ≡ p.last → IsAscending d bytes q.ascent (x, None, keys) → IsComparing d bytes q.ascent keys → IsMarked d bytes q (x, None, keys)
+new_marked d bytes x keys f kind p q h i k a b c g = (
   c,
-  λ es n e.
+  (λ es n e.
       let t = h.2 es n (sym a ∙ e) in
-      ((t.0, f, subst (λ (kind : Found). IsKindOf (forms_of d) (names_of d) x f kind) t.1 i, subst (λ (kind : Found). KindHasOrder (forms_of d) (names_of d) d.orders.items x kind) t.1 k), subst (λ (l : Option EntryKey). IsLastKey d bytes es l None) (sym (b ∙ h.1)) tt),
+      ((t.0, f, subst (λ (kind : Found). IsKindOf (forms_of d) (names_of d) x f kind) t.1 i, subst (λ (kind : Found). KindHasOrder (forms_of d) (names_of d) d.orders.items x kind) t.1 k), subst (λ (l : Option EntryKey). IsLastKey d bytes es l None) (sym (b ∙ h.1)) tt)),
+  g,
 )
 
 -- ---- a node was found of the name that is awaited
@@ -278,6 +288,9 @@ module _ (d : Definitions) (w : Writing) (walk : Walker) (at : ℕ) (x : List �
 
   pub node_opened : IsOpenedAs (forms_of d) x (form_of n.definition.now) n.bytes.now node_is.parts
   node_opened = opened_as (map_of d.plan.now) x w.walk walk n node_is
+
+  pub node_only : IsOnly (forms_of d) x n.bytes.now node_is.parts
+  node_only = (form_of n.definition.now, node_opened.0, ?)
 
   pub node_form : (f : Form) → forms_of d x ≡ Some f → f ≡ form_of n.definition.now
   node_form f e = some_form f (form_of n.definition.now) (sym e ∙ node_opened.0)
@@ -332,7 +345,7 @@ module _ (d : Definitions) (w new : Writing) (x : List ℕ) (a : IsAwaitingAt d 
       let h = subst (λ b. IsHalved F root w.bytes.now b w.walk.left.now (x ∷ names)) (sym (append-nil s.done)) s.halved in
       let head = members_head (shapes F) s.halved.read.1 in
       let n = passed s.nested (subst (λ b. Member (shapes F) x b) (zero_member (shapes F) head.2 z) head.2) in
-      let k = leaf_writes F ns root w.bytes.now x a.room w.position.place w.position.outer.items a.mark a.marks w.walk.left.now w.out s [] w.walk.left.now new.out 0 (x ∷ []) (omega arith) n leaf (λ y i. subst (λ y. HasNoBytes F y) (only_in y x i) z) h in
+      let k = leaf_writes F ns root w.bytes.now x a.room w.position.place w.position.outer.items a.mark a.marks w.walk.left.now w.out s [] w.walk.left.now new.out 0 (x ∷ []) (omega arith) n leaf (λ y i. subst (λ y. HasNoBytes F y) (only_in y x i) z) h (zero_checked F w.bytes.now root x w.walk.left.now z s.rises) in
       record {
         writer = writer_still d w new a.writer walk same (t.before ∙ a.writer.fresh);
         mark = a.mark;
@@ -353,16 +366,16 @@ struct_on C root x left names s c e done parts ps o r =
 
 module _ (d : Definitions) (w new : Writing) (x : List ℕ) (a : IsAwaitingAt d w x) (f : Form) (e : forms_of d x ≡ Some f) where
   -- the beginning of a struct was written
-  pub struct_begun : (q : Place) → new.walk ≡ w.walk → new.bytes ≡ w.bytes → length w.position.outer.items < 128
+  pub struct_begun : (q : Place) → (HasNoBytes (forms_of d) x → ⊥) → new.walk ≡ w.walk → new.bytes ≡ w.bytes → length w.position.outer.items < 128
       → (kind : Found) → IsKindOf (forms_of d) (names_of d) x f kind → KindHasOrder (forms_of d) (names_of d) d.orders.items x kind → (r : Rest) → IsRest (forms_of d) (names_of d) q r → WritesFront (forms_of d) x [] r w.out new.out → shape_of_form f ≡ product (names_of_rest r) → IsNewPlace kind q
       → new.position.place ≡ q → new.position.outer.items ≡ w.position.outer.items ++ w.position.place ∷ [] → IsWritingAt d new new.position.place
-  struct_begun q walk same room kind i k r h t s z p o =
+  struct_begun q full walk same room kind i k r h t s z p o =
       let F = forms_of d in
       let root = root_of d.plan.now in
       let c : shapes F x ≡ Some (shape_of_form f) = ap (λ o. option_map shape_of_form o) e in
       let opens : Opens (shapes F) (shape_of_form f) [] (names_of_rest r) = subst (λ s. Opens (shapes F) s [] (names_of_rest r)) (sym s) (refl, refl) in
       place_begun d w new x f [] a same (subst (λ (k : Walker). k.plan.now ≡ d.plan.now) (sym walk) a.writer.plan) (subst (λ (k : Walker). IsWalker k) (sym walk) a.writer.walk) (ap (λ (k : Walker). k.left.now) (sym walk)) (let e = ap (λ (k : Walker). k.offset) walk in omega (arith, e))
-      (λ done parts ps n g. subst (λ (k : Walker). IsReadTo (shapes F) root (done ++ []) (parts ++ ps) k.left.now) (sym walk) (struct_on (shapes F) root x w.walk.left.now (names_of_rest r) (shape_of_form f) c s done parts ps n g)) q c room (r, h, t, opens) (new_marked d w.bytes.now x f kind q q z i k refl refl (subst (λ (l : Option Ascent). IsAscending d w.bytes.now l (x, None)) (sym z.0) tt)) p o
+      (λ done parts ps n g. subst (λ (k : Walker). IsReadTo (shapes F) root (done ++ []) (parts ++ ps) k.left.now) (sym walk) (struct_on (shapes F) root x w.walk.left.now (names_of_rest r) (shape_of_form f) c s done parts ps n g)) q c room (r, h, t, opens) None (product_due F f (names_of_rest r) e s full) (new_marked d w.bytes.now x None f kind q q z i k refl refl (subst (λ (l : Option Ascent). IsAscending d w.bytes.now l (x, None, None)) (sym z.0) tt) tt) p o
 
 -- ---- parts and their keys
 -- whether a key is above the last one
@@ -371,6 +384,20 @@ first_above kind keys o s e = (λ t. subst (λ o. IsAbove keys o s) (sym e) tt, 
 
 pub next_above : (kind : KeyKind) (keys : Keys) (o : Option (List ℕ)) (s : List ℕ) (last : EntryKey) (b : Bool) → (l : IsLast kind (Some last) o) → Decides b (key_order keys (l.0, null) (s, null) ≡ Less) → Decides b (IsAbove keys o s)
 next_above kind keys o s last b l d = subst (λ o. Decides b (IsAbove keys o s)) (sym l.1) d
+
+-- keys have bytes, and nothing in them has to ascend
+module _ (F : List ℕ → Option Form) (ns : List Named) (k : List ℕ) (f : Form) where
+  has_bytes : (kind : Kind) → HasKind F k kind → (kind ≡ no_bytes → ⊥) → HasNoBytes F k → ⊥
+  has_bytes kind (inl h) n z = n h.1
+  has_bytes kind (inr h) n z = h.0 z
+
+  key_full : (kind : KeyKind) (keys : Keys) → AreKeysOf F ns k f kind keys → HasNoBytes F k → ⊥
+  key_full TextKeys keys a = has_bytes (utf8 (lengths_of f)) a.1 (λ e. cc)
+  key_full (NumberKeys n) keys a = has_bytes (whole n.size n.is_signed n.is_non_zero) a.1 (λ e. cc)
+
+  key_free : (kind : KeyKind) (keys : Keys) → AreKeysOf F ns k f kind keys → NeedsNoOrder F k
+  key_free TextKeys keys a = kind_free F (utf8 (lengths_of f)) a.1 (λ l e q. cc) (λ l e q. cc)
+  key_free (NumberKeys n) keys a = kind_free F (whole n.size n.is_signed n.is_non_zero) a.1 (λ l e q. cc) (λ l e q. cc)
 
 -- the kind of keys, by the definition that their name has
 keys_of_form : (F : List ℕ → Option Form) (ns : List Named) (k : List ℕ) (g f : Form) (kind : KeyKind) (keys : Keys) → AreKeysOf F ns k g kind keys → F k ≡ Some f → AreKeysOf F ns k f kind keys
@@ -396,12 +423,24 @@ module _ (d : Definitions) (i : ℕ) (p q : Place) (part : FoundPart) (b : IsBeg
       subst (λ (parts : Parts). IsKey parts part.key w.0.0) e w.4
 
   -- it begins at the offset
-  its_ascent : (bytes : List ℕ) (m : Mark) (done : ℕ) → i ≡ done → IsAscending d bytes p.ascent m → IsAscending d bytes q.ascent (m.0, Some done)
+  its_ascent : (bytes : List ℕ) (m : Mark) (done : ℕ) → i ≡ done → IsAscending d bytes p.ascent m → IsAscending d bytes q.ascent (m.0, Some done, m.2)
   its_ascent bytes m done e h = next_ascent p.ascent q.ascent h b.3
     where
-      next_ascent : (old new : Option Ascent) → IsAscending d bytes old m → BeginsNext old i new → IsAscending d bytes new (m.0, Some done)
-      next_ascent None new h n = subst (λ (a : Option Ascent). IsAscending d bytes a (m.0, Some done)) (sym n) tt
-      next_ascent (Some a) new h n = subst (λ (a : Option Ascent). IsAscending d bytes a (m.0, Some done)) (sym n.1) (subst (λ (o : Ordered). HasKeyOrder (forms_of d) (names_of d) d.orders.items m.0 (Some o)) (sym n.2) h.0, n.3 ∙ ap (λ i. Some i) e)
+      next_ascent : (old new : Option Ascent) → IsAscending d bytes old m → BeginsNext old i new → IsAscending d bytes new (m.0, Some done, m.2)
+      next_ascent None new h n = subst (λ (a : Option Ascent). IsAscending d bytes a (m.0, Some done, m.2)) (sym n) tt
+      next_ascent (Some a) new h n = subst (λ (a : Option Ascent). IsAscending d bytes a (m.0, Some done, m.2)) (sym n.1) (subst (λ (o : Ordered). HasKeyOrder (forms_of d) (names_of d) d.orders.items m.0 (Some o)) (sym n.2) h.0, n.3 ∙ ap (λ i. Some i) e)
+
+  -- in the same order
+  its_turn : (bytes : List ℕ) (keys : Option (List ℕ)) → IsComparing d bytes p.ascent keys → IsComparing d bytes q.ascent keys
+  its_turn bytes keys h = next_turn p.ascent q.ascent h b.3
+    where
+      next_turn : (old new : Option Ascent) → IsComparing d bytes old keys → BeginsNext old i new → IsComparing d bytes new keys
+      next_turn None new h n = subst (λ (a : Option Ascent). IsComparing d bytes a keys) (sym n) h
+      next_turn (Some a) new h n = subst (λ (a : Option Ascent). IsComparing d bytes a keys) (sym n.1) (by keys h)
+        where
+          by : (keys : Option (List ℕ)) → IsComparing d bytes (Some a) keys → IsComparing d bytes (Some n.0) keys
+          by None h = tt
+          by (Some k) h = subst (λ (o : Ordered). OrderedBy d k o) (sym n.2) h
 
   pub part_of : (r : Rest) → ((es : FoundEntries) → part.key ≡ EntryOf es → ⊥) → IsRest (forms_of d) (names_of d) p r → TakesPart (forms_of d) (names_of d) p.parts q.begun p.last part r
   part_of r n h = takes_part (forms_of d) (names_of d) p.parts p.begun q.begun p.last part r n h wanted_first
@@ -444,19 +483,40 @@ next_falls d w p a z zs names ascends off (Some x) h t = go x.last h.1 t
         let tells = t k n.0 h.0.1.2 there in
         falls d w p a z zs names k x.order h.0.1 i (sym e) n.0 n.1 (λ l. let q : true ≡ false = sym (tells.1 l) ∙ off in cc)
 
+pub rises_so : (d : Definitions) (w : Writing) (p : Place) (ascent : Option Ascent) (above : Bool) → ascent ≡ p.ascent → above ≡ true → TellsAscent d w.bytes.now ascent w.walk.offset above → RisesAt d w p
+rises_so d w p ascent above e t h = subst (λ (a : Option Ascent). TellsAscent d w.bytes.now a w.walk.offset true) e (subst (λ b. TellsAscent d w.bytes.now ascent w.walk.offset b) t h)
+
+abbrev Before : Definitions → Writing → List ℕ → Option ℕ → Type 0
+Before d w k s = IfSome (option_map (λ i. drop i w.bytes.now) s) (λ earlier. (r : Ordering) → ValuesCompare d k earlier w.walk.left.now r → r ≡ Less)
+
+-- the next part is above the last one
+pub part_rises : (d : Definitions) (w : Writing) (p : Place) (a : IsWritingAt d w p) → RisesAt d w p → IsRisen (forms_of d) w.bytes.now a.mark w.walk.left.now
+part_rises d w p a tells k e = go p.ascent a.here.0 (subst (λ (o : Option (List ℕ)). IsComparing d w.bytes.now p.ascent o) e a.here.2) tells
+  where
+    left : w.walk.left.now ≡ drop w.walk.offset w.bytes.now
+    left = sym (ap (λ j. drop j w.bytes.now) (at_offset d w p a) ∙ last_there w.bytes.now a.state.done w.walk.left.now w.walk.left.now a.state.halved.joined refl)
+
+    by : (x : Ascent) → OrderedBy d k x.order → (last : Option ℕ) → last ≡ a.mark.1 → MatchOption last (true ≡ true) (λ i. (k : List ℕ) (r : Ordering) → OrderedBy d k x.order → ValuesCompare d k (drop i w.bytes.now) (drop w.walk.offset w.bytes.now) r → Decides true (r ≡ Less)) → Before d w k a.mark.1
+    by x o None q t = subst (Before d w k) q tt
+    by x o (Some i) q t = subst (Before d w k) q (λ r v. (t k r o (subst (λ b. ValuesCompare d k (drop i w.bytes.now) b r) left v)).0 refl)
+
+    go : (ascent : Option Ascent) → IsAscending d w.bytes.now ascent a.mark → IsComparing d w.bytes.now ascent (Some k) → TellsAscent d w.bytes.now ascent w.walk.offset true → Before d w k a.mark.1
+    go None h c t = absurd c
+    go (Some x) h c t = by x c x.last h.1 t
+
 -- a key that is no entry's was written, or none
 pub key_begun : (d : Definitions) (w new : Writing) (p : Place) (part : FoundPart) → IsWritingAt d w p → IsBegunOf d w.walk.offset p w.position.place part → ((es : FoundEntries) → part.key ≡ EntryOf es → ⊥)
-    → Adds (key_tokens part.key) w.out new.out → new.walk ≡ w.walk → new.position ≡ w.position → new.bytes ≡ w.bytes → (x : List ℕ) × IsAt (names_of d) part.at x × IsAwaitingAt d new x
-key_begun d w new p part a b n t walk position bytes =
+    → RisesAt d w p → Adds (key_tokens part.key) w.out new.out → new.walk ≡ w.walk → new.position ≡ w.position → new.bytes ≡ w.bytes → (x : List ℕ) × IsAt (names_of d) part.at x × IsAwaitingAt d new x
+key_begun d w new p part a b n tells t walk position bytes =
     let F = forms_of d in
     let ns = names_of d in
     let root = root_of d.plan.now in
     let s = a.state in
     let q = w.position.place in
-    let m : Mark = (a.mark.0, Some (length s.done)) in
+    let m : Mark = (a.mark.0, Some (length s.done), a.mark.2) in
     let h = part_of d w.walk.offset p q part b s.inner n s.here in
-    let r = awaits F ns root w.bytes.now p q w.position.outer.items a.mark a.marks w.walk.left.now (output_tokens w.out) (output_tokens new.out) s b.1 part b.2 h t.tokens in
-    let here : IsMarked d w.bytes.now q m = (its_ascent d w.walk.offset p q part b w.bytes.now a.mark (length s.done) (at_offset d w p a) a.here.0, λ es k e. absurd (n es (its_entries d w.walk.offset p q part b s.inner es k s.here (sym b.1 ∙ e)))) in (
+    let r = awaits F ns root w.bytes.now p q w.position.outer.items a.mark a.marks w.walk.left.now (output_tokens w.out) (output_tokens new.out) s b.1 part b.2 h t.tokens (part_rises d w p a tells) in
+    let here : IsMarked d w.bytes.now q m = (its_ascent d w.walk.offset p q part b w.bytes.now a.mark (length s.done) (at_offset d w p a) a.here.0, (λ es k e. absurd (n es (its_entries d w.walk.offset p q part b s.inner es k s.here (sym b.1 ∙ e)))), its_turn d w.walk.offset p q part b w.bytes.now a.mark.2 a.here.2) in (
       h.name,
       h.named,
       record {
@@ -489,10 +549,10 @@ module _ (d : Definitions) (w new : Writing) (p : Place) (part : FoundPart) (es 
     entry_keys = keys_of_form (forms_of d) (names_of d) t.key (form_of es.key_definition.now) (form_of n.definition.now) es.key_kind t.keys t.kind entry_opened.0
 
     -- the key was written
-    pub entry_awaits : (key : EntryKey) (names : List (List ℕ)) (s : List ℕ) → IsBegunOf d w.walk.offset p w.position.place part → part.key ≡ EntryOf es → new.position.place.ascent ≡ w.position.place.ascent → new.walk.plan.now ≡ d.plan.now → IsWalker new.walk → new.bytes ≡ w.bytes → new.position.outer.items ≡ w.position.outer.items → new.position.place.last ≡ Some key
+    pub entry_awaits : (key : EntryKey) (names : List (List ℕ)) (s : List ℕ) → IsBegunOf d w.walk.offset p w.position.place part → RisesAt d w p → part.key ≡ EntryOf es → new.position.place.ascent ≡ w.position.place.ascent → new.walk.plan.now ≡ d.plan.now → IsWalker new.walk → new.bytes ≡ w.bytes → new.position.outer.items ≡ w.position.outer.items → new.position.place.last ≡ Some key
         → Opens (shapes (forms_of d)) (shape_of_form (form_of n.definition.now)) n.bytes.now names → names ≡ [] → IsEntryKey es.key_kind key s → Adds (Token.key s ∷ []) w.out new.out → SaysFirst (forms_of d) t.key (key_json t.keys s) n.bytes.now [] → IsAbove t.keys t.before s
         → (x : List ℕ) × IsAt (names_of d) part.at x × IsAwaitingAt d new x
-    entry_awaits key names s b entry ascent plan walk bytes outer last opens none k adds says above =
+    entry_awaits key names s b tells entry ascent plan walk bytes outer last opens none k adds says above =
         let F = forms_of d in
         let ns = names_of d in
         let root = root_of d.plan.now in
@@ -502,15 +562,17 @@ module _ (d : Definitions) (w new : Writing) (p : Place) (part : FoundPart) (es 
         let o = subst (λ l. Opens (shapes F) (shape_of_form (form_of n.definition.now)) n.bytes.now l) none opens in
         let h = halved_on F ns root w.bytes.now t.key (shape_of_form (form_of n.definition.now)) v.done w.walk.left.now n.bytes.now new.walk.left.now [] rest node.bytes (λ r. node_on d w new.walk es.key t.key a.writer.plan t.key_named found n is g v.done [] rest o r) entry_next in
         let m = opens_member (shapes F) (shape_of_form (form_of n.definition.now)) n.bytes.now [] [] (node_shape d w new.walk es.key t.key a.writer.plan t.key_named found n is g) o no_members in
-        let k2 : Mark = (a.mark.0, Some (length v.done)) in
+        let k2 : Mark = (a.mark.0, Some (length v.done), a.mark.2) in
+        let full = key_full F ns t.key (form_of n.definition.now) es.key_kind t.keys entry_keys in
+        let first : IsDueAs F t.key n.bytes.now [] None = λ ds after c. plain n.bytes.now [] full (key_free F ns t.key (form_of n.definition.now) es.key_kind t.keys entry_keys) (subst (λ l. IsOnly F t.key n.bytes.now l) none (same_only F (form_of n.definition.now) names entry_opened.0 opens (node_only d w new.walk es.key t.key a.writer.plan t.key_named found n is g))) c in
         let keyed : IsKeyed d w.bytes.now new.position.place.parts new.position.place.last k2 = λ fs c e.
         (let q : EntryOf es ≡ EntryOf fs = sym entry ∙ its_entries d w.walk.offset p w.position.place part b v.inner fs c v.here (sym parts ∙ e) in
         let same : es ≡ fs = cc in
         let order = (a.here.1 fs c (sym parts ∙ e)).0 in
         let there = subst (λ (fs : FoundEntries). IsLastKey d w.bytes.now fs (Some key) (Some (length v.done))) same (length v.done, t.key, t.keys, s, n.bytes.now, new.walk.left.now, refl, t.key_named, t.kind, k, says, last_there w.bytes.now v.done w.walk.left.now (n.bytes.now ++ new.walk.left.now) v.halved.joined node.bytes) in
         (order, subst (λ (l : Option EntryKey). IsLastKey d w.bytes.now fs l (Some (length v.done))) (sym last) there)) in
-        let here : IsMarked d w.bytes.now new.position.place k2 = (subst (λ (o : Option Ascent). IsAscending d w.bytes.now o k2) (sym ascent) (its_ascent d w.walk.offset p w.position.place part b w.bytes.now a.mark (length v.done) (at_offset d w p a) a.here.0), keyed) in
-        let r = awaits_entry F ns root w.bytes.now p new.position.place w.position.outer.items a.mark a.marks w.walk.left.now (output_tokens w.out) (output_tokens new.out) v parts es part t n.bytes.now new.walk.left.now key s last k says above (subst (λ b. Member (shapes F) t.key b) (append-nil n.bytes.now) m) h adds.tokens in (
+        let here : IsMarked d w.bytes.now new.position.place k2 = (subst (λ (o : Option Ascent). IsAscending d w.bytes.now o k2) (sym ascent) (its_ascent d w.walk.offset p w.position.place part b w.bytes.now a.mark (length v.done) (at_offset d w p a) a.here.0), keyed, subst (λ (o : Option Ascent). IsComparing d w.bytes.now o a.mark.2) (sym ascent) (its_turn d w.walk.offset p w.position.place part b w.bytes.now a.mark.2 a.here.2)) in
+        let r = awaits_entry F ns root w.bytes.now p new.position.place w.position.outer.items a.mark a.marks w.walk.left.now (output_tokens w.out) (output_tokens new.out) v parts es part t n.bytes.now new.walk.left.now key s last k says above (subst (λ b. Member (shapes F) t.key b) (append-nil n.bytes.now) m) h adds.tokens (part_rises d w p a tells) node.bytes (pair_due F t.pair t.key t.value t.defined full) first in (
           t.value,
           t.named,
           record {
@@ -562,10 +624,11 @@ place_ended d w new p a g t walk bytes false left all =
     let root = root_of d.plan.now in
     let s = a.state in
     let e = place_ends F ns p.parts p.begun (128 - length s.around) p.last s.inner s.here g in
-    let r = end_whole F ns root w.bytes.now p w.position.outer.items a.mark a.marks w.walk.left.now (output_tokens w.out) (output_tokens new.out) (ends_of p.parts) s e.0 e.1 t.tokens (all refl) in
+    let r = end_whole F ns root w.bytes.now p w.position.outer.items a.mark a.marks w.walk.left.now (output_tokens w.out) (output_tokens new.out) (ends_of p.parts) s e.0 e.1 t.tokens (all refl) (subst (λ (ps : List Place). AreEach (IsMarked d w.bytes.now) ps a.marks) (all refl) a.around) in
     record {
       fresh = t.before ∙ a.writer.fresh;
-      whole = subst (λ (b : Bor (List ℕ)). IsWhole F root (output_tokens new.out) b.now) (sym bytes) r;
+      whole = subst (λ (b : Bor (List ℕ)). IsWhole F root (output_tokens new.out) b.now) (sym bytes) r.0;
+      rises = subst (λ (b : Bor (List ℕ)). AreChecked F (one root ∷ []) b.now) (sym bytes) r.1;
     }
 
 -- the order of a place was looked at

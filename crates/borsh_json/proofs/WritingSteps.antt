@@ -1,5 +1,6 @@
 -- Where the writer is after each step.
-use Rattle.std.proofs.Common.{◌≡◌, ℕ, ◌+◌, ◌-◌, ◌<◌, ◌≤◌, List, [], ◌∷◌, ◌++◌, length, replicate, Option, Some, None, refl, sym, ◌∙◌, ap, subst, arith, append_assoc, append-nil}
+use Rattle.std.proofs.Common.{◌≡◌, ℕ, ◌+◌, ◌-◌, ◌<◌, ◌≤◌, List, [], ◌∷◌, ◌++◌, length, replicate, drop, Option, Some, None, refl, sym, ◌∙◌, ap, subst, arith, append_assoc, append-nil}
+use Rattle.std.proofs.Math.Seq.{drop-append_seam}
 use Rattle.json.specs.Token.{Token}
 use Rattle.json.specs.Tree.{json_tokens}
 use Rattle.borsh_walks.specs.Container.{Shape, product, IsIn, first, later, Member}
@@ -14,14 +15,16 @@ use Rattle.borsh_json.specs.declared.position.Parts.{Parts}
 use Rattle.borsh_json.specs.declared.position.Parts.TheVariants.{Root}
 use Rattle.borsh_json.specs.declared.position.Place.{Place}
 use Rattle.borsh_json.specs.declared.sources.EntryKey.{EntryKey}
+use Rattle.borsh_json.specs.Checked.{one, AreChecked, nothing_due}
 use Rattle.borsh_json.specs.Forms.{Form, shapes, HasNoBytes}
 use Rattle.borsh_json.specs.Frames.{IsEntryKey}
 use Rattle.borsh_json.specs.Leaves.{output_tokens, WritesLeaf}
 use Rattle.borsh_json.specs.Places.{IsAt}
 use Rattle.borsh_json.specs.Represents.{SaysFirst, HaveBytes, next_part}
 use Rattle.borsh_json.specs.Table.{Part, key_json}
-use Rattle.borsh_json.specs.Writes.{Rest, value_rest, entries_rest, names_of_rest, names_of_all, IsAbove, MayFollow, MayFollowAll, IsLast, IsWhole, Begins, opened, Nested, unread, entered, passed, Mark, AreLevels, no_levels, level, no_place, IsHalved, IsRestOf, IsRest, AreRests, IsWriting, IsAwaiting, WritesFront}
+use Rattle.borsh_json.specs.Writes.{Rest, value_rest, entries_rest, names_of_rest, names_of_all, IsAbove, MayFollow, MayFollowAll, IsLast, IsWhole, Begins, opened, Nested, unread, entered, passed, Mark, AreLevels, no_levels, level, no_place, IsHalved, IsRestOf, IsRest, AreRests, IsCheckedTo, IsWriting, IsAwaiting, WritesFront}
 use Rattle.borsh_json.proofs.WritingLaws.{begins, ends, key_written, leaf_written, front_written, end_written, entry_taken}
+use Rattle.borsh_json.proofs.CheckedLaws.{IsDueAs, IsRisen, nothing_owed, starts_checked, next_checked, entry_checked, front_checked, end_checked}
 use Rattle.borsh_json.proofs.NestedLaws.{settled}
 use Rattle.borsh_json.proofs.WritingPlaces.{key_tokens, TakesPart, TakesEntry, each_pushed, each_popped}
 
@@ -43,7 +46,7 @@ module _ (F : List ℕ → Option Form) (root : List ℕ) where
 
 module _ (F : List ℕ → Option Form) (ns : List Named) (root bytes : List ℕ) where
   -- in front of the root
-  pub writing_start : (p : Place) (ps : List Place) (written : List Token) → p.parts ≡ Root → p.begun ≡ 0 → ps ≡ [] → written ≡ [] → IsAt ns 0 root → Member (shapes F) root bytes → IsWriting F ns root bytes p ps ([], None) [] bytes written
+  pub writing_start : (p : Place) (ps : List Place) (written : List Token) → p.parts ≡ Root → p.begun ≡ 0 → ps ≡ [] → written ≡ [] → IsAt ns 0 root → Member (shapes F) root bytes → IsWriting F ns root bytes p ps ([], None, None) [] bytes written
   writing_start p ps written e f g t i m =
       let inner = value_rest (root ∷ []) in
       record {
@@ -57,16 +60,20 @@ module _ (F : List ℕ → Option Form) (ns : List Named) (root bytes : List ℕ
         outer = [];
         levels = no_levels;
         nested = unread;
+        rises = starts_checked F bytes root;
         begun = begun_so F root (MayFollowAll (inner ∷ [])) [] written [] [] t refl (begins F root);
       }
+
+  behind_done : (done left : List ℕ) → bytes ≡ done ++ left → drop (length done) bytes ≡ left
+  behind_done done left e = ap (λ b. drop (length done) b) e ∙ drop-append_seam done left
 
   module _ (p q : Place) (ps : List Place) (m : Mark) (ms : List Mark) (left : List ℕ) (written new : List Token) (w : IsWriting F ns root bytes p ps m ms left written) (parts : q.parts ≡ p.parts) where
     room_for : (128 - length w.around) + length w.around ≡ 128
     room_for = let r = w.room in omega (arith, r)
 
     -- a part comes next, whose key was written
-    pub awaits : (part : FoundPart) → q.last ≡ p.last → (t : TakesPart F ns p.parts q.begun p.last part w.inner) → new ≡ written ++ key_tokens part.key → IsAwaiting F ns root bytes t.name (128 - length w.around) q ps (m.0, Some (length w.done)) ms left new
-    awaits part last t e =
+    pub awaits : (part : FoundPart) → q.last ≡ p.last → (t : TakesPart F ns p.parts q.begun p.last part w.inner) → new ≡ written ++ key_tokens part.key → IsRisen F bytes m left → IsAwaiting F ns root bytes t.name (128 - length w.around) q ps (m.0, Some (length w.done), m.2) ms left new
+    awaits part last t e rises =
         record {
           inner = t.rest;
           around = w.around;
@@ -79,8 +86,9 @@ module _ (F : List ℕ → Option Form) (ns : List Named) (root bytes : List ℕ
           before = m.1;
           beside = names_of_rest t.rest;
           outer = w.outer;
-          levels = level t.rest (m.0, Some (length w.done)) w.levels;
+          levels = level t.rest (m.0, Some (length w.done), m.2) w.levels;
           nested = subst (λ l. Nested (shapes F) root (opened m.0 m.1 l ∷ w.outer) w.done) t.names w.nested;
+          rises = next_checked F bytes root m w.inner t.rest t.name w.done left t.names (behind_done w.done left w.halved.joined) rises w.rises;
           begun = begun_so F root _ _ new _ w.done e (sym (append-nil w.done)) (key_written F root w.inner t.rest w.around t.name (key_tokens part.key) [] [] (128 - length w.around) written w.done room_for t.taken (λ ps bs h. h) w.begun);
         }
 
@@ -105,8 +113,9 @@ module _ (F : List ℕ → Option Form) (ns : List Named) (root bytes : List ℕ
       -- its key was written
       pub awaits_entry : (own after : List ℕ) (key : EntryKey) (s : List ℕ) → q.last ≡ Some key → IsEntryKey es.key_kind key s → SaysFirst F t.key (key_json t.keys s) own [] → IsAbove t.keys t.before s → Member (shapes F) t.key own
           → IsHalved F root bytes (w.done ++ own) after (t.value ∷ (replicate t.count t.pair ++ names_of_all w.around)) → new ≡ written ++ Token.key s ∷ []
-          → IsAwaiting F ns root bytes t.value (128 - length w.around) q ps (m.0, Some (length w.done)) ms after new
-      awaits_entry own after key s last k says above member halved e =
+          → IsRisen F bytes m left → left ≡ own ++ after → IsDueAs F t.pair [] (t.key ∷ t.value ∷ []) None → IsDueAs F t.key own [] None
+          → IsAwaiting F ns root bytes t.value (128 - length w.around) q ps (m.0, Some (length w.done), m.2) ms after new
+      awaits_entry own after key s last k says above member halved e rises joins pair begins =
           let rest = entries_rest t.keys t.key t.value t.pair t.count (Some s) in
           record {
             inner = rest;
@@ -120,8 +129,9 @@ module _ (F : List ℕ → Option Form) (ns : List Named) (root bytes : List ℕ
             before = Some (length w.done);
             beside = [];
             outer = opened m.0 (Some (length w.done)) (replicate t.count t.pair) ∷ w.outer;
-            levels = no_place t.pair (Some (length (w.done ++ own))) (level rest (m.0, Some (length w.done)) w.levels);
+            levels = no_place t.pair (Some (length (w.done ++ own))) (level rest (m.0, Some (length w.done), m.2) w.levels);
             nested = passed entry_nested member;
+            rises = entry_checked F bytes root m w.inner rest t.pair t.key t.value own after w.done left names_there (behind_done w.done left w.halved.joined) rises joins pair begins w.rises;
             begun = begun_so F root _ _ new _ (w.done ++ own) e refl (key_written F root w.inner rest w.around t.value (Token.key s ∷ []) ((t.key, key_json t.keys s) ∷ []) own (128 - length w.around) written w.done room_for
                 (λ i j ts qs nj dj m. subst (λ r. MayFollow r i (Token.key s ∷ (json_tokens j ++ ts)) ((t.key, key_json t.keys s) ∷ (t.value, j) ∷ qs)) (sym t.is) (entry_taken t.keys t.key t.value t.pair t.count t.before s above i j ts qs nj dj m))
                 (λ ps bs h. next_part says.0 own [] says.1 says.2 h) w.begun);
@@ -136,8 +146,8 @@ module _ (F : List ℕ → Option Form) (ns : List Named) (root bytes : List ℕ
 
   module _ (x : List ℕ) (n : ℕ) (p : Place) (ps : List Place) (m : Mark) (ms : List Mark) (left : List ℕ) (old : Output) (a : IsAwaiting F ns root bytes x n p ps m ms left (output_tokens old)) (own after : List ℕ) (new : Output) where
     -- a value was written whole
-    pub leaf_writes : (k : ℕ) (zeros : List (List ℕ)) → k ≤ n → Nested (shapes F) root (opened a.value (Some (length a.done)) a.beside ∷ a.outer) (a.done ++ own) → WritesLeaf F k x own old new → ((y : List ℕ) → IsIn y zeros → HasNoBytes F y) → IsHalved F root bytes (a.done ++ own) after (zeros ++ names_of_all (a.inner ∷ a.around)) → IsWriting F ns root bytes p ps m ms after (output_tokens new)
-    leaf_writes k zeros l nested leaf z h =
+    pub leaf_writes : (k : ℕ) (zeros : List (List ℕ)) → k ≤ n → Nested (shapes F) root (opened a.value (Some (length a.done)) a.beside ∷ a.outer) (a.done ++ own) → WritesLeaf F k x own old new → ((y : List ℕ) → IsIn y zeros → HasNoBytes F y) → IsHalved F root bytes (a.done ++ own) after (zeros ++ names_of_all (a.inner ∷ a.around)) → IsCheckedTo F root bytes [] (m ∷ ms) (a.inner ∷ a.around) after → IsWriting F ns root bytes p ps m ms after (output_tokens new)
+    leaf_writes k zeros l nested leaf z h rises =
         let s = settled (shapes F) root nested a.levels in
         record {
           inner = a.inner;
@@ -150,12 +160,13 @@ module _ (F : List ℕ → Option Form) (ns : List Named) (root bytes : List ℕ
           outer = s.0;
           levels = s.1;
           nested = s.2;
+          rises = rises;
           begun = begun_so F root _ _ (output_tokens new) _ (a.done ++ own) leaf.adds.tokens refl (leaf_written F root (a.inner ∷ a.around) x n leaf.json own (output_tokens old) a.done leaf.numbers (let d = leaf.nests in omega (arith, d, l)) leaf.says a.begun);
         }
 
     -- or its beginning
-    pub front_writes : (d : Shape) (r : Rest) (q : Place) (qs : List Place) → length a.around < 128 → shapes F x ≡ Some d → Opens (shapes F) d own (names_of_rest r) → IsRest F ns q r → WritesFront F x own r old new → qs ≡ ps ++ p ∷ [] → IsHalved F root bytes (a.done ++ own) after (names_of_rest r ++ names_of_all (a.inner ∷ a.around)) → IsWriting F ns root bytes q qs (x, None) (m ∷ ms) after (output_tokens new)
-    front_writes d r q qs l c o k f e h =
+    pub front_writes : (d : Shape) (r : Rest) (q : Place) (qs : List Place) → length a.around < 128 → shapes F x ≡ Some d → Opens (shapes F) d own (names_of_rest r) → IsRest F ns q r → WritesFront F x own r old new → qs ≡ ps ++ p ∷ [] → IsHalved F root bytes (a.done ++ own) after (names_of_rest r ++ names_of_all (a.inner ∷ a.around)) → (keys : Option (List ℕ)) → left ≡ own ++ after → IsDueAs F x own (names_of_rest r) keys → IsWriting F ns root bytes q qs (x, None, keys) (m ∷ ms) after (output_tokens new)
+    front_writes d r q qs l c o k f e h keys joins due =
         record {
           inner = r;
           around = a.inner ∷ a.around;
@@ -167,6 +178,7 @@ module _ (F : List ℕ → Option Form) (ns : List Named) (root bytes : List ℕ
           outer = opened a.value (Some (length a.done)) a.beside ∷ a.outer;
           levels = a.levels;
           nested = entered d own a.nested c o;
+          rises = front_checked F bytes root x own after left r keys joins due a.rises;
           begun = begun_so F root _ _ (output_tokens new) _ (a.done ++ own) f.adds.tokens refl (front_written F root r (a.inner ∷ a.around) x n f.front own (output_tokens old) a.done (let m = a.room in omega (arith, m)) f.whole a.begun);
         }
 
@@ -176,6 +188,9 @@ module _ (F : List ℕ → Option Form) (ns : List Named) (root bytes : List ℕ
 
     after_end : IsHalved F root bytes w.done left (names_of_all w.around)
     after_end = subst (λ l. IsHalved F root bytes w.done left l) (ap (λ l. l ++ names_of_all w.around) none) w.halved
+
+    rises_after : IsCheckedTo F root bytes [] ms w.around left
+    rises_after = end_checked F bytes root m w.inner left none w.rises
 
     -- the writer goes back to the place around
     pub end_writes : (q : Place) (qs : List Place) (k : Mark) (ks : List Mark) → ps ≡ qs ++ q ∷ [] → ms ≡ k ∷ ks → IsWriting F ns root bytes q qs k ks left new
@@ -194,15 +209,17 @@ module _ (F : List ℕ → Option Form) (ns : List Named) (root bytes : List ℕ
           outer = s.0;
           levels = s.1;
           nested = s.2;
+          rises = subst (λ (ks : List Mark). IsCheckedTo F root bytes [] ks (t.0 ∷ t.1) left) e (subst (λ (rs : List Rest). IsCheckedTo F root bytes [] ms rs left) t.4 rises_after);
           begun = subst (λ l. Begins F root (MayFollowAll l) new w.done) t.4 ended;
         }
 
     -- or the value has ended
-    pub end_whole : ps ≡ [] → IsWhole F root new bytes
-    end_whole f =
+    pub end_whole : ps ≡ [] → ms ≡ [] → IsWhole F root new bytes × AreChecked F (one root ∷ []) bytes
+    end_whole f g =
         let z : w.around ≡ [] = subst (λ (ps : List Place). AreRests F ns ps w.around) f w.there in
         let h = subst (λ l. IsHalved F root bytes w.done left (names_of_all l)) z after_end in
         let l = read_end (shapes F) h.read in
         let b : bytes ≡ w.done = h.joined ∙ ap (λ l. w.done ++ l) l ∙ append-nil w.done in
         let r = ends F root new w.done (subst (λ l. Begins F root (MayFollowAll l) new w.done) z ended) in
-        (r.0, r.1, r.2, r.3, subst (λ b. HaveBytes F ((root, r.0) ∷ []) b) (sym b) r.4)
+        let t = subst (λ (ks : List Mark). IsCheckedTo F root bytes [] ks [] left) g (subst (λ (rs : List Rest). IsCheckedTo F root bytes [] ms rs left) z rises_after) in
+        ((r.0, r.1, r.2, r.3, subst (λ b. HaveBytes F ((root, r.0) ∷ []) b) (sym b) r.4), t.checked (subst (λ b. AreChecked F t.dues b) (sym l) (subst (λ ds. AreChecked F ds []) (sym (nothing_owed F bytes t.owed)) nothing_due)))

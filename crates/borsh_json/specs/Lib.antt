@@ -16,6 +16,7 @@ pub mod Found
 pub mod Descents
 pub mod Orders
 pub mod Names
+pub mod Checked
 pub mod Frames
 pub mod Leaves
 pub mod Printed

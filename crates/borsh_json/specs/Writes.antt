@@ -1,5 +1,5 @@
 -- What was written of a value, and the JSON that may still follow: the invariant of the writer's loop.
-use Rattle.std.specs.Prelude.{◌≡◌, ◌⊎◌, ⊤, ℕ, suc, ◌+◌, ◌≤◌, List, [], ◌∷◌, ◌++◌, length, map, replicate, drop, Bool, true, false, Decides, Option, Some, None, Result, MatchResult, MatchOption}
+use Rattle.std.specs.Prelude.{◌≡◌, ◌⊎◌, ⊤, ℕ, suc, ◌+◌, ◌≤◌, List, [], ◌∷◌, ◌++◌, length, map, replicate, drop, Bool, true, false, Decides, Option, Some, None, Result, MatchResult, MatchOption, IfSome, option_map}
 use Rattle.std.specs.declared.cmp.Ordering.{Ordering as Comparison}
 use Rattle.std.specs.declared.cmp.Ordering.TheVariants.{Less}
 use Rattle.std.specs.Borrow.{Bor}
@@ -8,7 +8,7 @@ use Rattle.json.specs.Json.{Json, null, Items, Members, no_members, member}
 use Rattle.json.specs.Tree.{json_tokens, items_tokens, members_tokens, depth, items_depth, members_depth, HasNumbers, ItemsHaveNumbers, MembersHaveNumbers}
 use Rattle.borsh_walks.specs.Container.{Shape, product, IsIn, Member}
 use Rattle.borsh_plan.specs.Plan.{root_of}
-use Rattle.borsh_values.specs.Nodes.{Opens}
+use Rattle.borsh_values.specs.Nodes.{Opens, AreElementsOf}
 use Rattle.borsh_values.specs.Walks.{IsReadTo, IsWalker}
 use Rattle.borsh_values.specs.Membership.{IsUndecided}
 use Rattle.borsh_plan.specs.declared.named.Named.{Named}
@@ -23,6 +23,7 @@ use Rattle.borsh_json.specs.declared.error.JsonError.{JsonError}
 use Rattle.borsh_json.specs.declared.error.JsonError.TheVariants.{OutOfMemory as NoMemory, NoMember, NoValue, Ambiguous, NotJson, Refused as RefusedBytes}
 use Rattle.borsh_json.specs.declared.error.WriteError.{WriteError}
 use Rattle.borsh_json.specs.declared.error.WriteError.TheVariants.{OutOfMemory, Refused, Element}
+use Rattle.borsh_json.specs.declared.kinds.Elements.{Elements as FoundElements}
 use Rattle.borsh_json.specs.declared.kinds.Entries.{Entries as FoundEntries}
 use Rattle.borsh_json.specs.declared.kinds.KeyKind.{KeyKind}
 use Rattle.borsh_json.specs.declared.kinds.Kind.{Kind as Found}
@@ -36,9 +37,10 @@ use Rattle.borsh_json.specs.declared.position.Part.{Part as FoundPart}
 use Rattle.borsh_json.specs.declared.position.Place.{Place}
 use Rattle.borsh_json.specs.declared.sources.EntryKey.{EntryKey}
 use Rattle.borsh_json.specs.declared.writing.Writing.{Writing}
+use Rattle.borsh_json.specs.Checked.{Due, one, ascending, AreChecked}
 use Rattle.borsh_json.specs.Descents.{HasDescent}
 use Rattle.borsh_json.specs.Forms.{Form, form_of, shape_of_form, shapes, HasNoBytes}
-use Rattle.borsh_json.specs.Frames.{Wanted, IsWanted, IsEntryKey, IsOf, GivesPart}
+use Rattle.borsh_json.specs.Frames.{Wanted, IsWanted, IsEntryKey, IsOf, GivesPart, NoneFalls}
 use Rattle.borsh_json.specs.Found.{forms_of, names_of}
 use Rattle.borsh_json.specs.Places.{IsAt, AreKeysOf, IsKindOf}
 use Rattle.borsh_json.specs.Orders.{HasKeyOrder, KindHasOrder, OrderedBy, ValuesCompare}
@@ -152,9 +154,11 @@ leaf_depth (Optional at) = 0
 leaf_depth (Choice w vs) = 0
 leaf_depth (Repeated name) = 0
 
--- none of the parts was begun, and an object of entries is a map's; the order of parts isn't set
+-- none of the parts was begun, and an object of entries is a map's; the order of parts isn't set, and a list isn't refused
 abbrev pub IsNewPlace : Found → Place → Type 0
-IsNewPlace kind p = (p.ascent ≡ None) × (p.last ≡ None) × ((es : FoundEntries) (n : ℕ) → p.parts ≡ MapEntries es n → (order : Ordered) × (kind ≡ Map es order))
+IsNewPlace kind p =
+    (p.ascent ≡ None) × (p.last ≡ None) × ((es : FoundEntries) (n : ℕ) → p.parts ≡ MapEntries es n → (order : Ordered) × (kind ≡ Map es order))
+    × ((es : FoundElements) → kind ≡ ListKind es → es.is_refused ≡ false)
 
 -- each of these is of a place: the places the outermost first, these the innermost first
 abbrev pub AreEach : {A : Type 0} → (Place → A → Type 0) → List Place → List A → Type 0
@@ -174,9 +178,9 @@ module _ (C : List ℕ → Option Shape) (root : List ℕ) where
     entered : {x y before : List ℕ} {s : Option ℕ} {xs parts : List (List ℕ)} {ls : List Level} (d : Shape) (own : List ℕ) → Nested (opened y s (x ∷ xs) ∷ ls) before → C x ≡ Some d → Opens C d own parts → Nested (opened x None parts ∷ opened y (Some (length before)) xs ∷ ls) (before ++ own)
     passed : {x y before own : List ℕ} {s : Option ℕ} {xs : List (List ℕ)} {ls : List Level} → Nested (opened y s (x ∷ xs) ∷ ls) before → Member C x own → Nested (opened y (Some (length before)) xs ∷ ls) (before ++ own)
 
--- the name of a place's value, and where its last part begins
+-- the name of a place's value, where its last part begins, and the name of the keys if these have to ascend
 abbrev pub Mark : Type 0
-Mark = List ℕ × Option ℕ
+Mark = List ℕ × Option ℕ × Option (List ℕ)
 
 -- the names are those that are left of the places; of values around their parts, of which all are begun, there is no place: of the entries of maps
 pub data AreLevels : List Rest → List Mark → List Level → Type 0 where
@@ -184,7 +188,20 @@ pub data AreLevels : List Rest → List Mark → List Level → Type 0 where
   level : {rs : List Rest} {ms : List Mark} {ls : List Level} (r : Rest) (m : Mark) → AreLevels rs ms ls → AreLevels (r ∷ rs) (m ∷ ms) (opened m.0 m.1 (names_of_rest r) ∷ ls)
   no_place : {rs : List Rest} {ms : List Mark} {ls : List Level} (x : List ℕ) (s : Option ℕ) → AreLevels rs ms ls → AreLevels rs ms (opened x s [] ∷ ls)
 
+-- of each place the names that are left are due, or so many elements, whose keys ascend from its last part on
+module _ (bytes : List ℕ) where
+  pub data AreOwed : List Mark → List Rest → List Due → Type 0 where
+    none_owed : AreOwed [] [] []
+    names_owed : {ms : List Mark} {rs : List Rest} {ds : List Due} (x : List ℕ) (s : Option ℕ) (r : Rest) → AreOwed ms rs ds → AreOwed ((x, s, None) ∷ ms) (r ∷ rs) (map one (names_of_rest r) ++ ds)
+    elements_owed : {ms : List Mark} {rs : List Rest} {ds : List Due} (x : List ℕ) (s : Option ℕ) (r : Rest) (e k : List ℕ) (n : ℕ) → names_of_rest r ≡ replicate n e → AreOwed ms rs ds → AreOwed ((x, s, Some k) ∷ ms) (r ∷ rs) (ascending e k n (option_map (λ i. drop i bytes) s) ∷ ds)
+
 module _ (F : List ℕ → Option Form) where
+  -- behind what is read these names and then the parts of the places are due; the whole is checked if these are in the bytes that are left
+  pub record IsCheckedTo (root bytes : List ℕ) (xs : List (List ℕ)) (ms : List Mark) (rs : List Rest) (left : List ℕ) : Type 0 where
+    pub dues : List Due
+    pub owed : AreOwed bytes ms rs dues
+    pub checked : AreChecked F (map one xs ++ dues) left → AreChecked F (one root ∷ []) bytes
+
   -- these tokens are JSON of the root that can be printed and read, and says these bytes
   abbrev pub IsWhole : List ℕ → List Token → List ℕ → Type 0
   IsWhole root ts bs = (j : Json) × (ts ≡ json_tokens j) × HasNumbers j × (depth j ≤ 128) × HaveBytes F ((root, j) ∷ []) bs
@@ -267,6 +284,7 @@ module _ (F : List ℕ → Option Form) where
       pub outer : List Level
       pub levels : AreLevels around ms outer
       pub nested : Nested (shapes F) root (opened m.0 m.1 (names_of_rest inner) ∷ outer) done
+      pub rises : IsCheckedTo root bytes [] (m ∷ ms) (inner ∷ around) left
       pub begun : Begins root (MayFollowAll (inner ∷ around)) written done
 
     -- in front of a value of this name, which has room for this depth, and then of the rest of the place
@@ -284,12 +302,15 @@ module _ (F : List ℕ → Option Form) where
       pub outer : List Level
       pub levels : AreLevels (inner ∷ around) (m ∷ ms) (opened value (Some (length done)) beside ∷ outer)
       pub nested : Nested (shapes F) root (opened value before (x ∷ beside) ∷ outer) done
+      pub rises : IsCheckedTo root bytes (x ∷ []) (m ∷ ms) (inner ∷ around) left
       pub begun : Begins root (MayFollowFirst x n (inner ∷ around)) written done
 
-    -- of a value of x, whose definition opens these own bytes with these parts, JSON was written whole, and then its parts have no bytes; or it
-    -- was begun, and its parts are those of the place
+    -- of a value of x, whose definition opens these own bytes with these parts, JSON was written whole, and then its parts have no bytes, and its
+    -- elements aren't written one by one; or it was begun, and its parts are those of the place
     abbrev pub IsWrittenAs : Found → List ℕ → Form → List ℕ → Output → Output → Option Place → Type 0
-    IsWrittenAs kind x f own old new None = WritesLeaf F (leaf_depth kind) x own old new × (parts : List (List ℕ)) × Opens (shapes F) (shape_of_form f) own parts × ((y : List ℕ) → IsIn y parts → HasNoBytes F y)
+    IsWrittenAs kind x f own old new None =
+        WritesLeaf F (leaf_depth kind) x own old new × (parts : List (List ℕ)) × Opens (shapes F) (shape_of_form f) own parts × ((y : List ℕ) → IsIn y parts → HasNoBytes F y)
+        × ((es : FoundElements) → kind ≡ ListKind es → ⊥)
     IsWrittenAs kind x f own old new (Some p) = (r : Rest) × IsRest p r × WritesFront x own r old new × Opens (shapes F) (shape_of_form f) own (names_of_rest r) × IsNewPlace kind p
 
     -- a value of x was written whole or begun, or is refused
@@ -377,8 +398,12 @@ module _ (d : Definitions) (bytes : List ℕ) where
   abbrev pub IsKeyed : Parts → Option EntryKey → Mark → Type 0
   IsKeyed parts last m = (es : FoundEntries) (n : ℕ) → parts ≡ MapEntries es n → IsMapOf m.0 es × IsLastKey es last m.1
 
+  -- keys that have to ascend are those of the place's order
+  abbrev pub IsComparing : Option Ascent → Option (List ℕ) → Type 0
+  IsComparing ascent k = IfSome k (λ k. MatchOption ascent ⊥ (λ a. OrderedBy d k a.order))
+
   abbrev pub IsMarked : Place → Mark → Type 0
-  IsMarked p m = IsAscending p.ascent m × IsKeyed p.parts p.last m
+  IsMarked p m = IsAscending p.ascent m × IsKeyed p.parts p.last m × IsComparing p.ascent m.2
 
 -- ---- the writer
 
@@ -413,6 +438,7 @@ module _ (d : Definitions) (w : Writing) where
   pub record HasWritten : Type 0 where
     pub fresh : output_before w.out ≡ []
     pub whole : IsWhole (forms_of d) (root_of d.plan.now) (output_tokens w.out) w.bytes.now
+    pub rises : AreChecked (forms_of d) (one (root_of d.plan.now) ∷ []) w.bytes.now
 
   abbrev pub IsWrittenOn : Bool → Type 0
   IsWrittenOn true = IsWritingAt w.position.place
@@ -449,6 +475,10 @@ abbrev pub IsFullOrFalls : ℕ → Type 0 → PartError → Type 0
 IsFullOrFalls n P NoPartMemory = ⊤
 IsFullOrFalls n P (RefusedPart path refusal) = ((refusal ≡ TooDeep) × (128 ≤ n)) ⊎ ((refusal ≡ Descends) × P)
 
+-- none of the elements in the own bytes of a list falls
+abbrev pub NoneFallsIn : FoundElements → Form → List ℕ → Type 0
+NoneFallsIn es f own = (bytes : List ℕ) → AreElementsOf (shape_of_form f) own bytes → NoneFalls es bytes
+
 -- the refusal is right of the own bytes of a value of a kind
 abbrev pub RefusesElements : ℕ → Found → Node → PartError → Type 0
 RefusesElements depth kind n e =
@@ -464,6 +494,10 @@ BeginsNext (Some a) i new = (b : Ascent) × (new ≡ Some b) × (b.order ≡ a.o
 abbrev pub TellsAscent : Definitions → List ℕ → Option Ascent → ℕ → Bool → Type 0
 TellsAscent d bytes None j ascends = ascends ≡ true
 TellsAscent d bytes (Some a) j ascends = MatchOption a.last (ascends ≡ true) (λ i. (k : List ℕ) (r : Comparison) → OrderedBy d k a.order → ValuesCompare d k (drop i bytes) (drop j bytes) r → Decides ascends (r ≡ Less))
+
+-- the next part of the place is above the last one, where parts have to ascend
+abbrev pub RisesAt : Definitions → Writing → Place → Type 0
+RisesAt d w p = TellsAscent d w.bytes.now p.ascent w.walk.offset true
 
 -- a place's ascent in this order, in front of the first part
 abbrev pub AscendsFrom : Option Ordered → Option Ascent → Type 0

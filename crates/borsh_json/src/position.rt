@@ -1,5 +1,5 @@
 // Where in a value the reader or writer is.
-ghost use Rattle.borsh_json.specs.Words.{AscendsFrom, GivesPart, HasPath, IsElementFall, IsFull, IsOf, IsOfRead, IsOfWrite, IsPartError, IsPath, IsReadRefusal, IsUnreadable, IsUnwritable, Root, Step, TooDeep, element_step, error_steps, first_steps, found_step, place_step, step_of, steps_at, steps_through};
+ghost use Rattle.borsh_json.specs.Words.{AscendsFrom, GivesPart, HasPath, IsElementFall, IsFull, IsOf, IsOfRead, IsOfWrite, IsPartError, IsPath, IsReadRefusal, IsUnreadable, IsUnwritable, NoneFalls, Root, Step, TooDeep, element_step, error_steps, first_steps, found_step, place_step, step_of, steps_at, steps_through};
 ghost use Rattle.borsh_json.specs.declared.error.Refusal.TheVariants.{Descends};
 ghost use Rattle.std.specs.Prelude.{◌≡◌, ◌+◌, ◌^◌, ◌<◌, ◌≤◌, ◌∷◌, ◌++◌, [], true, false, ℕ, List, None, length, map, IfErr, IfOk, IfSome, MatchOption, OnOk};
 
@@ -251,6 +251,7 @@ impl<'a, 'k> Position<'a, 'k> {
         ensures reading { IfErr result (IsPartError IsUnreadable) }
         ensures descends { IfErr result (IsOf Descends) }
         ensures falls { IfErr result (IsElementFall elements bytes.now) }
+        ensures rises { OnOk result (NoneFalls elements bytes.now) }
     {
         let Some(order) = elements.order else {
             return Ok(());

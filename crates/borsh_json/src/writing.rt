@@ -1,5 +1,5 @@
 // A value as JSON.
-ghost use Rattle.borsh_json.specs.Words.{Adds, AreKeysOf, BeginsNext, EntryOf, Form, FoundElements, FoundKeyKind, FoundList, FoundNumbers, FoundPart, HasNode, IsAbove, IsAt, IsAwaitingAt, IsBegunOf, IsEntryKey, IsKeyPut, IsKindOf, IsLast, IsNoJsonReason, IsPartWritten, IsWalker, IsWritingAt, IsWrittenNext, Keys, KindHasOrder, Member, NamedPlace, Place, RefusesElements, SaysBy, ShowsNoJson, StopsBy, TellsAscent, TextSays, definitions_in, definitions_of, ends_of, forms_in, forms_of, map_of, names_of, root_of, shapes};
+ghost use Rattle.borsh_json.specs.Words.{Adds, AreKeysOf, BeginsNext, EntryOf, Form, FoundBytes, FoundElements, FoundKeyKind, FoundList, FoundNumbers, FoundPart, HasNoBytes, HasNode, IsAbove, IsAt, IsAwaitingAt, IsBegunOf, IsEntryKey, IsKeyPut, IsKindOf, IsLast, IsNoJsonReason, IsPartWritten, IsWalker, IsWritingAt, IsWrittenNext, Keys, KindHasOrder, KindTellsOrder, Member, NamedPlace, NoneFallsIn, Place, RefusesElements, RisesAt, ShowsNoJson, StopsBy, TellsAscent, TextRepresents, definitions_in, definitions_of, ends_of, form_of, forms_in, forms_of, map_of, names_of, root_of, shapes};
 ghost use Rattle.borsh_json.specs.Ascii.{IsInLine, IsPlain, IsSameJson};
 ghost use Rattle.borsh_json.specs.Printed.{IsPrinted};
 ghost use Rattle.borsh_json.specs.declared.output.Layout.TheVariants.{Compact};
@@ -39,10 +39,10 @@ use std::collections::BTreeMap;
 /// elements and maps whose keys have no bytes, and values that nest more than 128 deep. The order of keys is known of numbers,
 /// `bool`, texts, and of tuples, arrays, lists, ordered sets and maps, and options of these, and not of structs and enums.
 ///
-/// Determined: after `Ok` the text is JSON that says these bytes, of the characters of the style; a compact one is one line,
-/// without control characters; where any are allowed, it has no white space but that of its layout. So no other bytes have it, they
-/// are a member of the root ([`crate::text_determines_bytes`]), and [`crate::from_json`] gives them, if anything. `NoMember` and
-/// `Ambiguous` are as of [`borsh_values::is_member`], and `NoValue` and `NotJson` aren't returned. After `Refused` they are a
+/// Determined: after `Ok` the text is JSON that says these bytes, and in which keys ascend where their order is known, of the
+/// characters of the style; a compact one is one line, without control characters; where any are allowed, it has no white space but
+/// that of its layout. So no other bytes have it, they are a member of the root ([`crate::text_determines_bytes`]), and
+/// [`crate::from_json`] gives them back, but for `OutOfMemory`, `Ambiguous` and `TooDeep`. `NoMember` and `Ambiguous` are as of [`borsh_values::is_member`], and `NoValue` and `NotJson` aren't returned. After `Refused` they are a
 /// member with a part of this kind: `TooDeep`, a value inside of 128 others; `Descends`, a set or map of which two neighbours don't
 /// ascend in the known order of its keys; others, a value that no JSON says. Left open: memory; which of such texts: tested.
 ///
@@ -58,7 +58,7 @@ pub fn to_json<'a>(
     style: Style,
 ) -> Result<String, JsonError<'a>>
     ensures says { let F = forms_in map.now in
-        IfOk result (λ text. TextSays F root.now (string_bytes text) bytes.now) }
+        IfOk result (λ text. TextRepresents F root.now (string_bytes text) bytes.now) }
     ensures ascii { style.characters ≡ Ascii → IfOk result (λ text. All IsPlain (string_bytes text)) }
     ensures line { style.layout ≡ Compact → IfOk result (λ text. All IsInLine (string_bytes text)) }
     ensures printed { style.characters ≡ Any →
@@ -74,7 +74,8 @@ pub fn to_json<'a>(
 impl<'a, 'l> Table<'a, 'l> {
     /// As the function [`to_json`]. Left open: as there.
     pub fn to_json(&self, bytes: &[u8], style: Style) -> Result<String, JsonError<'a>>
-        ensures says { IfOk result (λ text. SaysBy self.now (string_bytes text) bytes.now) }
+        ensures says { let l = self.now.plan.now in
+            IfOk result (λ text. TextRepresents (forms_in (map_of l)) (root_of l) (string_bytes text) bytes.now) }
         ensures ascii { style.characters ≡ Ascii → IfOk result (λ text. All IsPlain (string_bytes text)) }
         ensures line { style.layout ≡ Compact → IfOk result (λ text. All IsInLine (string_bytes text)) }
         ensures printed { style.characters ≡ Any →
@@ -126,7 +127,8 @@ fn write_value<'a>(
     style: Style,
 ) -> Result<Vec<u8>, JsonError<'a>>
     requires { Member (shapes (forms_of json.now)) (root_of json.now.plan.now) bytes.now }
-    ensures says { IfOk result (λ text. SaysBy json.now text.items bytes.now) }
+    ensures says { let l = json.now.plan.now in
+        IfOk result (λ text. TextRepresents (forms_in (map_of l)) (root_of l) text.items bytes.now) }
     ensures utf8 { IfOk result (λ text. IsUtf8 text.items) }
     ensures line { style.layout ≡ Compact → IfOk result (λ text. All IsInLine text.items) }
     ensures printed { IfOk result (λ text. IsPrinted style.layout text.items) }
@@ -190,7 +192,7 @@ impl<'a, 'l, 'b> Writing<'a, 'l, 'b> {
     /// Writes the key of a part that was begun, where it has one.
     fn write_key(&mut self, json: &Table<'a, '_>, part: Part<'a>) -> Result<(), JsonError<'a>>
         requires walk { IsWalker self.old.walk }
-        ensures key { (p : Place) → IsWritingAt json.now self.old p →
+        ensures key { (p : Place) → IsWritingAt json.now self.old p → RisesAt json.now self.old p →
             IsBegunOf json.now self.old.walk.offset p self.old.position.place part.entry →
             IsKeyPut json.now part.entry.at self.old self.new result }
         ensures bytes { self.new.bytes ≡ self.old.bytes }
@@ -210,7 +212,7 @@ impl<'a, 'l, 'b> Writing<'a, 'l, 'b> {
     ) -> Result<(), JsonError<'a>>
         requires walk { IsWalker self.old.walk }
         ensures key { (p : Place) (part : FoundPart) →
-            IsWritingAt json.now self.old p → part.key ≡ EntryOf entries.entry →
+            IsWritingAt json.now self.old p → RisesAt json.now self.old p → part.key ≡ EntryOf entries.entry →
             IsBegunOf json.now self.old.walk.offset p self.old.position.place part →
             IsKeyPut json.now part.at self.old self.new result }
         ensures bytes { self.new.bytes ≡ self.old.bytes }
@@ -260,7 +262,8 @@ impl<'a, 'l, 'b> Writing<'a, 'l, 'b> {
         requires walk { IsWalker self.old.walk }
         ensures part { let F = forms_of json.now in let ns = names_of json.now in
             (x : List ℕ) (f : Form) → IsAt ns at x → F x ≡ Some f →
-            IsKindOf F ns x f kind.entry → KindHasOrder F ns json.now.orders.items x kind.entry → HasNode kind.entry →
+            IsKindOf F ns x f kind.entry → KindHasOrder F ns json.now.orders.items x kind.entry →
+            KindTellsOrder F x kind.entry → (HasNoBytes F x → ⊥) → HasNode kind.entry →
             IsAwaitingAt json.now self.old x → IsPartWritten json.now self.old self.new result }
         ensures bytes { self.new.bytes ≡ self.old.bytes }
     {
@@ -278,7 +281,8 @@ impl<'a, 'l, 'b> Writing<'a, 'l, 'b> {
 
 /// How a list's parts ascend that are written one by one, where that is known.
 fn order_of(kind: Kind<'_>) -> Option<Ordered>
-    ensures { IfSome result (λ order. (es : FoundElements) × (kind.entry ≡ FoundList es) × (es.order ≡ Some order)) }
+    ensures list { IfSome result (λ order. (es : FoundElements) × (kind.entry ≡ FoundList es) × (es.order ≡ Some order)) }
+    ensures all { (es : FoundElements) → kind.entry ≡ FoundList es → result ≡ es.order }
 {
     match kind {
         Kind::List(elements) => elements.order,
@@ -294,6 +298,10 @@ fn check_elements<'a>(
 ) -> PartResult<'a, ()>
     ensures room { OnOk result ((es : FoundElements) → kind.entry ≡ FoundNumbers es → length position.now.outer.items < 128) }
     ensures full { IfErr result (RefusesElements (length position.now.outer.items) kind.entry node.now) }
+    ensures bytes { let f = form_of node.now.definition.now in
+        OnOk result ((es : FoundElements) → kind.entry ≡ FoundBytes es → NoneFallsIn es f node.now.bytes.now) }
+    ensures numbers { let f = form_of node.now.definition.now in
+        OnOk result ((es : FoundElements) → kind.entry ≡ FoundNumbers es → NoneFallsIn es f node.now.bytes.now) }
 {
     match kind {
         Kind::ByteList(elements) => position.check_ascent(elements, elements_of(node)),

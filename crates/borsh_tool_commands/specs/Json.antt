@@ -6,7 +6,6 @@ use Rattle.borsh_json.specs.Ascii.{IsInLine, IsPlain}
 use Rattle.borsh_json.specs.Errors.{IsNoJsonReason, IsTextReason}
 use Rattle.borsh_json.specs.Forms.{forms_in}
 use Rattle.borsh_json.specs.InOrder.{TextRepresents}
-use Rattle.borsh_json.specs.Represents.{TextSays}
 use Rattle.borsh_json.specs.NoJson.{ShowsNoJson}
 use Rattle.borsh_json.specs.NoValue.{ShowsNoValue}
 use Rattle.borsh_json.specs.declared.error.JsonError.{JsonError}
@@ -27,17 +26,13 @@ abbrev pub HasReason : (JsonError → Type 0) → Type 0
 HasReason Reason = (e : JsonError) × Reason e × (e ≡ NoMemory → ⊥)
 
 module _ (map : BTreeMap (String Global) Definition) (root : List ℕ) where
-  -- the text is JSON that says the bytes, which are a member of the root
-  abbrev pub IsJson : List ℕ → List ℕ → Type 0
-  IsJson text bytes = TextSays (forms_in map) root text bytes
-
-  -- such a text, in which the elements of sets and the keys of maps ascend where their order is known
+  -- the text is JSON that says the bytes, which are a member of the root; the elements of sets and the keys of maps ascend where their order is known
   abbrev pub IsJsonInOrder : List ℕ → List ℕ → Type 0
   IsJsonInOrder text bytes = TextRepresents (forms_in map) root text bytes
 
-  -- such a text of printable ASCII, in any order, with a line feed behind it, which is the only one if the text is compact
+  -- such a text of printable ASCII, with a line feed behind it, which is the only one if the text is compact
   abbrev pub IsJsonLine : Layout → List ℕ → List ℕ → Type 0
-  IsJsonLine layout bytes line = (text : List ℕ) × IsJson text bytes × All IsPlain text × (layout ≡ Compact → All IsInLine text) × (line ≡ line_of text)
+  IsJsonLine layout bytes line = (text : List ℕ) × IsJsonInOrder text bytes × All IsPlain text × (layout ≡ Compact → All IsInLine text) × (line ≡ line_of text)
 
   -- the bytes are no member, or the definitions are undecided, or a part of a member has no JSON
   abbrev pub HasNoJson : List ℕ → Type 0

@@ -7,7 +7,7 @@ use Rattle.borsh_json.specs.Found.{forms_of, names_of}
 use Rattle.borsh_json.specs.Places.{IsKindOf}
 use Rattle.borsh_json.specs.Leaves.{WritesLeaf}
 use Rattle.borsh_json.specs.Writes.{IsWrittenAs, WritesValue}
-use Rattle.borsh_json.proofs.WholeLaws.{leaf_refused, leaf_whole, primitive_found}
+use Rattle.borsh_json.proofs.WholeLaws.{leaf_refused, leaf_whole, primitive_found, primitive_no_list}
 use Rattle.borsh_json.proofs.values.begin_value.Goals as goal
 
 pub returns-in_err-write_primitive-in-Number : goal.returns-in_err-write_primitive-in-Number
@@ -48,7 +48,7 @@ returns-in_ok-write_primitive-in-Number c h x parts i o k =
     let f = form_of c.args.node.now.definition.now in
     let p = primitive_found F x own ns f c.args.kind c.in-Number.is k in
     let w = c.in_ok-write_primitive-in-Number.ensures p.1 p.2 F ns x parts o k in
-    leaf_whole F x own ns f c.args.kind parts c.args.out.now c.write_primitive.new.out o w.0 (subst (λ (n : ℕ). WritesLeaf F n x own c.args.out.now c.write_primitive.new.out) (sym p.0) w.1)
+    leaf_whole F x own ns f c.args.kind parts c.args.out.now c.write_primitive.new.out o w.0 (primitive_no_list F x own ns f c.args.kind p.1 p.2) (subst (λ (n : ℕ). WritesLeaf F n x own c.args.out.now c.write_primitive.new.out) (sym p.0) w.1)
 
 pub returns-in_ok-write_text-in-Text : goal.returns-in_ok-write_text-in-Text
 returns-in_ok-write_text-in-Text c h x parts i o k =
@@ -57,7 +57,7 @@ returns-in_ok-write_text-in-Text c h x parts i o k =
     let own = c.args.node.now.bytes.now in
     let f = form_of c.args.node.now.definition.now in
     let w = c.in_ok-write_text-in-Text.ensures F ns x parts o (subst (λ (q : Found). IsKindOf F ns x f q) c.in-Text.is k) in
-    subst (λ (q : Found). IsWrittenAs F ns q x f own c.args.out.now c.write_text.new.out None) (sym c.in-Text.is) (leaf_whole F x own ns f Text parts c.args.out.now c.write_text.new.out o w.0 w.1)
+    subst (λ (q : Found). IsWrittenAs F ns q x f own c.args.out.now c.write_text.new.out None) (sym c.in-Text.is) (leaf_whole F x own ns f Text parts c.args.out.now c.write_text.new.out o w.0 (λ es e. cc) w.1)
 
 pub returns-in_ok-write_byte_list-in-ByteList : goal.returns-in_ok-write_byte_list-in-ByteList
 returns-in_ok-write_byte_list-in-ByteList c h x parts i o k =
@@ -66,7 +66,7 @@ returns-in_ok-write_byte_list-in-ByteList c h x parts i o k =
     let own = c.args.node.now.bytes.now in
     let f = form_of c.args.node.now.definition.now in
     let w = c.in_ok-write_byte_list-in-ByteList.ensures F ns x parts o (subst (λ (q : Found). IsKindOf F ns x f q) c.in-ByteList.is k) in
-    subst (λ (q : Found). IsWrittenAs F ns q x f own c.args.out.now c.write_byte_list.new.out None) (sym c.in-ByteList.is) (leaf_whole F x own ns f (ByteList c.in-ByteList.elements) parts c.args.out.now c.write_byte_list.new.out o w.0 w.1)
+    subst (λ (q : Found). IsWrittenAs F ns q x f own c.args.out.now c.write_byte_list.new.out None) (sym c.in-ByteList.is) (leaf_whole F x own ns f (ByteList c.in-ByteList.elements) parts c.args.out.now c.write_byte_list.new.out o w.0 (λ es e. cc) w.1)
 
 pub returns-in_ok-write_numbers-in-Numbers : goal.returns-in_ok-write_numbers-in-Numbers
 returns-in_ok-write_numbers-in-Numbers c h x parts i o k =
@@ -75,7 +75,7 @@ returns-in_ok-write_numbers-in-Numbers c h x parts i o k =
     let own = c.args.node.now.bytes.now in
     let f = form_of c.args.node.now.definition.now in
     let w = c.in_ok-write_numbers-in-Numbers.ensures x parts o (subst (λ (q : Found). IsKindOf F ns x f q) c.in-Numbers.is k) in
-    subst (λ (q : Found). IsWrittenAs F ns q x f own c.args.out.now c.write_numbers.new.out None) (sym c.in-Numbers.is) (leaf_whole F x own ns f (Numbers c.in-Numbers.elements) parts c.args.out.now c.write_numbers.new.out o w.0 w.1)
+    subst (λ (q : Found). IsWrittenAs F ns q x f own c.args.out.now c.write_numbers.new.out None) (sym c.in-Numbers.is) (leaf_whole F x own ns f (Numbers c.in-Numbers.elements) parts c.args.out.now c.write_numbers.new.out o w.0 (λ es e. cc) w.1)
 
 pub returns-in-List : goal.returns-in-List
 returns-in-List c h x parts i o k =

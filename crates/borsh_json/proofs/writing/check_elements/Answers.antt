@@ -1,11 +1,12 @@
-use Rattle.std.proofs.Common.{length, sym, subst}
+use Rattle.std.proofs.Common.{◌≡◌, ◌∙◌, length, sym, subst}
 use Rattle.borsh_walks.specs.Container.{Shape}
 use Rattle.borsh_values.specs.Nodes.{AreElementsOf}
 use Rattle.borsh_json.specs.declared.kinds.Kind.{Kind as Found}
+use Rattle.borsh_json.specs.declared.kinds.Kind.TheVariants.{ByteList, Numbers}
 use Rattle.borsh_json.specs.Forms.{form_of}
 use Rattle.borsh_json.specs.Orders.{KindHasOrder}
 use Rattle.borsh_json.specs.Places.{IsKindOf}
-use Rattle.borsh_json.proofs.FallLaws.{both_known, bytes_falls, numbers_falls}
+use Rattle.borsh_json.proofs.FallLaws.{both_known, bytes_falls, numbers_falls, rises_in}
 use Rattle.borsh_json.proofs.FormsLaws.{shape_is}
 use Rattle.borsh_json.proofs.writing.check_elements.Goals as goal
 
@@ -27,3 +28,18 @@ returns-in_ok-check_room-in-Numbers-clause-full c =
     both_known c.check_ascent-in-Numbers.result c.check_ascent-in-Numbers.ensures.descends c.check_ascent-in-Numbers.ensures.falls (λ e i g F ns orders x parts after o k h.
     numbers_falls F ns orders x n.bytes.now after bytes (form_of d) parts c.in-Numbers.elements o (subst (λ (s : Shape). AreElementsOf s n.bytes.now bytes) (sym (shape_is d)) c.elements_of-in-Numbers.ensures) (length c.args.position.now.outer.items) e
     (subst (λ (q : Found). IsKindOf F ns x (form_of d) q) c.in-Numbers.is k) (subst (λ (q : Found). KindHasOrder F ns orders x q) c.in-Numbers.is h) i g)
+
+pub returns-in-ByteList-clause-bytes : goal.returns-in-ByteList-clause-bytes
+returns-in-ByteList-clause-bytes c =
+    let n = c.args.node.now in
+    let d = n.definition.now in
+    let bytes = c.elements_of.result.now in
+    rises_in c.check_ascent.result (form_of d) n.bytes.now bytes c.in-ByteList.elements (λ es. c.args.kind ≡ ByteList es) (λ es e. let q : ByteList c.in-ByteList.elements ≡ ByteList es = sym c.in-ByteList.is ∙ e in cc) (subst (λ (s : Shape). AreElementsOf s n.bytes.now bytes) (sym (shape_is d)) c.elements_of.ensures) c.check_ascent.ensures.rises
+
+pub returns-in_ok-check_room-in-Numbers-clause-numbers :
+    goal.returns-in_ok-check_room-in-Numbers-clause-numbers
+returns-in_ok-check_room-in-Numbers-clause-numbers c =
+    let n = c.args.node.now in
+    let d = n.definition.now in
+    let bytes = c.elements_of-in-Numbers.result.now in
+    rises_in c.check_ascent-in-Numbers.result (form_of d) n.bytes.now bytes c.in-Numbers.elements (λ es. c.args.kind ≡ Numbers es) (λ es e. let q : Numbers c.in-Numbers.elements ≡ Numbers es = sym c.in-Numbers.is ∙ e in cc) (subst (λ (s : Shape). AreElementsOf s n.bytes.now bytes) (sym (shape_is d)) c.elements_of-in-Numbers.ensures) c.check_ascent-in-Numbers.ensures.rises

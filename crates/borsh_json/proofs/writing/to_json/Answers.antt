@@ -3,13 +3,13 @@ use Rattle.std.specs.Prelude.{IfOk, IfErr}
 use Rattle.borsh_walks.specs.Definitions.{definitions_in}
 use Rattle.borsh_json.specs.Errors.{IsNoJsonReason}
 use Rattle.borsh_json.specs.Forms.{forms_in}
-use Rattle.borsh_json.specs.Represents.{TextSays}
+use Rattle.borsh_json.specs.InOrder.{TextRepresents}
 use Rattle.borsh_json.proofs.PlanLaws.{by_plan}
 use Rattle.borsh_json.proofs.writing.to_json.Goals as goal
 
 pub returns-clause-says : goal.returns-clause-says
 returns-clause-says c =
-    by_plan (λ root map. IfOk c.to_json.result (λ text. TextSays (forms_in map) root (string_bytes text) c.args.bytes.now)) c.in_ok-json.json c.in_ok-plan.plan c.in_ok-json.ensures c.in_ok-plan.ensures c.to_json.ensures.says
+    by_plan (λ root map. IfOk c.to_json.result (λ text. TextRepresents (forms_in map) root (string_bytes text) c.args.bytes.now)) c.in_ok-json.json c.in_ok-plan.plan c.in_ok-json.ensures c.in_ok-plan.ensures c.to_json.ensures.says
 
 pub returns-clause-reason : goal.returns-clause-reason
 returns-clause-reason c =

@@ -13,7 +13,7 @@ use Rattle.borsh_json.proofs.FallLaws.{key_falls}
 use Rattle.borsh_json.proofs.writing.Writing.write_entry_key.Goals as goal
 
 pub returns-in_default-clause-key : goal.returns-in_default-clause-key
-returns-in_default-clause-key c p part a e b =
+returns-in_default-clause-key c p part a r e b =
     let d = c.args.json.now in
     let w = c.args.self.now in
     let es = c.args.entries in
@@ -22,7 +22,7 @@ returns-in_default-clause-key c p part a e b =
     undecided d w.walk c.open.new.self es.key t.key t.key_named a.writer.plan c.name.result w.bytes.now a.state.done rest (c.name.ensures t.key t.key_named) (subst (λ (o : Option Node). FindsAt es.key w.walk c.open.new.self o) c.in_default.is c.in_ok-node.ensures.finds) (entry_next d w w p part es a b.1 t)
 
 pub returns-then-not-is_next-clause-key : goal.returns-then-not-is_next-clause-key
-returns-then-not-is_next-clause-key c p part a e b =
+returns-then-not-is_next-clause-key c p part a r e b =
     let d = c.args.json.now in
     let w = c.args.self.now in
     let F = forms_of d in
@@ -43,7 +43,7 @@ returns-then-not-is_next-clause-key c p part a e b =
     (λ last l. c.is_next.ensures F ns t.key (form_of n.definition.now) es.key_kind t.keys last v.0 ks (subst (λ (k : Option EntryKey). IsLast es.key_kind k last) (sym b.2) l) v.1) c.if-not-is_next.true))
 
 pub returns-else-not-is_next-clause-key : goal.returns-else-not-is_next-clause-key
-returns-else-not-is_next-clause-key c p part a e b =
+returns-else-not-is_next-clause-key c p part a r e b =
     let d = c.args.json.now in
     let w = c.args.self.now in
     let q = w.position.place in
@@ -59,10 +59,10 @@ returns-else-not-is_next-clause-key c p part a e b =
     let u = c.in-Ok.ensures (forms_of d) (names_of d) t.key t.keys h.parts op ks in
     let v = u.1 in
     let above = (c.is_next.ensures (forms_of d) (names_of d) t.key (form_of n.definition.now) es.key_kind t.keys t.before v.0 ks (subst (λ (l : Option EntryKey). IsLast es.key_kind l t.before) (sym b.2) t.is_last) v.1).0 c.if-not-is_next.false in
-    entry_awaits d w new p part es a b.1 t o n c.in-Some.is f c.in-Ok.key h.parts v.0 b e refl (ap (λ l. l.now) c.in_ok-node.ensures.plan ∙ a.writer.plan) c.in_ok-node.ensures.walk refl refl refl op.1 u.0 v.1 v.2 v.3 above
+    entry_awaits d w new p part es a b.1 t o n c.in-Some.is f c.in-Ok.key h.parts v.0 b r e refl (ap (λ l. l.now) c.in_ok-node.ensures.plan ∙ a.writer.plan) c.in_ok-node.ensures.walk refl refl refl op.1 u.0 v.1 v.2 v.3 above
 
 pub returns-in-Err-clause-key : goal.returns-in-Err-clause-key
-returns-in-Err-clause-key c p part a e b =
+returns-in-Err-clause-key c p part a r e b =
     let d = c.args.json.now in
     let w = c.args.self.now in
     let es = c.args.entries in

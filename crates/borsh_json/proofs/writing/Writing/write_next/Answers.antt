@@ -9,7 +9,7 @@ use Rattle.borsh_json.specs.declared.writing.Writing.{Writing}
 use Rattle.borsh_json.specs.Leaves.{Adds}
 use Rattle.borsh_json.specs.Found.{forms_of}
 use Rattle.borsh_json.specs.Writes.{IsAscending, Stops, StopsBy, ends_of}
-use Rattle.borsh_json.proofs.WriterLaws.{place_ended, begun_still, next_name, next_falls, stops_descends}
+use Rattle.borsh_json.proofs.WriterLaws.{place_ended, begun_still, next_name, next_falls, rises_so, stops_descends}
 use Rattle.borsh_json.proofs.writing.Writing.write_next.Goals as goal
 
 pub returns-in_default-clause-state : goal.returns-in_default-clause-state
@@ -41,10 +41,11 @@ returns-in_err-write_key-clause-state c =
     let a = c.requires in
     let s = c.next_part.ensures.same in
     let o = c.ascends.ensures.same in
+    let t = rises_so d w w.position.place c.next_part.new.self.ascent c.in_ok-is_above.is_above s.2 c.if-not-is_above.false c.in_ok-is_above.ensures.tells in
     let b = begun_still d w.walk.offset w.position.place c.next_part.new.self c.ascends.new.place c.in-Some.part c.in-Some.ensures.part s.0 s.1 s.2 o.0 o.1 o.2 c.ascends.ensures.begins in
     let q = c.from_residual-in_err-write_key in
     let r = err_from_is_err_and q.result q.ensures.1 in
-    rw (r.1, r.2) (c.in_err-write_key.ensures.key w.position.place (record { writer = record { plan = a.writer.plan; walk = a.writer.walk; fresh = a.writer.fresh; offset = a.writer.offset }; mark = a.mark; marks = a.marks; state = a.state; here = a.here; around = a.around }) b)
+    rw (r.1, r.2) (c.in_err-write_key.ensures.key w.position.place (record { writer = record { plan = a.writer.plan; walk = a.writer.walk; fresh = a.writer.fresh; offset = a.writer.offset }; mark = a.mark; marks = a.marks; state = a.state; here = a.here; around = a.around }) t b)
 
 pub write_part-requires : goal.write_part-requires
 write_part-requires c =
@@ -53,8 +54,9 @@ write_part-requires c =
     let a = c.requires in
     let s = c.next_part.ensures.same in
     let o = c.ascends.ensures.same in
+    let t = rises_so d w w.position.place c.next_part.new.self.ascent c.in_ok-is_above.is_above s.2 c.if-not-is_above.false c.in_ok-is_above.ensures.tells in
     let b = begun_still d w.walk.offset w.position.place c.next_part.new.self c.ascends.new.place c.in-Some.part c.in-Some.ensures.part s.0 s.1 s.2 o.0 o.1 o.2 c.ascends.ensures.begins in
-    let x = c.in_ok-write_key.ensures.key w.position.place (record { writer = record { plan = a.writer.plan; walk = a.writer.walk; fresh = a.writer.fresh; offset = a.writer.offset }; mark = a.mark; marks = a.marks; state = a.state; here = a.here; around = a.around }) b in
+    let x = c.in_ok-write_key.ensures.key w.position.place (record { writer = record { plan = a.writer.plan; walk = a.writer.walk; fresh = a.writer.fresh; offset = a.writer.offset }; mark = a.mark; marks = a.marks; state = a.state; here = a.here; around = a.around }) t b in
     record { walk = x.2.writer.walk }
 
 pub returns-in_err-write_part-clause-state : goal.returns-in_err-write_part-clause-state
@@ -64,8 +66,9 @@ returns-in_err-write_part-clause-state c =
     let a = c.requires in
     let s = c.next_part.ensures.same in
     let o = c.ascends.ensures.same in
+    let t = rises_so d w w.position.place c.next_part.new.self.ascent c.in_ok-is_above.is_above s.2 c.if-not-is_above.false c.in_ok-is_above.ensures.tells in
     let b = begun_still d w.walk.offset w.position.place c.next_part.new.self c.ascends.new.place c.in-Some.part c.in-Some.ensures.part s.0 s.1 s.2 o.0 o.1 o.2 c.ascends.ensures.begins in
-    let x = c.in_ok-write_key.ensures.key w.position.place (record { writer = record { plan = a.writer.plan; walk = a.writer.walk; fresh = a.writer.fresh; offset = a.writer.offset }; mark = a.mark; marks = a.marks; state = a.state; here = a.here; around = a.around }) b in
+    let x = c.in_ok-write_key.ensures.key w.position.place (record { writer = record { plan = a.writer.plan; walk = a.writer.walk; fresh = a.writer.fresh; offset = a.writer.offset }; mark = a.mark; marks = a.marks; state = a.state; here = a.here; around = a.around }) t b in
     let q = c.from_residual-in_err-write_part in
     let r = err_from_is_err_and q.result q.ensures.1 in
     rw (r.1, r.2) (subst (λ (b : Bor (List ℕ)). StopsBy d b.now c.in_err-write_part.field-0.0) c.write_key.ensures.bytes (c.in_err-write_part.ensures.part x.0 x.1 x.2))
@@ -77,6 +80,7 @@ returns-clause-state c =
     let a = c.requires in
     let s = c.next_part.ensures.same in
     let o = c.ascends.ensures.same in
+    let t = rises_so d w w.position.place c.next_part.new.self.ascent c.in_ok-is_above.is_above s.2 c.if-not-is_above.false c.in_ok-is_above.ensures.tells in
     let b = begun_still d w.walk.offset w.position.place c.next_part.new.self c.ascends.new.place c.in-Some.part c.in-Some.ensures.part s.0 s.1 s.2 o.0 o.1 o.2 c.ascends.ensures.begins in
-    let x = c.in_ok-write_key.ensures.key w.position.place (record { writer = record { plan = a.writer.plan; walk = a.writer.walk; fresh = a.writer.fresh; offset = a.writer.offset }; mark = a.mark; marks = a.marks; state = a.state; here = a.here; around = a.around }) b in
+    let x = c.in_ok-write_key.ensures.key w.position.place (record { writer = record { plan = a.writer.plan; walk = a.writer.walk; fresh = a.writer.fresh; offset = a.writer.offset }; mark = a.mark; marks = a.marks; state = a.state; here = a.here; around = a.around }) t b in
     c.in_ok-write_part.ensures.part x.0 x.1 x.2

@@ -44,7 +44,7 @@ returns-in_ok-enter-in-Ok-Some-clause-part c x i a =
     let h = subst (λ (o : Option Place). MatchOption o (HasNode c.in-Some.kind × (c.begin_struct.new.out ≡ w.out)) (λ p. (r : Rest) × IsRest F ns p r × WritesFront F x [] r w.out c.begin_struct.new.out × (shape_of_form f ≡ product (names_of_rest r)) × IsNewPlace c.in-Some.kind p)) c.in-Ok-Some.field-0-is (c.in-Ok-Some.ensures F ns x f i kind.0 kind.1) in
     let new : Writing = record { walk = w.walk; position = c.enter.new.self; out = c.begin_struct.new.out; bytes = w.bytes; long_numbers = w.long_numbers } in
     let z = c.in_ok-enter-in-Ok-Some.ensures in
-    struct_begun d w new x a f kind.0 c.in-Ok-Some.place refl refl z.room c.in-Some.kind kind.1 (c.in-Some.ensures.order x i) h.0 h.1 h.2 h.3 h.4 z.place z.outer
+    struct_begun d w new x a f kind.0 c.in-Ok-Some.place (not_true c.is_zero_size.result (c.is_zero_size.ensures x i) c.if-is_zero_size.false) refl refl z.room c.in-Some.kind kind.1 (c.in-Some.ensures.order x i) h.0 h.1 h.2 h.3 h.4 z.place z.outer
 
 pub returns-in-Ok-None-clause-part : goal.returns-in-Ok-None-clause-part
 returns-in-Ok-None-clause-part c x i a =
@@ -55,7 +55,7 @@ returns-in-Ok-None-clause-part c x i a =
     let kind = c.in-Some.ensures.kind x i (not_true c.is_zero_size.result (c.is_zero_size.ensures x i) c.if-is_zero_size.false) in
     let f = form_of c.in-Some.field-0-0.now in
     let h = subst (λ (o : Option Place). MatchOption o (HasNode c.in-Some.kind × (c.begin_struct.new.out ≡ w.out)) (λ p. (r : Rest) × IsRest F ns p r × WritesFront F x [] r w.out c.begin_struct.new.out × (shape_of_form f ≡ product (names_of_rest r)) × IsNewPlace c.in-Some.kind p)) c.in-Ok-None.field-0-is (c.in-Ok-None.ensures F ns x f i kind.0 kind.1) in
-    c.write_node.ensures.part x f i kind.0 kind.1 (c.in-Some.ensures.order x i) h.0 (subst (λ (o : Output). IsAwaitingAt d (record { walk = w.walk; position = w.position; out = o; bytes = w.bytes; long_numbers = w.long_numbers }) x) (sym h.1) a)
+    c.write_node.ensures.part x f i kind.0 kind.1 (c.in-Some.ensures.order x i) (c.in-Some.ensures.telling x i) (not_true c.is_zero_size.result (c.is_zero_size.ensures x i) c.if-is_zero_size.false) h.0 (subst (λ (o : Output). IsAwaitingAt d (record { walk = w.walk; position = w.position; out = o; bytes = w.bytes; long_numbers = w.long_numbers }) x) (sym h.1) a)
 
 pub returns-in-Err-clause-part : goal.returns-in-Err-clause-part
 returns-in-Err-clause-part c x i a =
