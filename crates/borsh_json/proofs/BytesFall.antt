@@ -56,7 +56,7 @@ adds_or es l bs old new (Err (DescendsAt i)) h = absurd h
 
 -- ---- bytes
 -- the order of bytes has no signs
-unsigned : (F : List ℕ → Option Form) (e : List ℕ) (signed : Bool) → e ≡ codes "u8" → HasOrder F e (numbers 1 signed) → signed ≡ false
+pub unsigned : (F : List ℕ → Option Form) (e : List ℕ) (signed : Bool) → e ≡ codes "u8" → HasOrder F e (numbers 1 signed) → signed ≡ false
 unsigned F e signed q (inl z) = let p = z.1 in cc
 unsigned F e signed q (inr b) =
     let k : primitive_kind e 1 ≡ whole 1 false false = ap (λ e. primitive_kind e 1) q in
@@ -86,7 +86,7 @@ not_above b c l e =
     omega (arith, ints, h, l)
 
 -- of bytes two neighbours that don't ascend, as numbers
-bytes_descend : (before after bytes : List ℕ) (b c i : ℕ) → All (λ b. b < 256) bytes → bytes ≡ before ++ b ∷ c ∷ after → i ≡ suc (length before) → c ≤ b → NumbersDescend 1 false bytes i
+pub bytes_descend : (before after bytes : List ℕ) (b c i : ℕ) → All (λ b. b < 256) bytes → bytes ≡ before ++ b ∷ c ∷ after → i ≡ suc (length before) → c ≤ b → NumbersDescend 1 false bytes i
 bytes_descend before after bytes b c i small e q l =
     let P : ℕ → Type 0 = λ b. b < 256 in
     let all = all_right P before (b ∷ c ∷ after) (subst (λ l. All P l) e small) in
@@ -107,6 +107,14 @@ bytes_descend before after bytes b c i small e q l =
       second = omega (arith, s, one);
       falls = not_above b c l;
     }
+
+module _ (F : List ℕ → Option Form) where
+  -- the elements of a set of bytes are its keys, whose order is known
+  pub set_ordered : (x : List ℕ) (l : Lengths) (e : List ℕ) → HasKind F x (byte_list l e) → IsSet F x e → HasKeys F x e e × IsOrdered F e
+  set_ordered x l e h s =
+      let d = form_found F (byte_list l e) h (λ q. cc) in
+      let o : HasOrder F e (numbers 1 false) = inr (byte_full F d.2.1, (d.2.1.1, inr (false, ap (λ e. primitive_kind e 1) d.2.1.0))) in
+      ((s.0, inl (s.1, refl)), ordered (numbers 1 false) o (λ p i. elim i [ ]))
 
 module _ (F : List ℕ → Option Form) (ns : List Named) (orders : List Known) (x : List ℕ) (j : Json) where
   -- a list of bytes whose elements have an order is a set, and the order that of bytes
@@ -139,13 +147,6 @@ module _ (F : List ℕ → Option Form) (ns : List Named) (orders : List Known) 
       let w = fall_bytes v.before v.after bytes v.y v.z v.first v.second v.falls v.bytes_are in
       (l, e, v.before, w.0, w.1, v.after, h, b.1, subst (λ (j : Json). IsHex j (v.before ++ w.0 ∷ w.1 ∷ v.after)) (sym t) (subst (λ bs. IsHex (string text) bs) w.2 hex), (let k = v.passed in let some = v.some in omega (arith, k, some)), w.3)
 
-  -- the elements of a set of bytes are its keys, whose order is known
-  set_ordered : (l : Lengths) (e : List ℕ) → HasKind F x (byte_list l e) → IsSet F x e → HasKeys F x e e × IsOrdered F e
-  set_ordered l e h s =
-      let d = form_found F (byte_list l e) h (λ q. cc) in
-      let o : HasOrder F e (numbers 1 false) = inr (byte_full F d.2.1, (d.2.1.1, inr (false, ap (λ e. primitive_kind e 1) d.2.1.0))) in
-      ((s.0, inl (s.1, refl)), ordered (numbers 1 false) o (λ p i. elim i [ ]))
-
   -- where no byte falls no digit does, if an order is found wherever one is known
   pub digits_rise : (bytes : List ℕ) (es : Elements) → es.size ≡ 1 → HasKeyOrder F ns orders x es.order → (es.order ≡ None → (e k : List ℕ) → HasKeys F x e k → IsOrdered F k → ⊥) → IsHex j bytes → NoneFalls es bytes → (i : ℕ) → DigitsFall F x j i → ⊥
   digits_rise bytes es size order all hex none i (l, e, before, b, c, after, h, s, t, at, falls) = by es.order refl
@@ -154,7 +155,7 @@ module _ (F : List ℕ → Option Form) (ns : List Named) (orders : List Known) 
       small = small_bytes bytes (decode_of-ok hex.0 bytes hex.2).3
 
       by : (o : Option Ordered) → es.order ≡ o → ⊥
-      by None q = let k = set_ordered l e h s in all q e e k.0 k.1
+      by None q = let k = set_ordered F x l e h s in all q e e k.0 k.1
       by (Some found) q =
           let p = byte_order l e found h (subst (λ (o : Option Ordered). HasKeyOrder F ns orders x o) q order) in
           let a = subst (λ n. AreOrderedNumbers found n false bytes) (sym size) (ordered_bytes found bytes p.0 small) in

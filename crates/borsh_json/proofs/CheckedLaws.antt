@@ -25,7 +25,7 @@ use Rattle.borsh_json.specs.Table.{Lengths, Kind, truth, whole, float, raw, utf8
 use Rattle.borsh_json.specs.Writes.{HasNode, Mark, Rest, value_rest, names_of_rest, AreOwed, none_owed, names_owed, elements_owed, IsCheckedTo, NoneFallsIn}
 use Rattle.borsh_json.proofs.FallLaws.{byte_there, positive}
 use Rattle.borsh_json.proofs.FormKinds.{form_known}
-use Rattle.borsh_json.proofs.FoundLaws.{list_element, zero_first}
+use Rattle.borsh_json.proofs.FoundLaws.{list_element, zero_part}
 use Rattle.borsh_json.proofs.PackedDescent.{packed_rises}
 use Rattle.borsh_json.proofs.RepresentsLaws.{kind_one}
 
@@ -73,7 +73,7 @@ module _ (F : List ℕ → Option Form) where
   shaped_as (Some f) s e = (f, refl, cc)
 
   pub pair_due : (e k v : List ℕ) → shapes F e ≡ Some (product (k ∷ v ∷ [])) → (HasNoBytes F k → ⊥) → IsDueAs e [] (k ∷ v ∷ []) None
-  pair_due e k v c full = let f = shaped_as (F e) (product (k ∷ v ∷ [])) c in product_due f.0 (k ∷ v ∷ []) f.1 f.2 (λ z. full (zero_first F c z))
+  pair_due e k v c full = let f = shaped_as (F e) (product (k ∷ v ∷ [])) c in product_due f.0 (k ∷ v ∷ []) f.1 f.2 (λ z. full (zero_part F c z first))
 
   -- ---- places
   module _ (bytes : List ℕ) where

@@ -24,7 +24,7 @@ then_equal Less = refl
 then_equal Equal = refl
 then_equal Greater = refl
 
-all_left : (P : ℕ → Type 0) (xs ys : List ℕ) → All P (xs ++ ys) → All P xs
+pub all_left : (P : ℕ → Type 0) (xs ys : List ℕ) → All P (xs ++ ys) → All P xs
 all_left P [] ys h i d l = absurd (omega (arith, l))
 all_left P (x ∷ xs) ys h zero d l = h 0 d (omega arith)
 all_left P (x ∷ xs) ys h (suc i) d l = all_left P xs ys (λ j e m. h (suc j) e (omega (arith, m))) i d (omega (arith, l))

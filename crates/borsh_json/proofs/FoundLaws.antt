@@ -8,7 +8,7 @@ use Rattle.std.proofs.lemmas.Option.{slice_get-get_or}
 use Rattle.std.proofs.lemmas.Bool.Decides.{nat_tests}
 use Rattle.std.specs.Borrow.{Bor}
 use Rattle.std.specs.Global.{Global}
-use Rattle.borsh_walks.specs.Container.{Shape, IsIn, first, references, IsZeroSize, zeroed, zero_size_references}
+use Rattle.borsh_walks.specs.Container.{Shape, IsIn, references, IsZeroSize, zeroed, zero_size_references}
 use Rattle.borsh_walks.specs.Container as shape
 use Rattle.borsh_json.specs.Forms.{Form, primitive, sequence, tuple, newtype, unnamed, choice, form_of_parts, shape_of_form, HasNoBytes, IsList, IsByte, IsUnit, IsOption, IsMap}
 use Rattle.borsh_json.specs.Found.{joined, IsMapName, IsSetName}
@@ -118,16 +118,14 @@ module _ (F : List ℕ → Option Form) where
   pub byte_full : {e : List ℕ} → IsByte F e → HasNoBytes F e → ⊥
   byte_full b = full_primitive {n = 0} b.1
 
-  pub zero_first : {e k v : List ℕ} → option_map shape_of_form (F e) ≡ Some (shape.product (k ∷ v ∷ [])) → HasNoBytes F e → HasNoBytes F k
-  zero_first {k = k} {v = v} e (zeroed d ps c r all) =
-      let g : Some d ≡ Some (shape.product (k ∷ v ∷ [])) = sym c ∙ e in
-      let h : d ≡ shape.product (k ∷ v ∷ []) = cc in
-      let i : Some ps ≡ Some (k ∷ v ∷ []) = sym r ∙ ap zero_size_references h in
-      let j : ps ≡ k ∷ v ∷ [] = cc in
-      all k (subst (λ l. IsIn k l) (sym j) first)
-
-  pub zero_key : {e k v : List ℕ} → F e ≡ Some (tuple (k ∷ v ∷ [])) → HasNoBytes F e → HasNoBytes F k
-  zero_key e z = zero_first (ap (λ o. option_map shape_of_form o) e) z
+  -- the parts of a tuple without bytes have none
+  pub zero_part : {e p : List ℕ} {parts : List (List ℕ)} → option_map shape_of_form (F e) ≡ Some (shape.product parts) → HasNoBytes F e → IsIn p parts → HasNoBytes F p
+  zero_part {p = p} {parts = parts} e (zeroed d ps c r all) i =
+      let g : Some d ≡ Some (shape.product parts) = sym c ∙ e in
+      let h : d ≡ shape.product parts = cc in
+      let k : Some ps ≡ Some parts = sym r ∙ ap zero_size_references h in
+      let j : ps ≡ parts = cc in
+      all p (subst (λ l. IsIn p l) (sym j) i)
 
 -- two elements of a list of two
 pub two : {X : Type 0} (xs : List X) (a b : X) → length xs ≡ 2 → a ≡ get_or xs 0 a → b ≡ get_or xs 1 b → xs ≡ a ∷ b ∷ []

@@ -1,7 +1,7 @@
 -- The kinds of names.
 use Rattle.std.proofs.Common.{◌≡◌, ◌⊎◌, inl, inr, ℕ, suc, zero, ◌<◌, List, [], ◌∷◌, Bool, true, false, Option, Some, None, refl, sym, ◌∙◌, ap, subst, arith, map, length}
 use Rattle.std.specs.Prelude.{◌==◌, ◌&&◌, ◌||◌, if◌then◌else◌, codes, not, option_map, ℤ}
-use Rattle.borsh_walks.specs.Container.{zeroed}
+use Rattle.borsh_walks.specs.Container.{first, zeroed}
 use Rattle.std.specs.Float.{Format, binary32, binary64}
 use Rattle.std.specs.Str.{bytes_eq}
 use Rattle.std.specs.List.{AllByRecursion, IsDistinct}
@@ -21,7 +21,7 @@ use Rattle.borsh_json.specs.Table.{Lengths, IsString, Keys, texts, numbers, Kind
 use Rattle.borsh_json.specs.Ranks.{number_found}
 use Rattle.borsh_json.specs.Places.{IsAt, IsKindOf, IsListOf, IsUnsayable, lengths_of}
 use Rattle.borsh_json.specs.Found.{IsCollection, IsPrimitiveKind, IsRefusedList}
-use Rattle.borsh_json.proofs.FoundLaws.{full_primitive, full_list, byte_full, zero_key}
+use Rattle.borsh_json.proofs.FoundLaws.{full_primitive, full_list, byte_full, zero_part}
 use Rattle.borsh_json.proofs.RepresentsLaws.{byte_or_map, kind_one, map_one}
 
 -- ---- tests
@@ -183,7 +183,7 @@ module _ (F : List ℕ → Option Form) where
       no_kind (inl z) kind (an_object {k = k} {keys = keys} m a) =
           let g : Some (sequence w lo hi e) ≡ Some (sequence 4 0 4294967295 m.0) = sym d ∙ m.1 in
           let q : e ≡ m.0 = cc in
-          keys_full k keys a (zero_key F m.2 (subst (λ e. HasNoBytes F e) q z))
+          keys_full k keys a (zero_part F (ap (λ o. option_map shape_of_form o) m.2) (subst (λ e. HasNoBytes F e) q z) first)
       no_kind (inl z) kind (some_elements b m y k) = y z
       no_kind (inr n) kind (a_text s b) = byte_or_map F d b n.2
       no_kind (inr n) kind (some_bytes s b) = byte_or_map F d b n.2

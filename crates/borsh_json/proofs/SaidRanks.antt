@@ -12,8 +12,6 @@ use Rattle.hex.specs.Hex.{IsBytes}
 use Rattle.hex.proofs.HexLemmas.{decode_of-ok}
 use Rattle.json.specs.Json.{Json, null, array as json_array, Items, no_items, item}
 use Rattle.borsh_walks.specs.Container.{IsIn, first, later, tag}
-use Rattle.borsh_walks.specs.Container as shape
-use Rattle.borsh_walks.proofs.Laws.{zero_as}
 use Rattle.borsh_values.proofs.Packed.{copies_of}
 use Rattle.borsh_json.specs.Descents.{HasKeys}
 use Rattle.borsh_json.specs.Forms.{Form, primitive, sequence, tuple, choice, shapes, HasNoBytes, IsByte, IsOption}
@@ -21,7 +19,7 @@ use Rattle.borsh_json.specs.Ordered.{Order, single, numbers, text, array, list, 
 use Rattle.borsh_json.specs.Represents.{HaveBytes, none_left, next_part}
 use Rattle.borsh_json.specs.Table.{Lengths, Keys, Kind, no_bytes, truth, whole, float, utf8, row, entries, number_types, number_kind, primitive_kind, SequenceKind, a_text, some_bytes, an_object, some_elements, ChoiceKind, nullable, by_name, DefinedKind, HasKind, InRange, IsPrefixed, Part, row_parts, list_parts, IsVariant, this, that, Entry, key_json, entry_parts, IsArray, Says}
 use Rattle.borsh_json.proofs.FormKinds.{map_elements}
-use Rattle.borsh_json.proofs.FoundLaws.{full_list, zero_key}
+use Rattle.borsh_json.proofs.FoundLaws.{full_list, zero_part}
 use Rattle.borsh_json.proofs.RankLaws.{shaped, ranks, ranks_elements}
 use Rattle.borsh_json.proofs.ReaderLaws.{mapped, uncons, split, joined, no_parts}
 use Rattle.borsh_json.proofs.RepresentsLaws.{option_one, kind_one}
@@ -60,7 +58,7 @@ all_small : (bs : List ℕ) → IsBytes bs → All (λ b. b < 256) bs
 all_small bs f = All-from_get_or (λ b. b < 256) bs 0 (λ i h. f i)
 
 -- parts of a row, one after another
-row_front : (x : List ℕ) (xs : List (List ℕ)) (js : Items) (qs : List Part) → row_parts (x ∷ xs) js ≡ Some qs → (j : Json) × (is : Items) × (ps : List Part) × (row_parts xs is ≡ Some ps) × (qs ≡ (x, j) ∷ ps)
+pub row_front : (x : List ℕ) (xs : List (List ℕ)) (js : Items) (qs : List Part) → row_parts (x ∷ xs) js ≡ Some qs → (j : Json) × (is : Items) × (ps : List Part) × (row_parts xs is ≡ Some ps) × (qs ≡ (x, j) ∷ ps)
 row_front x xs no_items qs e = cc
 row_front x xs (item j js) qs e = let m = mapped (λ ps. (x, j) ∷ ps) (row_parts xs js) e in (j, js, m.0, m.1, sym m.2)
 
@@ -86,7 +84,7 @@ module _ (F : List ℕ → Option Form) where
       let f = u.4 in
       (f.0, u.0, u.1, u.2, f.1, f.2, subst (λ (l : List Part). HaveBytes F l u.2) (append-nil u.1) u.5, u.3)
 
-  defined : {x : List ℕ} {kind : Kind} (d : Form) → F x ≡ Some d → (HasNoBytes F x → ⊥) → HasKind F x kind → DefinedKind F x d kind
+  pub defined : {x : List ℕ} {kind : Kind} (d : Form) → F x ≡ Some d → (HasNoBytes F x → ⊥) → HasKind F x kind → DefinedKind F x d kind
   defined d c n (inl h) = absurd (n h.0)
   defined {x = x} {kind = kind} d c n (inr h) =
       let g : Some h.1 ≡ Some d = sym h.2 ∙ c in
@@ -173,11 +171,8 @@ module _ (F : List ℕ → Option Form) where
   as_element : (e k v : List ℕ) → F e ≡ Some (tuple (k ∷ v ∷ [])) → HasNoBytes F e ⊎ (HasNoBytes F e → ⊥) → (i j : Json) (bs : List ℕ) → HaveBytes F ((k, i) ∷ (v, j) ∷ []) bs → (u : Json) × HaveBytes F ((e, u) ∷ []) bs
   as_element e k v c (inl z) i j bs h =
       let s = split F h ((k, i) ∷ []) ((v, j) ∷ []) refl in
-      let a = zero_as (shapes F) (shape.product (k ∷ v ∷ [])) (shaped (F e) c) z in
-      let g : Some (k ∷ v ∷ []) ≡ Some a.0 = a.1 in
-      let q : k ∷ v ∷ [] ≡ a.0 = cc in
-      let key = nothing_said (a.2 k (subst (λ l. IsIn k l) q first)) s.2 in
-      let value = nothing_said (a.2 v (subst (λ l. IsIn v l) q (later first))) s.3 in
+      let key = nothing_said (zero_part F (shaped (F e) c) z first) s.2 in
+      let value = nothing_said (zero_part F (shaped (F e) c) z (later first)) s.3 in
       (null, null_said z (s.4 ∙ ap (λ l. l ++ s.1) key ∙ value))
   as_element e k v c (inr n) i j bs h =
       (json_array (item i (item j no_items)), next_part (row (k ∷ v ∷ [])) [] ((k, i) ∷ (v, j) ∷ []) (inr (n, tuple (k ∷ v ∷ []), c, refl)) (refl, item i (item j no_items), refl, refl) h)
@@ -327,7 +322,7 @@ module _ (F : List ℕ → Option Form) where
 
   pair_key : (e k v : List ℕ) → F e ≡ Some (tuple (k ∷ v ∷ [])) → IsOrdered F k → (kind : Kind) (u : Json) (own : List ℕ) (qs : List Part) (bs cs more : List ℕ) → HasKind F e kind → HaveBytes F ((e, u) ∷ []) bs → Says F kind u own qs → HaveBytes F qs cs → bs ≡ own ++ cs → (zs : List ℤ) × Rank F (a_value k ∷ []) (bs ++ more) zs
   pair_key e k v c o kind u own qs bs cs more (inl z) all s h b =
-      let n = zero_key F c z.0 in
+      let n = zero_part F (shaped (F e) c) z.0 first in
       said_none k n null bs more [] [] (null_said n (nothing_said z.0 all)) no_rank
   pair_key e k v c o kind u own qs bs cs more (inr d) all s h b =
       let q : kind ≡ row (k ∷ v ∷ []) = defined (tuple (k ∷ v ∷ [])) c d.0 (inr d) in

@@ -5,7 +5,7 @@ use Rattle.std.specs.declared.cmp.Ordering.TheVariants.{Less}
 use Rattle.borsh_values.specs.Nodes.{packed_size}
 use Rattle.borsh_values.specs.Steps.{OpensOnce}
 use Rattle.borsh_json.specs.Descents.{HasKeys, NumbersDescend}
-use Rattle.borsh_json.specs.Forms.{Form, sequence, shape_of_form, shapes, HasNoBytes}
+use Rattle.borsh_json.specs.Forms.{Form, shape_of_form, shapes, HasNoBytes}
 use Rattle.borsh_json.specs.Found.{IsSet}
 use Rattle.borsh_json.specs.Frames.{IsListKind}
 use Rattle.borsh_json.specs.Ordered.{numbers, HasOrder, a_value, Compare}

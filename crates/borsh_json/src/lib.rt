@@ -34,7 +34,7 @@ mod writing;
 
 pub use ascii::in_ascii;
 pub use error::{JsonError, Refusal};
-pub use laws::text_determines_bytes;
+pub use laws::{json_gives_back, text_determines_bytes};
 pub use output::{Characters, Layout, LongNumbers, Style};
 pub use reading::from_json;
 pub use rows::{Rows, value_of};
