@@ -30,6 +30,7 @@ pub mod NestedLaws
 pub mod WritingSteps
 pub mod FallLaws
 pub mod CheckedLaws
+pub mod Lockstep
 pub mod WriterLaws
 pub mod MemberLaws
 pub mod EachLaws
