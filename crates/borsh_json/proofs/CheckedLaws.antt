@@ -1,6 +1,6 @@
 -- Bytes whose sets and maps ascend, as the writer goes through them.
-use Rattle.std.proofs.Common.{◌≡◌, ◌⊎◌, inl, inr, ℕ, suc, zero, ◌<◌, List, [], ◌∷◌, ◌++◌, length, map, replicate, drop, Bool, true, false, Option, Some, None, refl, sym, ◌∙◌, ap, subst, arith, append-nil}
-use Rattle.std.specs.Prelude.{pos, IfSome, MatchOption, option_map, Decides}
+use Rattle.std.proofs.Common.{◌≡◌, inl, inr, ℕ, suc, zero, List, [], ◌∷◌, ◌++◌, length, map, replicate, drop, Bool, false, Option, Some, None, refl, sym, ◌∙◌, ap, subst}
+use Rattle.std.specs.Prelude.{IfSome, MatchOption, option_map}
 use Rattle.std.specs.declared.cmp.Ordering.{Ordering}
 use Rattle.std.specs.declared.cmp.Ordering.TheVariants.{Less}
 use Rattle.borsh_walks.specs.Container.{Shape, sequence as sequence_shape, product, IsIn, first, later}
@@ -8,7 +8,6 @@ use Rattle.borsh_plan.specs.declared.named.Named.{Named}
 use Rattle.borsh_values.specs.Nodes.{packed_size, Opens, OpensElements}
 use Rattle.borsh_values.specs.Steps.{OpensOnce}
 use Rattle.borsh_json.specs.declared.definitions.Definitions.{Definitions}
-use Rattle.borsh_json.specs.declared.definitions.Known.{Known}
 use Rattle.borsh_json.specs.declared.kinds.Elements.{Elements as FoundElements}
 use Rattle.borsh_json.specs.declared.kinds.Kind.{Kind as Found}
 use Rattle.borsh_json.specs.declared.kinds.Kind.TheVariants.{Number, Bool as Truth, Text, Bytes, Float, ByteList, Numbers, List as ListKind, Map, Row as RowKind, Newtype as NewtypeKind, Object as ObjectKind, Optional, Choice, Repeated}
@@ -18,9 +17,9 @@ use Rattle.borsh_json.specs.Forms.{Form, primitive as primitive_form, sequence a
 use Rattle.borsh_json.specs.Found.{forms_of, names_of}
 use Rattle.borsh_json.specs.Frames.{IsListKind}
 use Rattle.borsh_json.specs.Ordered.{a_value, Compare}
-use Rattle.borsh_json.specs.Orders.{AreOrderedNumbers, HasKeyOrder, KeysAscend, KindHasOrder, KindTellsOrder, OrderedBy}
+use Rattle.borsh_json.specs.Orders.{AreOrderedNumbers, HasKeyOrder, KindHasOrder, KindTellsOrder, OrderedBy}
 use Rattle.borsh_json.specs.Descents.{HasKeys, NumbersDescend}
-use Rattle.borsh_json.specs.Places.{IsAt, IsKindOf, IsListOf, lengths_of}
+use Rattle.borsh_json.specs.Places.{IsKindOf, IsListOf, lengths_of}
 use Rattle.borsh_json.specs.Table.{Lengths, Kind, truth, whole, float, raw, utf8, byte_list, list, optional, variants, entries, HasKind}
 use Rattle.borsh_json.specs.Writes.{HasNode, Mark, Rest, value_rest, names_of_rest, AreOwed, none_owed, names_owed, elements_owed, IsCheckedTo, NoneFallsIn}
 use Rattle.borsh_json.proofs.FallLaws.{byte_there, positive}
@@ -170,7 +169,7 @@ module _ (d : Definitions) (x : List ℕ) (f : Form) (own : List ℕ) (parts : L
             let bs = drop w own in
             let s = subst (λ (f : Form). NoneFallsIn es f own) g falls bs refl in
             let r = packed_rises F ns d.orders.items x e a.0 own bs parts n w lo hi found a.1 (there ∙ ap (λ f. Some f) g) p (subst (λ (f : Form). Opens (shapes F) (shape_of_form f) own parts) g opens) refl
-                (λ signed h i t. s found q signed (subst (λ n. AreOrderedNumbers found n signed bs) (sym z) h) i (subst (λ n. NumbersDescend n signed bs i) (sym z) t)) in
+            (λ signed h i t. s found q signed (subst (λ n. AreOrderedNumbers found n signed bs) (sym z) h) i (subst (λ n. NumbersDescend n signed bs i) (sym z) t)) in
             (None, (λ ds after c. packed own (suc n) r.0 r.1 r.2 r.3 (subst (λ l. IsOnly F x own l) r.4 only) (subst (λ l. AreChecked F (map one l ++ ds) after) r.4 c)), tt)
 
     -- elements that are parts
