@@ -40,10 +40,6 @@ use types::container_of;
 
 /// Whether the container keeps the rules of schemas; after code 1 the text says `invalid`, a rule, and a name that breaks it. Left open:
 /// code 3.
-///
-/// ```c
-/// uint32_t code = borsh_c_valid(schema, schema_length, room, room_length, &needed);
-/// ```
 #[unsafe(no_mangle)]
 pub extern "C" fn borsh_c_valid(
     alloc: Global,
@@ -65,10 +61,6 @@ pub extern "C" fn borsh_c_valid(
 
 /// The greatest size of the container's root in bytes, which is written to `size`: no encoding is longer. After any other
 /// code than [`YES`] `size` is unchanged, and after 1 the text says why there is none. Left open: code 3.
-///
-/// ```c
-/// uint32_t code = borsh_c_size(schema, schema_length, &size, room, room_length, &needed);
-/// ```
 #[unsafe(no_mangle)]
 pub extern "C" fn borsh_c_size(
     alloc: Global,
@@ -93,10 +85,6 @@ pub extern "C" fn borsh_c_size(
 
 /// How the values of each name that the container's root leads to are written as JSON, as `borsh_json::Json::names` says it. Left
 /// open: code 3; as there.
-///
-/// ```c
-/// uint32_t code = borsh_c_names(schema, schema_length, room, room_length, &needed);
-/// ```
 #[unsafe(no_mangle)]
 pub extern "C" fn borsh_c_names(
     alloc: Global,
@@ -118,10 +106,6 @@ pub extern "C" fn borsh_c_names(
 
 /// Whether all of `value` is a value of the container's root; after code 1 the offset in `place` is that of a fault. Left open: code 3;
 /// code 5 for a container that breaks a rule or is ambiguous; the text after 1; the path.
-///
-/// ```c
-/// uint32_t code = borsh_c_member(schema, schema_length, value, value_length, &place, room, room_length, &needed);
-/// ```
 #[unsafe(no_mangle)]
 pub extern "C" fn borsh_c_member(
     alloc: Global,
@@ -153,10 +137,6 @@ pub extern "C" fn borsh_c_member(
 /// ambiguous; an offset after 1 is that of a fault of `value`, which is no member; without one `value` is a member, and there is a reason
 /// why it has no JSON, of those that `borsh_json::to_json` has. Left open: code 3; code 5 for such a container; which reason it is; the
 /// text after 1; the path; `has_quoted_numbers`.
-///
-/// ```c
-/// uint32_t code = borsh_c_to_json(schema, schema_length, value, value_length, true, false, &place, room, room_length, &needed);
-/// ```
 #[unsafe(no_mangle)]
 pub extern "C" fn borsh_c_to_json(
     alloc: Global,
@@ -187,10 +167,6 @@ pub extern "C" fn borsh_c_to_json(
 /// Gives the bytes of the value that `json` says, which is UTF-8. Determined: after code 0 `json` says the bytes, a member of the root,
 /// and no others, and the keys of its sets and maps ascend where their order is known; the other codes as of [`borsh_c_to_json`], but after 1 `json` isn't UTF-8, or there is a reason of those that
 /// `borsh_json::from_json` has, and an offset only if it isn't JSON. Left open: as there; the offset.
-///
-/// ```c
-/// uint32_t code = borsh_c_from_json(schema, schema_length, json, json_length, &place, room, room_length, &needed);
-/// ```
 #[unsafe(no_mangle)]
 pub extern "C" fn borsh_c_from_json(
     alloc: Global,
@@ -240,10 +216,6 @@ fn style(is_compact: bool, has_quoted_numbers: bool) -> Style
 /// value, and the offset is that of the fault; after 1 none are, whatever bytes follow, or without an offset the root has the empty value.
 /// Left open: code 3; code 5, or fewer lengths, for a container that breaks a rule or is ambiguous; whether more bytes help after 6; what is behind the
 /// first `count` lengths; the text after 1 with an offset, and after 6; the path.
-///
-/// ```c
-/// uint32_t code = borsh_c_records(schema, schema_length, bytes, length, lengths, lengths_room, &count, &place, room, room_length, &needed);
-/// ```
 #[unsafe(no_mangle)]
 pub extern "C" fn borsh_c_records(
     alloc: Global,
@@ -285,10 +257,6 @@ pub extern "C" fn borsh_c_records(
 /// bytes is cut. Determined: after code 0 the lines say the first `count` values, each a member of the root, in one line each; there is
 /// one, unless there are no lengths; if there is a value behind them, there is a reason why it has no JSON; after 1 and 5 as of
 /// [`borsh_c_to_json`] for the first. Left open: as there.
-///
-/// ```c
-/// uint32_t code = borsh_c_json_lines(schema, schema_length, values, length, lengths, lengths_count, false, &count, &place, room, room_length, &needed);
-/// ```
 #[unsafe(no_mangle)]
 pub extern "C" fn borsh_c_json_lines(
     alloc: Global,
@@ -331,10 +299,6 @@ pub extern "C" fn borsh_c_json_lines(
 /// code 0 the container keeps the rules, and has the definitions of a type of some tree of items, as `borsh_source::compile` says, and no
 /// others. Left open: code 3; how the texts are read, so which tree and type these are, and which texts have none: tested; the text after
 /// 1; the place.
-///
-/// ```c
-/// uint32_t code = borsh_c_compile(text, text_length, type_text, type_text_length, &place, room, room_length, &needed);
-/// ```
 #[unsafe(no_mangle)]
 pub extern "C" fn borsh_c_compile(
     alloc: Global,
@@ -362,10 +326,6 @@ pub extern "C" fn borsh_c_compile(
 /// Whether each value of the old container's root is a value of the new one's, and what changed. Determined: after code 0 each is; after 1
 /// some bytes are a value of the old alone; after 2 the first container that is none, by `old` or `new`. Left open: code 3; code 5 in
 /// place of 0 and 1; the text after 0, 1 and 5: tested.
-///
-/// ```c
-/// uint32_t code = borsh_c_compare(old_schema, old_length, new_schema, new_length, room, room_length, &needed);
-/// ```
 #[unsafe(no_mangle)]
 pub extern "C" fn borsh_c_compare(
     alloc: Global,

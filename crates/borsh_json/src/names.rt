@@ -37,10 +37,8 @@ impl Table<'_, '_> {
         ensures { (x : List ℕ) → IsAt (names_of self.now) at x →
             IsWord (forms_of self.now) (names_of self.now) x result.now }
     {
-        if self.is_zero_size(at) {
-            return "empty";
-        }
         match self.kind(at) {
+            _ if self.is_zero_size(at) => "empty",
             Some((_, kind)) => word_of(kind),
             None => "refused",
         }
