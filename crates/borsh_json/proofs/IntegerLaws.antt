@@ -10,7 +10,7 @@ use Rattle.borsh_json.specs.Table.{InRange}
 use Rattle.borsh_json.specs.Ranks.{rank_of}
 use Rattle.borsh_json.specs.Integers.{IsEncoded, signed_as, turned}
 use Rattle.borsh_json.proofs.RepresentsLaws.{power_most}
-use Rattle.borsh_values.proofs.NumberLaws.{Bytes, value_written, value_small, value_under, drop_bytes, drop_at}
+use Rattle.borsh_values.proofs.Tags.{Bytes, value_written, value_small, value_under, drop_bytes, drop_at}
 
 tail_bytes : (b : ℕ) (bs : List ℕ) → Bytes (b ∷ bs) → Bytes bs
 tail_bytes b bs f = λ i h. f (suc i) (omega arith)

@@ -16,11 +16,8 @@ use Rattle.borsh_values.specs.declared.frames.Opened.TheVariants.{Undecided, Ref
 use Rattle.borsh_values.specs.Nodes.{packed_size, OpensElements, Opens}
 use Rattle.borsh_values.specs.Faults.{BeginsWith, Refuses, HasOtherCount, HasOtherTag}
 use Rattle.borsh_values.specs.Steps.{remaining, required_by, OnlyEmpty, AllOnlyEmpty, OpensOnce, NoneBegins, Takes, FoundAs, TakesElements, OpensAs}
-use Rattle.borsh_values.proofs.FoundLaws.{listed_at, only_name}
-use Rattle.borsh_values.proofs.Packed.{packed_is, copies_are}
-use Rattle.borsh_values.proofs.PrefixFree.{same_front, one_count, member_as}
-use Rattle.borsh_values.proofs.Required.{only_empty_members}
-use Rattle.borsh_values.proofs.FrontLaws.{opens_once, once_variant}
+use Rattle.borsh_values.proofs.Tags.{listed_at, only_name}
+use Rattle.borsh_values.proofs.Members.{packed_is, copies_are, same_front, one_count, member_as, only_empty_members, opens_once, once_variant}
 use Rattle.borsh_values.specs.declared.faults.Reason.TheVariants.{TooShort}
 
 take_drop : (n : ℕ) (xs : List ℕ) → take n xs ++ drop n xs ≡ xs

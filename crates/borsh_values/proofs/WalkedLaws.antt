@@ -11,13 +11,8 @@ use Rattle.borsh_values.specs.Numbers.{value_of}
 use Rattle.borsh_values.specs.Steps.{OpensOnce}
 use Rattle.borsh_values.specs.Tags.{IsVariantIndex}
 use Rattle.borsh_values.specs.Walks.{IsReadTo, IsCounted, CountsIfTaken}
-use Rattle.borsh_values.proofs.FoundLaws.{listed_at}
-use Rattle.borsh_values.proofs.FrontLaws.{member_opens}
-use Rattle.borsh_values.proofs.KeyLaws.{value_low}
-use Rattle.borsh_values.proofs.Packed.{no_more}
-use Rattle.borsh_values.proofs.PrefixFree.{member_as}
-use Rattle.borsh_values.proofs.ReadsLaws.{reads_on, reads_one, reads_skip}
-use Rattle.borsh_values.proofs.Required.{members_head, pass_one, whole, joined}
+use Rattle.borsh_values.proofs.Tags.{listed_at, value_low}
+use Rattle.borsh_values.proofs.Members.{member_opens, no_more, member_as, reads_on, reads_one, reads_skip, members_head, pass_one, whole, joined}
 
 -- the first bytes behind which others are
 first_of : (w : ℕ) (xs ys own : List ℕ) → own ≡ xs ++ ys → length xs ≡ w → (take w own ≡ xs) × (drop w own ≡ ys)

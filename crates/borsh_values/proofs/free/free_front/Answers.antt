@@ -5,11 +5,9 @@ use Rattle.borsh_values.specs.declared.free.Passed.{Passed}
 use Rattle.borsh_plan.specs.Names.{name_at}
 use Rattle.borsh_values.specs.Steps.{remaining}
 use Rattle.borsh_values.specs.Free.{FreeSize, FreeSizes, IsFreeFront}
-use Rattle.borsh_values.proofs.Measure.{some_step}
+use Rattle.borsh_values.proofs.Walk.{some_step, parts_on, fits_parts, fits_copies}
 use Rattle.borsh_values.proofs.Bytes.{small_bytes}
-use Rattle.borsh_values.proofs.OnlyLaws.{first_free}
-use Rattle.borsh_values.proofs.Places.{parts_on, fits_parts, fits_copies}
-use Rattle.borsh_values.proofs.FreeLaws.{free_copies, free_one, size_free, some_factor}
+use Rattle.borsh_values.proofs.FreeLaws.{first_free, free_copies, free_one, size_free, some_factor}
 use Rattle.borsh_values.proofs.free.free_front.Goals as goal
 
 pub returns-then-all-left : goal.returns-then-all-left

@@ -6,7 +6,7 @@ use Rattle.borsh_values.specs.declared.frames.Rest.TheVariants.{Copies}
 use Rattle.borsh_plan.specs.Names.{IsPlaceOf}
 use Rattle.borsh_values.specs.Steps.{OpensAs, Takes, remaining}
 use Rattle.borsh_values.proofs.Bytes.{small_bytes}
-use Rattle.borsh_values.proofs.OnlyLaws.{first_taken}
+use Rattle.borsh_values.proofs.FreeLaws.{first_taken}
 use Rattle.borsh_values.proofs.TakesLaws.{opens_primitive, opens_sequence}
 use Rattle.borsh_values.proofs.runs.own_length.Goals as goal
 

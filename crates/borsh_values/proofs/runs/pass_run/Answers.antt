@@ -1,5 +1,5 @@
 use Rattle.borsh_plan.specs.Plan.{definitions_of, names_of}
-use Rattle.borsh_values.proofs.OnlyLaws.{run_passes}
+use Rattle.borsh_values.proofs.FreeLaws.{run_passes}
 use Rattle.borsh_values.proofs.runs.pass_run.Goals as goal
 
 pub returns-then-has_short_parts : goal.returns-then-has_short_parts

@@ -5,7 +5,7 @@ use Rattle.borsh_plan.specs.Names.{name_at}
 use Rattle.borsh_plan.specs.Plan.{definitions_of, names_of}
 use Rattle.borsh_values.specs.Free.{AreFirst, IsRight, IsTagLength}
 use Rattle.borsh_values.proofs.Bytes.{small_bytes}
-use Rattle.borsh_values.proofs.OnlyLaws.{first_none, first_by_tag, first_copy}
+use Rattle.borsh_values.proofs.FreeLaws.{first_none, first_by_tag, first_copy}
 use Rattle.borsh_values.proofs.runs.run_of_enums.Goals as goal
 
 pub loop-values-init : goal.loop-values-init

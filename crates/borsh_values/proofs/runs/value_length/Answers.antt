@@ -3,8 +3,7 @@ use Rattle.borsh_plan.specs.Names.{name_at}
 use Rattle.borsh_plan.specs.Plan.{definitions_of, names_of}
 use Rattle.borsh_values.specs.Free.{FreeSize}
 use Rattle.borsh_values.proofs.Bytes.{small_bytes}
-use Rattle.borsh_values.proofs.FreeLaws.{free_one, size_free}
-use Rattle.borsh_values.proofs.OnlyLaws.{first_free}
+use Rattle.borsh_values.proofs.FreeLaws.{free_one, size_free, first_free}
 use Rattle.borsh_values.proofs.runs.value_length.Goals as goal
 
 pub returns-then-size-left : goal.returns-then-size-left

@@ -4,8 +4,7 @@ use Rattle.std.proofs.lemmas.List.{length-map}
 use Rattle.std.proofs.lemmas.Option.{slice_get_past}
 use Rattle.borsh_values.specs.TagTables.{at_key}
 use Rattle.borsh_values.specs.declared.tag_tables.AtKey.TheVariants.{One as AtOne, Several as AtSeveral}
-use Rattle.borsh_values.proofs.FoundLaws.{unnamed, got}
-use Rattle.borsh_values.proofs.TableLaws.{table_nothing, table_several, table_within, table_one, table_other}
+use Rattle.borsh_values.proofs.Tags.{unnamed, got, table_nothing, table_several, table_within, table_one, table_other}
 use Rattle.borsh_values.proofs.tag_tables.find_in_table.Goals as goal
 
 pub returns-then-is_tag : goal.returns-then-is_tag

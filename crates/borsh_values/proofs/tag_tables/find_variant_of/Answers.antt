@@ -1,5 +1,5 @@
 use Rattle.borsh_walks.proofs.Tables.{updated_by}
-use Rattle.borsh_values.proofs.TableLaws.{keeps_more}
+use Rattle.borsh_values.proofs.Tags.{keeps_more}
 use Rattle.borsh_values.proofs.tag_tables.find_variant_of.Goals as goal
 
 pub returns-clause-kept : goal.returns-clause-kept

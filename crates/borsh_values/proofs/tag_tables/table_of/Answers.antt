@@ -7,8 +7,7 @@ use Rattle.std.proofs.lemmas.Bool.Decides.{nat_tests}
 use Rattle.std.proofs.lemmas.List.{length-map}
 use Rattle.borsh_values.specs.TagTables.{IsTagTable, at_key}
 use Rattle.borsh_values.specs.declared.tag_tables.AtKey.{AtKey}
-use Rattle.borsh_values.proofs.FoundLaws.{unnamed, got, got_none}
-use Rattle.borsh_values.proofs.TableLaws.{table_none, table_more}
+use Rattle.borsh_values.proofs.Tags.{unnamed, got, got_none, table_none, table_more}
 use Rattle.borsh_values.proofs.tag_tables.table_of.Goals as goal
 
 none_at : (t : BTreeMap ℕ AtKey) (n : ℕ) → t.entries ≡ [] → at_key t n ≡ None

@@ -2,7 +2,7 @@ use Rattle.std.proofs.Common.{◌≡◌, ◌+◌, ℕ, ℤ, List, length, length
 use Rattle.std.specs.Prelude.{string_bytes}
 use Rattle.std.proofs.lemmas.List.{length-map}
 use Rattle.borsh_values.specs.Steps.{FoundAs}
-use Rattle.borsh_values.proofs.FoundLaws.{unnamed, got, got_none, found_more, found_same}
+use Rattle.borsh_values.proofs.Tags.{unnamed, got, got_none, found_more, found_same}
 use Rattle.borsh_values.proofs.tags.find_variant.Goals as goal
 use Rattle.borsh_values.proofs.tags.find_variant.Goals.{then-is_tag, else-is_tag}
 

@@ -1,7 +1,7 @@
 use Rattle.std.proofs.Common.{◌≡◌, ℕ, length, take, List, refl, sym, subst, arith, ◌∷◌, [], ℤ, true, false, inl, inr}
 use Rattle.std.specs.Prelude.{string_bytes}
 use Rattle.borsh_walks.specs.Container.{IsListedVariant, first_variant, later_variant, tag}
-use Rattle.borsh_values.proofs.FoundLaws.{unnamed, got, got_none, listed_append}
+use Rattle.borsh_values.proofs.Tags.{unnamed, got, got_none, listed_append}
 use Rattle.borsh_values.proofs.tags.variant_at.Goals as goal
 
 no_true : false ≡ true → ⊥

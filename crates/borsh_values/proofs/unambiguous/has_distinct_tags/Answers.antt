@@ -6,8 +6,7 @@ use Rattle.std.specs.BTreeSet.{BTreeSet, contains}
 use Rattle.std.specs.BTreeMap.{is_at}
 use Rattle.std.proofs.lemmas.Bool.Decides.{nat_tests}
 use Rattle.borsh_values.specs.Unambiguous.{DistinctTags}
-use Rattle.borsh_values.proofs.FoundLaws.{unnamed, got, got_none, distinct_left}
-use Rattle.borsh_values.proofs.DistinctLaws.{Keyed, keyed_none, keyed_more, keyed_twice}
+use Rattle.borsh_values.proofs.Tags.{unnamed, got, got_none, distinct_left, Keyed, keyed_none, keyed_more, keyed_twice}
 use Rattle.borsh_values.proofs.unambiguous.has_distinct_tags.Goals as goal
 
 none_in : (s : BTreeSet ℕ) (n : ℕ) → s.keys ≡ [] → contains nat_cmp s n ≡ false

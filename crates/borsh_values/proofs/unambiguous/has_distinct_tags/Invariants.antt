@@ -2,7 +2,7 @@ use Rattle.std.proofs.Common.{◌-◌, ◌≤◌, length, take, map}
 use Rattle.std.specs.Prelude.{string_bytes}
 use Rattle.std.specs.Ordering.{nat_cmp}
 use Rattle.std.specs.BTreeSet.{contains}
-use Rattle.borsh_values.proofs.DistinctLaws.{Keyed}
+use Rattle.borsh_values.proofs.Tags.{Keyed}
 use Rattle.borsh_values.proofs.unambiguous.has_distinct_tags.Given as goal
 
 abbrev pub invariant-loop-discriminant : goal.invariant-loop-discriminant

@@ -4,7 +4,7 @@ use Rattle.borsh_values.specs.declared.faults.Reason.TheVariants.{MissingDefinit
 use Rattle.borsh_values.specs.Cursor.{name_in}
 use Rattle.borsh_values.specs.Steps.{OpensAs}
 use Rattle.borsh_values.proofs.Answers.{refused_why}
-use Rattle.borsh_values.proofs.Going.{going_missing, going_reached}
+use Rattle.borsh_values.proofs.Walk.{going_missing, going_reached}
 use Rattle.borsh_plan.specs.Plan.{definitions_of, names_of}
 use Rattle.borsh_plan.proofs.Laws.{defined_at}
 use Rattle.borsh_values.proofs.Stepping.{cursor_stopped}

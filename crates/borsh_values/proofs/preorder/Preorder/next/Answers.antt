@@ -2,7 +2,7 @@ use Rattle.std.proofs.Common.{◌∙◌, ap, subst}
 use Rattle.borsh_plan.specs.Names.{name_at}
 use Rattle.borsh_plan.specs.Plan.{names_of}
 use Rattle.borsh_values.specs.Cursor.{Happens, OpensFull}
-use Rattle.borsh_values.proofs.PreorderLaws.{given, goes_on, none_left, undecided}
+use Rattle.borsh_values.proofs.Stepping.{given, goes_on, none_left, undecided}
 use Rattle.borsh_values.proofs.preorder.Preorder.next.Goals as goal
 use Rattle.borsh_values.proofs.preorder.Preorder.next.Goals.{in-Fault, in-Fault-2}
 
