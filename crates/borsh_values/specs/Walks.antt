@@ -13,7 +13,7 @@ use Rattle.borsh_values.specs.declared.walker.Walker.{Walker}
 use Rattle.borsh_plan.specs.Names.{name_of}
 use Rattle.borsh_values.specs.Membership.{IsUndecided}
 use Rattle.borsh_values.specs.Nodes.{Opens, Reads}
-use Rattle.borsh_values.specs.Steps.{Fits, remaining}
+use Rattle.borsh_values.specs.Steps.{Fits, OpensOnce, remaining}
 use Rattle.borsh_values.specs.TagTables.{AreTagTables}
 
 -- of a member of the root the bytes `done` are read, these names come next, and the bytes `left` are members of them
@@ -53,6 +53,7 @@ module _ {A : Type 0} (m : BTreeMap (String A) Definition) where
     -- the parts of the value
     pub parts : List (List ℕ)
     pub opens : Opens (definitions_in m) (shape_of n.definition.now) n.bytes.now parts
+    pub once : OpensOnce (definitions_in m) (shape_of n.definition.now) n.bytes.now parts
     pub counted : IsCounted (shape_of n.definition.now)
     pub onward : GoesOnTo x (shape_of n.definition.now) n.bytes.now old.left.now new.left.now
 

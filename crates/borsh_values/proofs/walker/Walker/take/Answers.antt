@@ -33,6 +33,7 @@ returns-in-Taken-clause-finds c =
         next = ap (λ i. w.offset + i) (sym (ap (λ b. length b) c.front.ensures ∙ length-take-le n left o.0.within));
         parts = parts;
         opens = opens;
+        once = once;
         counted = subst (λ o. CountsIfTaken d o) c.in-Taken.is c.in_ok-taken.ensures.counted;
         onward = λ root done ns ps h r. read_on C d ns there once joins h r;
       },
