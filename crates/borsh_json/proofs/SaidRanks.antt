@@ -14,7 +14,7 @@ use Rattle.json.specs.Json.{Json, null, array as json_array, Items, no_items, it
 use Rattle.borsh_walks.specs.Container.{IsIn, first, later, tag}
 use Rattle.borsh_walks.specs.Container as shape
 use Rattle.borsh_walks.proofs.Laws.{zero_as}
-use Rattle.borsh_values.proofs.Members.{copies_of}
+use Rattle.borsh_values.proofs.MemberLaws.{copies_of}
 use Rattle.borsh_json.specs.Descents.{HasKeys}
 use Rattle.borsh_json.specs.Forms.{Form, primitive, sequence, tuple, choice, shapes, HasNoBytes, IsByte, IsOption}
 use Rattle.borsh_json.specs.Ordered.{Order, single, numbers, text, array, list, parts, needs, AreNumbers, IsListName, HasOrder, OrdersBytes, IsOrdered, ordered, Ranked, a_value, elements, Rank, no_rank, more_rank, Compare}

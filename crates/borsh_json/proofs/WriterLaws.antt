@@ -58,7 +58,7 @@ use Rattle.borsh_json.specs.Places.{IsAt, AreKeysOf, IsKindOf, lengths_of}
 use Rattle.borsh_json.specs.Represents.{SaysFirst, next_part}
 use Rattle.borsh_json.specs.Table.{Keys, no_bytes, utf8, HasKind, key_order, key_json}
 use Rattle.borsh_walks.proofs.Laws.{zero_member}
-use Rattle.borsh_values.proofs.Members.{opens_member, members_head}
+use Rattle.borsh_values.proofs.MemberLaws.{opens_member, members_head}
 use Rattle.borsh_values.proofs.WalkedLaws.{read_product}
 use Rattle.borsh_json.specs.Writes.{IsAbove, IsLast, IsBegunOf, IsWhole, IsWrittenOn, ends_of, Rest, IsRest, WritesFront, names_of_rest, names_of_all, leaf_depth, opened, Nested, passed, Mark, AreEach, IsNewPlace, IsAscending, IsKeyed, IsLastKey, IsMarked, IsRestOf, BeginsNext, TellsAscent, IsWriterOf, IsHalved, IsWriting, IsAwaiting, RefusesOwn, RefusesValue, IsWrittenAs, Stops, IsWritingAt, IsAwaitingAt, IsFull, IsFullOrFalls, AscendsFrom, IsOfWrite}
 use Rattle.borsh_json.proofs.FormsLaws.{shape_is, shapes_are}

@@ -13,7 +13,7 @@ use Rattle.borsh_values.specs.Nodes.{Reads}
 use Rattle.borsh_values.specs.Fronts.{IsAt, StopsAt, IsFront, HasNoFront, IsFrontAnswer, AnswersFront, IsDecidedFront}
 use Rattle.borsh_values.specs.Steps.{NoneBegins}
 use Rattle.borsh_values.specs.Cursor.{Begun, Why, before}
-use Rattle.borsh_values.proofs.Members.{begun_end}
+use Rattle.borsh_values.proofs.MemberLaws.{begun_end}
 use Rattle.borsh_values.proofs.TakesLaws.{take_front}
 use Rattle.borsh_walks.specs.RulesAnswer.{KeepsWidths, IsWidth}
 use Rattle.borsh_values.specs.Unambiguous.{IsUnambiguous}

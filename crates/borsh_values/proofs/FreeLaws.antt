@@ -9,13 +9,14 @@ use Rattle.borsh_plan.specs.declared.plan.Plan.{Plan}
 use Rattle.borsh_plan.specs.Names.{name_at, parts_in}
 use Rattle.borsh_plan.specs.Sizes.{fitting, are_known, together, known_by, known_within}
 use Rattle.borsh_plan.specs.Plan.{SizeAt, definitions_of, names_of}
-use Rattle.borsh_values.proofs.Members.{member_as, same_front, members_head, whole, unwhole, joined, parted, no_more, opens_member, member_opens, opens_once}
+use Rattle.borsh_values.proofs.MemberLaws.{member_as, same_front, members_head, whole, unwhole, joined, parted, no_more, opens_member, member_opens, opens_once}
 use Rattle.borsh_values.specs.Free.{FreeSize, FreeSizes, AreOnly, AreFirst, IsTagLength, IsRun, IsFreeFront, Passes}
 use Rattle.borsh_plan.specs.declared.named.Named.{Named}
 use Rattle.borsh_values.specs.declared.frames.Rest.TheVariants.{Copies}
 use Rattle.borsh_values.specs.declared.tags.Found.TheVariants.{One}
 use Rattle.borsh_values.specs.Nodes.{Opens}
-use Rattle.borsh_values.specs.Steps.{OpensOnce, Takes, FoundAs, step_count}
+use Rattle.borsh_values.specs.Steps.{OpensOnce, Takes, step_count}
+use Rattle.borsh_values.specs.Tags.{FoundAs}
 use Rattle.borsh_values.specs.declared.free.Passed.{Passed}
 use Rattle.borsh_values.specs.declared.runs.Run.{Run}
 use Rattle.borsh_values.proofs.TakesLaws.{found_choice}

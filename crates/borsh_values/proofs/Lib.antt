@@ -1,8 +1,8 @@
 pub mod Bytes
 pub mod TakesLaws
 pub mod Answers
-pub mod Tags
-pub mod Members
+pub mod TagLaws
+pub mod MemberLaws
 pub mod RecordLaws
 pub mod Walk
 pub mod FreeLaws

@@ -30,7 +30,7 @@ use Rattle.borsh_values.specs.Nodes.{Opens}
 use Rattle.borsh_values.specs.Steps.{GoesOn, KnownAs, NoneBegins, OnlyEmpty, past_copies, pending, remaining}
 use Rattle.borsh_values.proofs.Answers.{before_whole, suffix_on, answers_no, is_front}
 use Rattle.borsh_values.proofs.Walk.{going_skip, known_empty, less_skip, going_reached, going_next, going_denied, room, going_new, going_on, going_past, going_pass, going_up, going_up_empty, going_back, going_leads, less_new, less_on, less_past, less_pass, next_names, left, passes, with_rest}
-use Rattle.borsh_values.proofs.Members.{members_head, no_more}
+use Rattle.borsh_values.proofs.MemberLaws.{members_head, no_more}
 use Rattle.borsh_values.specs.declared.fronts.Front.{Front}
 use Rattle.borsh_values.specs.declared.fronts.Front.TheVariants.{Value, Ambiguous}
 use Rattle.borsh_values.specs.Fronts.{IsFrontAnswer, StopsAt}

@@ -26,7 +26,7 @@ use Rattle.borsh_walks.specs.SizeAnswer.{distinct_none, distinct_more}
 use Rattle.borsh_values.specs.Faults.{BeginsWith, LeadsTo}
 use Rattle.borsh_values.specs.Nodes.{Opens, Reads, reads_none}
 use Rattle.borsh_values.specs.declared.frames.Mark.TheVariants.{Empty, Open}
-use Rattle.borsh_values.proofs.Members.{begun_start, begun_skip, begun_on, begun_denied, begun_first, reads_on, reads_member, reads_skip, leads_on, only_empty_copies, not_required}
+use Rattle.borsh_values.proofs.MemberLaws.{begun_start, begun_skip, begun_on, begun_denied, begun_first, reads_on, reads_member, reads_skip, leads_on, only_empty_copies, not_required}
 use Rattle.borsh_values.specs.Free.{AreFirst, IsFreeFront}
 use Rattle.borsh_values.specs.declared.faults.Reason.{Reason}
 use Rattle.borsh_plan.specs.Plan.{definitions_of, map_of, names_of, root_of}

@@ -7,12 +7,11 @@ use Rattle.borsh_walks.proofs.Laws.{length-tag, zero_member}
 use Rattle.borsh_values.specs.declared.frames.Opened.{Opened}
 use Rattle.borsh_values.specs.declared.frames.Opened.TheVariants.{Undecided, Refused, Taken}
 use Rattle.borsh_values.specs.Nodes.{packed_size, Opens, OpensElements, IsCountOf, IsVariantOf, Reads, reads_none}
-use Rattle.borsh_values.specs.Numbers.{value_of}
+use Rattle.borsh_values.specs.Tags.{value_of, IsVariantIndex}
 use Rattle.borsh_values.specs.Steps.{OpensOnce}
-use Rattle.borsh_values.specs.Tags.{IsVariantIndex}
 use Rattle.borsh_values.specs.Walks.{IsReadTo, IsCounted, CountsIfTaken}
-use Rattle.borsh_values.proofs.Tags.{listed_at, value_low}
-use Rattle.borsh_values.proofs.Members.{member_opens, no_more, member_as, reads_on, reads_one, reads_skip, members_head, pass_one, whole, joined}
+use Rattle.borsh_values.proofs.TagLaws.{listed_at, value_low}
+use Rattle.borsh_values.proofs.MemberLaws.{member_opens, no_more, member_as, reads_on, reads_one, reads_skip, members_head, pass_one, whole, joined}
 
 -- the first bytes behind which others are
 first_of : (w : ℕ) (xs ys own : List ℕ) → own ≡ xs ++ ys → length xs ≡ w → (take w own ≡ xs) × (drop w own ≡ ys)

@@ -15,7 +15,7 @@ use Rattle.borsh_values.specs.Fronts.{StopsAt}
 use Rattle.borsh_values.specs.Membership.{IsUndecided}
 use Rattle.borsh_values.specs.Nodes.{Opens, Reads}
 use Rattle.borsh_values.specs.Steps.{AllFit, NoneBegins, OpensAs, mark_at, pending, remaining, required_by, step_count, OnlyEmpty, AllOnlyEmpty}
-use Rattle.borsh_values.specs.TagTables.{AreTagTables}
+use Rattle.borsh_values.specs.Tags.{AreTagTables}
 use Rattle.borsh_values.specs.declared.faults.Reason.{Reason}
 use Rattle.borsh_values.specs.declared.faults.Reason.TheVariants.{BytesLeft, TooShort, Count, Tag, MissingDefinition, Recursive}
 use Rattle.borsh_values.specs.declared.frames.Frame.{Frame}

@@ -1,12 +1,9 @@
 pub mod Unambiguous
 pub mod Membership
-pub mod Numbers
 pub mod Tags
-pub mod Keys
 pub mod Nodes
 pub mod Faults
 pub mod Steps
-pub mod TagTables
 pub mod Free
 pub mod Fronts
 pub mod Cursor

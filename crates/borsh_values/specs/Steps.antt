@@ -15,8 +15,6 @@ use Rattle.borsh_values.specs.declared.frames.Rest.TheVariants.{Copies, Parts}
 use Rattle.borsh_values.specs.declared.frames.Frame.{Frame}
 use Rattle.borsh_values.specs.declared.frames.Opened.{Opened}
 use Rattle.borsh_values.specs.declared.frames.Opened.TheVariants.{Undecided, Refused, Taken}
-use Rattle.borsh_values.specs.declared.tags.Found.{Found}
-use Rattle.borsh_values.specs.declared.tags.Found.TheVariants.{Nothing, One, Several}
 use Rattle.borsh_values.specs.declared.frames.Mark.{Mark}
 use Rattle.borsh_values.specs.declared.frames.Mark.TheVariants.{Empty as MarkedEmpty, Open as MarkedOpen}
 use Rattle.borsh_values.specs.declared.frames.Known.{Known}
@@ -125,18 +123,6 @@ TakesElements ns m e k w all Undecided = ⊥
 TakesElements ns m e k w all (Refused r) = (r ≡ TooShort) × (all < w + k * m)
 TakesElements ns zero e k w all (Taken n r) = (n ≡ w) × (remaining ns r ≡ replicate k (name_at ns e)) × (step_count ns r ≤ 3) × Fits ns r
 TakesElements ns (suc m) e k w all (Taken n r) = (n ≡ w + k * suc m) × (n ≤ all) × (remaining ns r ≡ []) × (step_count ns r ≤ 3) × Fits ns r
-
--- what was found with one variant more
-abbrev pub more_found : Found → ℕ → Found
-more_found Nothing i = One i
-more_found (One j) i = Several
-more_found Several i = Several
-
--- of the variants those are found whose tags are these bytes: none, the one at an index and no other, or several; where there is no byte, that is all of them
-abbrev pub FoundAs : List (ℤ × List ℕ) → List ℕ → Found → Type 0
-FoundAs vs t Nothing = ((j : ℤ) (q : List ℕ) → IsListedVariant j q vs → tag (length t) j ≡ t → ⊥) × (t ≡ [] → vs ≡ [])
-FoundAs vs t (One i) = (k : ℤ) × (p : List ℕ) × (slice_get vs i ≡ Some (k, p)) × (tag (length t) k ≡ t) × ((m : ℕ) (j : ℤ) (q : List ℕ) → slice_get vs m ≡ Some (j, q) → tag (length t) j ≡ t → m ≡ i) × (t ≡ [] → vs ≡ (k, p) ∷ [])
-FoundAs vs t Several = DistinctTags (length t) vs → ⊥
 
 -- what the mark of a name says where n bytes are left
 abbrev pub KnownAs : Option Mark → ℕ → Known → Type 0

@@ -14,7 +14,7 @@ use Rattle.borsh_plan.specs.Names.{name_of}
 use Rattle.borsh_values.specs.Membership.{IsUndecided}
 use Rattle.borsh_values.specs.Nodes.{Opens, Reads}
 use Rattle.borsh_values.specs.Steps.{Fits, OpensOnce, remaining}
-use Rattle.borsh_values.specs.TagTables.{AreTagTables}
+use Rattle.borsh_values.specs.Tags.{AreTagTables}
 
 -- of a member of the root the bytes `done` are read, these names come next, and the bytes `left` are members of them
 abbrev pub IsReadTo : (List ℕ → Option Shape) → List ℕ → List ℕ → List (List ℕ) → List ℕ → Type 0

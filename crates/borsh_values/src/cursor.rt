@@ -9,7 +9,7 @@ use crate::faults::{Path, Reason, path_to};
 use crate::frames::{Frame, Known, Mark, Opened, Rest, Step, after_copies, has_parts, next_part};
 use crate::free::free_front;
 use crate::opening::open_definition;
-use crate::tag_tables::AtKey;
+use crate::tags::Found;
 use borsh_plan::Plan;
 use borsh_walks::Definition;
 use std::alloc::{AllocError, Global};
@@ -24,7 +24,7 @@ pub struct Cursor<'a, 'p, 'b> {
     pub bytes: &'b [u8],
     pub left: &'b [u8],
     marks: Vec<Option<Mark>>,
-    tables: BTreeMap<&'a str, BTreeMap<u64, AtKey>>,
+    tables: BTreeMap<&'a str, BTreeMap<u64, Found>>,
     stack: Vec<Frame>,
     frame: Frame,
     // How many names were begun since the last byte was taken.

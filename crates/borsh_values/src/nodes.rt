@@ -3,8 +3,7 @@ ghost use Rattle.borsh_values.specs.Nodes.{AreElementsOf, IsCountOf, IsVariantOf
 ghost use Rattle.borsh_walks.specs.Definitions.{shape_of};
 ghost use Rattle.std.specs.Prelude.{◌≡◌, take};
 
-use crate::numbers::number;
-use crate::tags::variant_at;
+use crate::tags::{number, variant_at};
 use borsh_walks::Definition;
 
 /// A part of a value, or the value itself, with the bytes that it encodes before its own parts: a primitive all

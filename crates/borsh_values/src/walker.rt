@@ -6,7 +6,7 @@ use crate::cursor::{after, front};
 use crate::frames::{Opened, Rest};
 use crate::nodes::Node;
 use crate::opening::open_definition;
-use crate::tag_tables::AtKey;
+use crate::tags::Found;
 use borsh_plan::Plan;
 use std::alloc::{AllocError, Global};
 use std::collections::BTreeMap;
@@ -25,7 +25,7 @@ use std::collections::BTreeMap;
 pub struct Walker<'a, 'l, 'b> {
     alloc: Global,
     pub plan: &'l Plan<'a>,
-    tables: BTreeMap<&'a str, BTreeMap<u64, AtKey>>,
+    tables: BTreeMap<&'a str, BTreeMap<u64, Found>>,
     /// The bytes that are left.
     pub left: &'b [u8],
     /// How many bytes of the value come before these.

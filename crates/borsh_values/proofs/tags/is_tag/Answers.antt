@@ -1,7 +1,7 @@
 use Rattle.std.proofs.Common.{◌≡◌, sym, ◌∙◌, ap, length, rules, SFits, w64, of_z, to_z}
 use Rattle.std.proofs.lemmas.Int.{to_z-of_z}
 use Rattle.borsh_values.specs.Tags.{tag_from, is_negative, magnitude_of}
-use Rattle.borsh_values.proofs.Tags.{tag_is}
+use Rattle.borsh_values.proofs.TagLaws.{tag_is}
 use Rattle.borsh_values.proofs.tags.is_tag.Goals as goal
 
 pub returns : goal.returns

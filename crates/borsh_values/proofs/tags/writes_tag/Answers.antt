@@ -1,6 +1,6 @@
 use Rattle.std.proofs.Common.{◌≡◌, suc, ◌+◌, ◌-◌, ◌/◌, length, drop, get_or, refl, sym, ◌∙◌, ap, arith, add-one}
 use Rattle.borsh_values.specs.Tags.{tag_from}
-use Rattle.borsh_values.proofs.Tags.{tag_forth, tag_back, drop_all}
+use Rattle.borsh_values.proofs.TagLaws.{tag_forth, tag_back, drop_all}
 use Rattle.borsh_values.proofs.tags.writes_tag.Goals as goal
 
 pub loop-b-init : goal.loop-b-init

@@ -9,7 +9,7 @@ use Rattle.borsh_values.proofs.Answers.{before_start, suffix_start}
 use Rattle.borsh_values.proofs.Walk.{going_start}
 use Rattle.borsh_plan.specs.Plan.{definitions_of, names_of}
 use Rattle.borsh_plan.proofs.Laws.{root_there}
-use Rattle.borsh_values.proofs.Tags.{tables_none}
+use Rattle.borsh_values.proofs.TagLaws.{tables_none}
 use Rattle.borsh_values.proofs.cursor.Cursor.new.Goals as goal
 
 pub returns-clause-cursor : goal.returns-clause-cursor

@@ -6,7 +6,7 @@ use Rattle.borsh_plan.specs.Plan.{definitions_of, names_of}
 use Rattle.borsh_values.specs.Nodes.{Opens}
 use Rattle.borsh_values.specs.Steps.{OpensAs, OpensOnce, remaining}
 use Rattle.borsh_values.specs.Walks.{CountsIfTaken}
-use Rattle.borsh_values.proofs.Members.{members_head}
+use Rattle.borsh_values.proofs.MemberLaws.{members_head}
 use Rattle.borsh_values.proofs.WalkedLaws.{read_on}
 use Rattle.borsh_values.proofs.walker.Walker.take.Goals as goal
 
