@@ -20,9 +20,8 @@ use Rattle.borsh_walks.specs.Container.{Shape, Rule, Breaks, Member, MaxSize, Pa
 use Rattle.borsh_walks.specs.Definitions.{definitions_in}
 use Rattle.borsh_walks.specs.Errors.{rule_name}
 use Rattle.borsh_walks.specs.declared.definition.Definition.{Definition}
-use Rattle.borsh_values.specs.Membership.{IsUndecided}
+use Rattle.borsh_values.specs.Membership.{IsUndecided, IsFault}
 use Rattle.borsh_values.specs.Unambiguous.{IsUnambiguous}
-use Rattle.borsh_values.specs.Faults.{IsFault}
 use Rattle.borsh_values.specs.declared.faults.Fault.{Fault}
 use Rattle.borsh_c.specs.Room.{IsGiven}
 use Rattle.borsh_c.specs.declared.refusal.Refusal.{Refusal}

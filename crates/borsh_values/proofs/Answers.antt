@@ -8,16 +8,13 @@ use Rattle.borsh_values.specs.declared.faults.Reason.{Reason}
 use Rattle.borsh_values.specs.declared.faults.Reason.TheVariants.{BytesLeft, TooShort as IsShort, Count, Tag, MissingDefinition, Recursive}
 use Rattle.borsh_values.specs.declared.fronts.Front.{Front}
 use Rattle.borsh_values.specs.declared.fronts.Front.TheVariants.{Value, TooShort, NoMember, Ambiguous}
-use Rattle.borsh_values.specs.Faults.{BeginsWith, Refuses, HasOtherCount, HasOtherTag, IsRefused, IsWhy, Stops, IsFault}
+use Rattle.borsh_values.specs.Membership.{BeginsWith, Refuses, HasOtherCount, HasOtherTag, IsRefused, IsWhy, Stops, IsFault, IsAt, StopsAt, IsFront, HasNoFront, IsFrontAnswer, AnswersFront, IsDecidedFront, IsUndecided, IsDecided, IsAnswer, AnswersMembership}
 use Rattle.borsh_values.specs.Nodes.{Reads}
-use Rattle.borsh_values.specs.Fronts.{IsAt, StopsAt, IsFront, HasNoFront, IsFrontAnswer, AnswersFront, IsDecidedFront}
-use Rattle.borsh_values.specs.Steps.{NoneBegins}
-use Rattle.borsh_values.specs.Cursor.{Begun, Why, before}
+use Rattle.borsh_values.specs.Cursor.{NoneBegins, Begun, Why, before}
 use Rattle.borsh_values.proofs.MemberLaws.{begun_end}
 use Rattle.borsh_values.proofs.TakesLaws.{take_front}
 use Rattle.borsh_walks.specs.RulesAnswer.{KeepsWidths, IsWidth}
 use Rattle.borsh_values.specs.Unambiguous.{IsUnambiguous}
-use Rattle.borsh_values.specs.Membership.{IsUndecided, IsDecided, IsAnswer, AnswersMembership}
 use Rattle.borsh_values.specs.declared.members.Membership.{Membership}
 use Rattle.borsh_values.specs.declared.members.Membership.TheVariants.{Member as IsMember, NoMember as IsNoMember, Ambiguous as IsAmbiguous}
 

@@ -9,15 +9,16 @@ use Rattle.borsh_plan.specs.declared.plan.Plan.{Plan}
 use Rattle.borsh_plan.specs.Names.{name_at, parts_in}
 use Rattle.borsh_plan.specs.Sizes.{fitting, are_known, together, known_by, known_within}
 use Rattle.borsh_plan.specs.Plan.{SizeAt, definitions_of, names_of}
+use Rattle.borsh_plan.proofs.SizesLaws.{first_known, fits}
 use Rattle.borsh_values.proofs.MemberLaws.{member_as, same_front, members_head, whole, unwhole, joined, parted, no_more, opens_member, member_opens, opens_once}
 use Rattle.borsh_values.specs.Free.{FreeSize, FreeSizes, AreOnly, AreFirst, IsTagLength, IsRun, IsFreeFront, Passes}
 use Rattle.borsh_plan.specs.declared.named.Named.{Named}
 use Rattle.borsh_values.specs.declared.frames.Rest.TheVariants.{Copies}
 use Rattle.borsh_values.specs.declared.tags.Found.TheVariants.{One}
 use Rattle.borsh_values.specs.Nodes.{Opens}
-use Rattle.borsh_values.specs.Steps.{OpensOnce, Takes, step_count}
+use Rattle.borsh_values.specs.Cursor.{OpensOnce, Takes, step_count}
 use Rattle.borsh_values.specs.Tags.{FoundAs}
-use Rattle.borsh_values.specs.declared.free.Passed.{Passed}
+use Rattle.borsh_values.specs.declared.runs.Passed.{Passed}
 use Rattle.borsh_values.specs.declared.runs.Run.{Run}
 use Rattle.borsh_values.proofs.TakesLaws.{found_choice}
 
@@ -83,17 +84,6 @@ some_factor a zero h = absurd (omega (arith, h))
 some_factor a (suc b) h = omega arith
 
 -- ---- names of a known size are free
-fits_or : (n : ℕ) (b : Bool) → 0 < cond b n 0 → cond b n 0 ≡ n
-fits_or n true h = refl
-fits_or n false h = absurd (omega arith)
-
-fits : (n : ℕ) → 0 < fitting n → fitting n ≡ n
-fits n h = fits_or n (ltb n (2 ^ 64)) h
-
-first_known : (n : ℕ) (ns : List ℕ) → are_known (n ∷ ns) ≡ true → (0 < n) × (are_known ns ≡ true)
-first_known zero ns h = cc
-first_known (suc n) ns h = (omega arith, h)
-
 module _ (C : List ℕ → Option Shape) (P : List ℕ → ℕ) (sound : (x : List ℕ) → 0 < P x → FreeSize C x (P x)) where
   all_free : (ps : List (List ℕ)) → are_known (map P ps) ≡ true → FreeSizes C ps (sum_of (map P ps))
   all_free [] h = free_none C

@@ -6,13 +6,12 @@ use Rattle.std.proofs.lemmas.Bool.{cases_lt}
 use Rattle.borsh_walks.specs.Container.{Shape, primitive, sequence, product, choice, IsIn, first, later, IsListedVariant, first_variant, later_variant, low_bytes, tag, Member, of_primitive, of_sequence, of_parts, of_choice, Members, no_members, more_members, onward, Reached, Reaches, IsOnCycle}
 use Rattle.borsh_values.specs.Unambiguous.{DistinctTags, no_tags, more_tags, IsUnambiguous, UnambiguousShape}
 use Rattle.borsh_walks.proofs.Laws.{length-tag, one_definition, variant-listed, among-replicate, lead_out, zero_member}
-use Rattle.borsh_values.specs.Steps.{required_by, OnlyEmpty, AllOnlyEmpty, OpensOnce}
+use Rattle.borsh_values.specs.Cursor.{required_by, OnlyEmpty, AllOnlyEmpty, OpensOnce, Begun}
 use Rattle.borsh_walks.proofs.Names.{among_one}
 use Rattle.std.proofs.Math.Nat.{suc-mul}
 use Rattle.std.proofs.lemmas.List.Elements.{All-nil, All-append, All-take, All-drop, All-same}
 use Rattle.borsh_values.specs.Nodes.{packed_size, OpensElements, Opens, Reads, reads_none, reads_more}
-use Rattle.borsh_values.specs.Faults.{LeadsTo, BeginsWith}
-use Rattle.borsh_values.specs.Cursor.{Begun}
+use Rattle.borsh_values.specs.Membership.{LeadsTo, BeginsWith}
 use Rattle.borsh_values.specs.Free.{AreOnly}
 
 -- ---- a container whose reached definitions are unambiguous is prefix-free

@@ -3,8 +3,8 @@ use Rattle.std.proofs.Common.{◌≡◌, ℕ, zero, suc, ◌<◌, List, [], ◌�
 use Rattle.std.specs.Prelude.{Option, ◌-◌, ◌^◌, ◌⊎◌, min, IfOk, OnOk, IfErr}
 use Rattle.std.proofs.lemmas.List.{append_cancel_left, take-append-le, drop-append-le, take-take, take_all}
 use Rattle.borsh_walks.specs.Container.{Shape, Member}
-use Rattle.borsh_values.specs.Fronts.{IsFront, HasNoFront}
-use Rattle.borsh_values.specs.Next.{AreValues, IsFirst}
+use Rattle.borsh_values.specs.Membership.{IsFront, HasNoFront, BeginsWith}
+use Rattle.borsh_values.specs.Records.{AreValues, IsFirst, reader_of, held, Lost, IsUnread, ReadsMore, TakesHeld, IsFirstOf, IsRecordError, FaultsAre, Advances, AdvancesHeld, SameRoot, Falls, most_at_once, ahead, limit_of, next_offset, source_of, value_of}
 use Rattle.std.proofs.Math.Seq.{take-append_seam, take-append-add}
 use Rattle.std.specs.Io.KnownBytes.{Consumes, Keeps, IsAtEnd}
 use Rattle.std.proofs.KnownBytes.{Consumes-nil, Consumes-kept, Consumes-trans}
@@ -13,10 +13,8 @@ use Rattle.borsh_io.specs.Stream.{ReaderState, Consumed, CountedUp, ReadFailedAf
 use Rattle.borsh_io.specs.declared.error.Error.{Error}
 use Rattle.borsh_io.specs.declared.error.ErrorKind.{ErrorKind}
 use Rattle.borsh_io.specs.declared.error.ErrorKind.TheVariants.{OutOfMemory as NoRoom}
-use Rattle.borsh_values.specs.Faults.{BeginsWith}
 use Rattle.borsh_values.specs.declared.faults.Fault.{Fault}
 use Rattle.borsh_values.specs.declared.buffered.Buffered.{Buffered}
-use Rattle.borsh_values.specs.Records.{reader_of, held, Lost, IsUnread, ReadsMore, TakesHeld, IsFirstOf, IsRecordError, FaultsAre, Advances, AdvancesHeld, SameRoot, Falls, most_at_once, ahead, limit_of, next_offset, source_of, value_of}
 use Rattle.borsh_values.specs.declared.records.Records.{Records}
 use Rattle.borsh_values.specs.declared.records.RecordError.{RecordError}
 use Rattle.borsh_values.specs.declared.records.RecordError.TheVariants.{NoMember, CutShort, TooLong, EmptyValue, Ambiguous, Reader, OutOfMemory}

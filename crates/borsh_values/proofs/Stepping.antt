@@ -18,23 +18,20 @@ use Rattle.borsh_values.specs.declared.frames.Rest.{Rest}
 use Rattle.borsh_values.specs.declared.frames.Step.{Step}
 use Rattle.borsh_values.specs.declared.frames.Mark.{Mark}
 use Rattle.borsh_values.specs.declared.frames.Mark.TheVariants.{Empty, Open}
-use Rattle.borsh_values.specs.declared.frames.Known.TheVariants.{New}
-use Rattle.borsh_values.specs.declared.free.Passed.{Passed}
-use Rattle.borsh_values.specs.Cursor.{Going, Happens, IsBegun, IsCursor, IsOpenable, IsStopped, Moves, OpensFull, PassesCopies, Why, before, name_in, pending_names, Begun, IsAnswerOf, Stays}
+use Rattle.borsh_values.specs.declared.runs.Passed.{Passed}
+use Rattle.borsh_values.specs.Cursor.{Going, Happens, IsBegun, IsCursor, IsOpenable, IsStopped, Moves, OpensFull, PassesCopies, Why, before, name_in, pending_names, Begun, IsAnswerOf, Stays, GoesOn, KnownAs, NoneBegins, OnlyEmpty, past_copies, pending, remaining}
 use Rattle.borsh_values.specs.Free.{IsFreeFront}
 use Rattle.borsh_plan.specs.Plan.{definitions_of, map_of, names_of, root_of}
 use Rattle.borsh_plan.proofs.Laws.{looked_up as named}
 use Rattle.borsh_plan.proofs.Places.{name_there}
 use Rattle.borsh_plan.specs.Names.{named_definition, name_at, name_of}
 use Rattle.borsh_values.specs.Nodes.{Opens}
-use Rattle.borsh_values.specs.Steps.{GoesOn, KnownAs, NoneBegins, OnlyEmpty, past_copies, pending, remaining}
 use Rattle.borsh_values.proofs.Answers.{before_whole, suffix_on, answers_no, is_front}
 use Rattle.borsh_values.proofs.Walk.{going_skip, known_empty, less_skip, going_reached, going_next, going_denied, room, going_new, going_on, going_past, going_pass, going_up, going_up_empty, going_back, going_leads, less_new, less_on, less_past, less_pass, next_names, left, passes, with_rest}
 use Rattle.borsh_values.proofs.MemberLaws.{members_head, no_more}
 use Rattle.borsh_values.specs.declared.fronts.Front.{Front}
 use Rattle.borsh_values.specs.declared.fronts.Front.TheVariants.{Value, Ambiguous}
-use Rattle.borsh_values.specs.Fronts.{IsFrontAnswer, StopsAt}
-use Rattle.borsh_values.specs.Membership.{IsUndecided}
+use Rattle.borsh_values.specs.Membership.{IsFrontAnswer, StopsAt, IsUndecided}
 use Rattle.borsh_plan.specs.declared.plan.Plan.{Plan}
 use Rattle.borsh_values.specs.declared.nodes.Node.{Node}
 use Rattle.borsh_values.specs.declared.preorder.Preorder.{Preorder}
@@ -127,7 +124,7 @@ module _ (c : Cursor) (i : IsCursor c) (s : Step) (g : GoesOn (names_of c.plan.n
     }
 
     -- without a byte
-    module _ (z : n ≡ 0) (new : KnownAs (get_or c.marks.items s.at None) (length c.left.now) New) (ms : Vec (Option Mark) Global) (em : ms.items ≡ set c.marks.items s.at (Some (Open (length c.left.now)))) (st : Vec Frame Global) (es : reverse st.items ≡ with_rest c.frame s.others ∷ reverse c.stack.items) where
+    module _ (z : n ≡ 0) (new : KnownAs (get_or c.marks.items s.at None) (length c.left.now) None) (ms : Vec (Option Mark) Global) (em : ms.items ≡ set c.marks.items s.at (Some (Open (length c.left.now)))) (st : Vec Frame Global) (es : reverse st.items ≡ with_rest c.frame s.others ∷ reverse c.stack.items) where
       pub few_idle : suc c.idle ≤ btree_map_len (map_of c.plan.now)
       few_idle = room c.plan.now i.going s g (shape_of d) o.shape n r o.opens z new
 
@@ -182,24 +179,15 @@ module _ (c : Cursor) (i : IsCursor c) (s : Step) (g : GoesOn (names_of c.plan.n
 -- a value begins only where a name comes next, and is that name's
 module _ (old new : Cursor) where
   pub none_full : (e : Event) → remaining (names_of old.plan.now) old.frame.rest ≡ [] → Happens old new e → OpensFull old e
-  none_full (AtOpen at d own) none h = (let b = h.0.before in cc)
-  none_full (AtPass at) none h = tt
-  none_full AtClose none h = tt
-  none_full AtEnd none h = tt
-  none_full (AtFault at r) none h = tt
-  none_full (AtUndecided at) none h = tt
+  none_full e none h = λ at d own q z. (let b = (subst (λ e. Happens old new e) q h).0.before in cc)
 
   pub next_full : (s : Step) → GoesOn (names_of old.plan.now) old.frame.rest s → (IsZeroSize (definitions_of old.plan.now) (name_in old s.at) → ⊥) → (e : Event) → Happens old new e → OpensFull old e
-  next_full s g some (AtOpen at d own) h =
-      let b : remaining (names_of old.plan.now) old.frame.rest ≡ name_in old at ∷ h.0.others = h.0.before in
+  next_full s g some e h = λ at d own q z.
+      let k = subst (λ e. Happens old new e) q h in
+      let b : remaining (names_of old.plan.now) old.frame.rest ≡ name_in old at ∷ k.0.others = k.0.before in
       let p : remaining (names_of old.plan.now) old.frame.rest ≡ name_in old s.at ∷ remaining (names_of old.plan.now) s.others = g.parts in
       let same : name_in old at ≡ name_in old s.at = cc in
-      λ z. some (subst (λ x. IsZeroSize (definitions_of old.plan.now) x) same z)
-  next_full s g some (AtPass at) h = tt
-  next_full s g some AtClose h = tt
-  next_full s g some AtEnd h = tt
-  next_full s g some (AtFault at r) h = tt
-  next_full s g some (AtUndecided at) h = tt
+      some (subst (λ x. IsZeroSize (definitions_of old.plan.now) x) same z)
 
 -- the last value ends
 module _ (c : Cursor) (i : IsCursor c) (none : remaining (names_of c.plan.now) c.frame.rest ≡ []) (above : Frame) (st : Vec Frame Global) (es : reverse c.stack.items ≡ above ∷ reverse st.items) where

@@ -14,8 +14,8 @@ use Rattle.borsh_plan.specs.declared.named.Named.{Named}
 use Rattle.borsh_values.specs.declared.frames.Opened.{Opened}
 use Rattle.borsh_values.specs.declared.frames.Opened.TheVariants.{Undecided, Refused, Taken}
 use Rattle.borsh_values.specs.Nodes.{packed_size, OpensElements, Opens}
-use Rattle.borsh_values.specs.Faults.{BeginsWith, Refuses, HasOtherCount, HasOtherTag}
-use Rattle.borsh_values.specs.Steps.{remaining, required_by, OnlyEmpty, AllOnlyEmpty, OpensOnce, NoneBegins, Takes, TakesElements, OpensAs}
+use Rattle.borsh_values.specs.Membership.{BeginsWith, Refuses, HasOtherCount, HasOtherTag}
+use Rattle.borsh_values.specs.Cursor.{remaining, required_by, OnlyEmpty, AllOnlyEmpty, OpensOnce, NoneBegins, Takes, TakesElements, OpensAs}
 use Rattle.borsh_values.specs.Tags.{FoundAs}
 use Rattle.borsh_values.proofs.TagLaws.{listed_at, only_name}
 use Rattle.borsh_values.proofs.MemberLaws.{packed_is, copies_are, same_front, one_count, member_as, only_empty_members, opens_once, once_variant}

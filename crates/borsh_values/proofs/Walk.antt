@@ -5,13 +5,12 @@ use Rattle.std.proofs.lemmas.List.{get_or-set_same, get_or-set_other, length-rep
 use Rattle.borsh_walks.proofs.Tables.{Updated}
 use Rattle.borsh_plan.specs.Names.{name_at, shape_at, parts_in, IsPlaceOf}
 use Rattle.borsh_plan.specs.declared.named.Named.{Named}
-use Rattle.borsh_values.specs.Cursor.{HasPlaces, opens, parts_of_all, steps_of, Begun, On, Top, Link, Chain, Walk, Going}
+use Rattle.borsh_values.specs.Cursor.{HasPlaces, opens, parts_of_all, steps_of, Begun, On, Top, Link, Chain, Walk, Going, remaining, step_count, GoesOn, Fits, past_copies, mark_at, pending, required_by, OnlyEmpty, AllOnlyEmpty, Takes, NoneBegins, OpensAs, KnownAs}
 use Rattle.borsh_plan.proofs.Places.{drop_end, drop_next, name_is, name_there}
 use Rattle.borsh_values.specs.declared.frames.Rest.{Rest}
 use Rattle.borsh_values.specs.declared.frames.Rest.TheVariants.{Copies, Parts}
 use Rattle.borsh_values.specs.declared.frames.Step.{Step}
 use Rattle.borsh_values.specs.declared.frames.Mark.{Mark}
-use Rattle.borsh_values.specs.Steps.{remaining, step_count, GoesOn, Fits, past_copies, mark_at, pending, required_by, OnlyEmpty, AllOnlyEmpty, Takes, NoneBegins, OpensAs, KnownAs}
 use Rattle.borsh_walks.proofs.Names.{shape_some, name_cases, also_defined, among_one, among_append, among_right, names_within}
 use Rattle.std.specs.Map.{lookup}
 use Rattle.std.specs.Cmp.Lexicographic.{slice_cmp}
@@ -23,7 +22,7 @@ use Rattle.borsh_walks.specs.declared.definition.Definition.{Definition}
 use Rattle.borsh_walks.specs.Container.{Shape, references, IsIn, first, later, Member, of_primitive, of_sequence, of_parts, of_choice, Reached, Reaches, IsOnCycle, stays, onward}
 use Rattle.borsh_values.specs.declared.frames.Frame.{Frame}
 use Rattle.borsh_walks.specs.SizeAnswer.{distinct_none, distinct_more}
-use Rattle.borsh_values.specs.Faults.{BeginsWith, LeadsTo}
+use Rattle.borsh_values.specs.Membership.{BeginsWith, LeadsTo}
 use Rattle.borsh_values.specs.Nodes.{Opens, Reads, reads_none}
 use Rattle.borsh_values.specs.declared.frames.Mark.TheVariants.{Empty, Open}
 use Rattle.borsh_values.proofs.MemberLaws.{begun_start, begun_skip, begun_on, begun_denied, begun_first, reads_on, reads_member, reads_skip, leads_on, only_empty_copies, not_required}
@@ -33,8 +32,7 @@ use Rattle.borsh_plan.specs.Plan.{definitions_of, map_of, names_of, root_of}
 use Rattle.borsh_plan.proofs.Laws.{back, defined_at, place, root_there, sound}
 use Rattle.borsh_plan.specs.declared.plan.Plan.{Plan}
 use Rattle.borsh_values.specs.declared.frames.Opened.TheVariants.{Taken}
-use Rattle.borsh_values.specs.declared.free.Passed.{Passed}
-use Rattle.borsh_values.specs.declared.frames.Known.TheVariants.{New}
+use Rattle.borsh_values.specs.declared.runs.Passed.{Passed}
 
 -- ---- the parts and the marks at places
 -- ---- the next name
@@ -460,13 +458,13 @@ module _ (l : Plan) where
       pub name_defined : (definitions_of l) (name_at (names_of l) s.at) ≡ Some d
       name_defined = defined_at l s.at g.within ∙ c
 
-      still : n ≡ 0 → KnownAs (get_or ms s.at None) (length rest) New → Walk (definitions_of l) (names_of l) (root_of l) done (λ x. mark_at (set ms s.at (Some (Open (length rest)))) (w.places.place x)) (with_rest f s.others ∷ fs) (record { at = s.at; start = length rest; rest = r }) rest (name_at (names_of l) s.at ∷ w.names)
+      still : n ≡ 0 → KnownAs (get_or ms s.at None) (length rest) None → Walk (definitions_of l) (names_of l) (root_of l) done (λ x. mark_at (set ms s.at (Some (Open (length rest)))) (w.places.place x)) (with_rest f s.others ∷ fs) (record { at = s.at; start = length rest; rest = r }) rest (name_at (names_of l) s.at ∷ w.names)
       still z k = walk_still (definitions_of l) (names_of l) w.state s.others g.parts (record { at = s.at; start = length rest; rest = r }) z name_defined o.0 (λ e. k.0 (sym mark_is ∙ e)) (λ e. k.1 (sym mark_is ∙ e)) (marked (names_of l) w.places ms s.at (Open (length rest)) w.long g.within) refl refl
 
-      pub room : n ≡ 0 → KnownAs (get_or ms s.at None) (length rest) New → suc idle ≤ btree_map_len (map_of l)
+      pub room : n ≡ 0 → KnownAs (get_or ms s.at None) (length rest) None → suc idle ≤ btree_map_len (map_of l)
       room z k = let t = still z k in let few = names_within (map_of l) (name_at (names_of l) s.at ∷ w.names) t.distinct t.defined in let c = w.count in omega (arith, few, c)
 
-      pub going_new : n ≡ 0 → KnownAs (get_or ms s.at None) (length rest) New → Going l done (set ms s.at (Some (Open (length rest)))) (with_rest f s.others ∷ fs) (record { at = s.at; start = length rest; rest = r }) rest (idle + 1)
+      pub going_new : n ≡ 0 → KnownAs (get_or ms s.at None) (length rest) None → Going l done (set ms s.at (Some (Open (length rest)))) (with_rest f s.others ∷ fs) (record { at = s.at; start = length rest; rest = r }) rest (idle + 1)
       going_new z k = record {
         places = w.places;
         names = name_at (names_of l) s.at ∷ w.names;
@@ -506,7 +504,7 @@ module _ (l : Plan) where
       small_frame : step_count (names_of l) r ≤ 2 + parts_of_all (map_of l).entries
       small_frame = let k = parts_within (map_of l) (name_at (names_of l) s.at) d name_defined in let i = o.1 in omega (arith, k, i)
 
-      pub less_new : n ≡ 0 → KnownAs (get_or ms s.at None) (length rest) New → left (map_of l) (names_of l) (length rest) (idle + 1) (record { at = s.at; start = length rest; rest = r } ∷ with_rest f s.others ∷ fs) < left (map_of l) (names_of l) (length rest) idle (f ∷ fs)
+      pub less_new : n ≡ 0 → KnownAs (get_or ms s.at None) (length rest) None → left (map_of l) (names_of l) (length rest) (idle + 1) (record { at = s.at; start = length rest; rest = r } ∷ with_rest f s.others ∷ fs) < left (map_of l) (names_of l) (length rest) idle (f ∷ fs)
       less_new z k = subst (λ i. left (map_of l) (names_of l) (length rest) i (record { at = s.at; start = length rest; rest = r } ∷ with_rest f s.others ∷ fs) < left (map_of l) (names_of l) (length rest) idle (f ∷ fs)) (sym (add-one idle)) (left_still (map_of l) (names_of l) (length rest) idle f (with_rest f s.others) (record { at = s.at; start = length rest; rest = r }) fs (room z k) g.steps small_frame)
 
       pub less_on : 0 < n → left (map_of l) (names_of l) (length (drop n rest)) 0 (record { at = s.at; start = length rest; rest = r } ∷ with_rest f s.others ∷ fs) < left (map_of l) (names_of l) (length rest) idle (f ∷ fs)

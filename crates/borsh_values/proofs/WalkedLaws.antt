@@ -8,7 +8,7 @@ use Rattle.borsh_values.specs.declared.frames.Opened.{Opened}
 use Rattle.borsh_values.specs.declared.frames.Opened.TheVariants.{Undecided, Refused, Taken}
 use Rattle.borsh_values.specs.Nodes.{packed_size, Opens, OpensElements, IsCountOf, IsVariantOf, Reads, reads_none}
 use Rattle.borsh_values.specs.Tags.{value_of, IsVariantIndex}
-use Rattle.borsh_values.specs.Steps.{OpensOnce}
+use Rattle.borsh_values.specs.Cursor.{OpensOnce}
 use Rattle.borsh_values.specs.Walks.{IsReadTo, IsCounted, CountsIfTaken}
 use Rattle.borsh_values.proofs.TagLaws.{listed_at, value_low}
 use Rattle.borsh_values.proofs.MemberLaws.{member_opens, no_more, member_as, reads_on, reads_one, reads_skip, members_head, pass_one, whole, joined}

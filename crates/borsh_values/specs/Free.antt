@@ -6,8 +6,8 @@ use Rattle.borsh_values.specs.declared.frames.Rest.{Rest}
 use Rattle.borsh_values.specs.declared.frames.Rest.TheVariants.{Copies}
 use Rattle.borsh_values.specs.declared.runs.Run.{Run}
 use Rattle.borsh_values.specs.declared.runs.TagLength.{TagLength}
-use Rattle.borsh_values.specs.declared.free.Passed.{Passed}
-use Rattle.borsh_values.specs.Steps.{remaining, step_count, Fits}
+use Rattle.borsh_values.specs.declared.runs.Passed.{Passed}
+use Rattle.borsh_values.specs.Cursor.{remaining, step_count, Fits}
 
 module _ (C : List ℕ → Option Shape) where
   -- each n bytes are a member of the name, and it has no others

@@ -1,13 +1,9 @@
 pub mod Unambiguous
-pub mod Membership
 pub mod Tags
 pub mod Nodes
-pub mod Faults
-pub mod Steps
 pub mod Free
-pub mod Fronts
+pub mod Membership
 pub mod Cursor
-pub mod Next
 pub mod Records
 pub mod Walks
 pub mod Preorder

@@ -56,8 +56,7 @@ IsVariantIndex vs t found = MatchOption found ((k : ℤ) (p : List ℕ) → IsLi
 -- what was found with one variant more
 abbrev pub more_found : Found → ℕ → Found
 more_found Nothing i = One i
-more_found (One j) i = Several
-more_found Several i = Several
+more_found f i = Several
 
 -- of the variants those with discriminants for which P holds: none, the one at an index and no other, or two that have one tag
 abbrev pub FoundBy : ℕ → (ℤ → Type 0) → List (ℤ × List ℕ) → Found → Type 0

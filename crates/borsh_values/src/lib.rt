@@ -11,7 +11,6 @@ mod buffered;
 mod cursor;
 mod faults;
 mod frames;
-mod free;
 mod fronts;
 mod members;
 mod names;

@@ -50,11 +50,7 @@ pub fn variant_of(node: &Node<'_, '_>) -> Option<usize>
 fn tag_in(bytes: &[u8], width: usize) -> &[u8]
     ensures { result.now ≡ take width bytes.now }
 {
-    if width < bytes.len() {
-        &bytes[..width]
-    } else {
-        bytes
-    }
+    &bytes[..width.min(bytes.len())]
 }
 
 /// How many elements the sequence has whose node this is; none for a node of another kind, and where the count has more
@@ -98,11 +94,7 @@ pub fn elements_of<'b>(node: &Node<'_, 'b>) -> &'b [u8]
     match node.definition {
         Definition::Sequence { length_width, .. } => {
             let width = usize::from(*length_width);
-            if width <= node.bytes.len() {
-                &node.bytes[width..]
-            } else {
-                &node.bytes[..0]
-            }
+            &node.bytes[width.min(node.bytes.len())..]
         }
         _ => node.bytes,
     }

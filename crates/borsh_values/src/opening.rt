@@ -2,7 +2,7 @@
 ghost use Rattle.borsh_plan.specs.Names.{name_at, named_definition, shape_at};
 ghost use Rattle.borsh_plan.specs.Plan.{definitions_of, names_of};
 ghost use Rattle.borsh_values.specs.Nodes.{packed_size};
-ghost use Rattle.borsh_values.specs.Steps.{FitsWidth, OpensAs, TakesElements};
+ghost use Rattle.borsh_values.specs.Cursor.{FitsWidth, OpensAs, TakesElements};
 ghost use Rattle.borsh_values.specs.Tags.{AreTagTables, KeepsTables, TableFits};
 ghost use Rattle.borsh_values.specs.Walks.{CountsIfTaken};
 ghost use Rattle.borsh_walks.specs.Container.{choice, sequence};

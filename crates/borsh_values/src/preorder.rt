@@ -9,7 +9,7 @@ use crate::cursor::{Cursor, Event};
 use crate::faults::{Path, PathStep, next_step};
 use crate::nodes::Node;
 use borsh_plan::Plan;
-use std::alloc::{AllocError, AllocFailed, Global};
+use std::alloc::{AllocError, Global};
 
 /// Why a node isn't given.
 #[derive(Debug, Drop)]
@@ -24,14 +24,6 @@ impl<'a> From<AllocError> for PreorderError<'a> {
     ghost from_gives = { λ _ e. e ≡ OutOfMemory };
 
     fn from(_: AllocError) -> PreorderError<'a> {
-        PreorderError::OutOfMemory
-    }
-}
-
-impl<'a, T: Drop> From<AllocFailed<T>> for PreorderError<'a> {
-    ghost from_gives = { λ _ e. e ≡ OutOfMemory };
-
-    fn from(_: AllocFailed<T>) -> PreorderError<'a> {
         PreorderError::OutOfMemory
     }
 }

@@ -1,8 +1,7 @@
 use Rattle.std.proofs.Common.{◌∙◌, ◌∷◌, ◌+◌, [], ap, arith, length, replicate, reverse, subst, sym, None}
 use Rattle.borsh_walks.proofs.Tables.{marks_none}
-use Rattle.borsh_values.specs.Cursor.{Going}
+use Rattle.borsh_values.specs.Cursor.{Going, pending}
 use Rattle.borsh_plan.specs.Names.{name_at}
-use Rattle.borsh_values.specs.Steps.{pending}
 use Rattle.borsh_values.specs.declared.frames.Frame.{Frame}
 use Rattle.borsh_values.specs.declared.frames.Rest.TheVariants.{Copies}
 use Rattle.borsh_values.proofs.Answers.{before_start, suffix_start}

@@ -1,14 +1,14 @@
 use Rattle.std.proofs.Common.{◌≡◌, ◌*◌, ◌<◌, ◌+◌, ◌∷◌, [], replicate, append-nil, subst, sym, ap, ◌∙◌, arith}
 use Rattle.borsh_plan.specs.Plan.{definitions_of, names_of}
 use Rattle.borsh_values.specs.declared.frames.Rest.TheVariants.{Parts}
-use Rattle.borsh_values.specs.declared.free.Passed.{Passed}
+use Rattle.borsh_values.specs.declared.runs.Passed.{Passed}
 use Rattle.borsh_plan.specs.Names.{name_at}
-use Rattle.borsh_values.specs.Steps.{remaining}
+use Rattle.borsh_values.specs.Cursor.{remaining}
 use Rattle.borsh_values.specs.Free.{FreeSize, FreeSizes, IsFreeFront}
 use Rattle.borsh_values.proofs.Walk.{some_step, parts_on, fits_parts, fits_copies}
 use Rattle.borsh_values.proofs.Bytes.{small_bytes}
 use Rattle.borsh_values.proofs.FreeLaws.{first_free, free_copies, free_one, size_free, some_factor}
-use Rattle.borsh_values.proofs.free.free_front.Goals as goal
+use Rattle.borsh_values.proofs.runs.free_front.Goals as goal
 
 pub returns-then-all-left : goal.returns-then-all-left
 returns-then-all-left c =
@@ -41,11 +41,11 @@ returns-then-size-left c =
     let ns = names_of l in
     let at = c.in-Parts.at in
     let next = c.in-Parts.next in
-    let part = c.in-Some.part in
+    let part = c.in_ok-part.part in
     let size = c.size-size.result in
     let some = c.if-size-gt0.true in
     let low = fits_parts ns c.args.rest at next c.in-Parts.is c.requires.fits in
-    let g = parts_on ns at next part low c.in-Some.ensures.place in
+    let g = parts_on ns at next part low c.in_ok-part.ensures.place in
     let f : FreeSize C (name_at ns part) size = size_free l part size c.size-size.ensures g.within some in
     let left = c.if-size-left.true in
     let small = small_bytes c.args.left.now (λ k. let b = c.type_inv.left k in omega (arith, b)) in
