@@ -2,21 +2,13 @@
 use Rattle.std.proofs.Common.{◌≡◌, ℕ, suc, zero, Some, ◌+◌, ◌-◌, ◌<◌, ◌≤◌, List, [], ◌∷◌, ◌++◌, length, take, drop, Ok, Err, refl, sym, ◌∙◌, ap, subst, arith, append_assoc, append-nil, length-append, length-drop, drop-drop, take-add, take-append-drop, length-take-le, inl, inr, ◌^◌, ◌⊎◌}
 use Rattle.std.specs.Prelude.{Option, Result, IfOk}
 use Rattle.std.proofs.lemmas.Bool.{cases_lt}
-use Rattle.borsh_walks.specs.Container.{Shape, primitive, sequence, product, choice, Member, Reached, stays, Rule, tag_too_wide, tag_too_narrow, tag_not_power_of_two, empty_length_range, Breaks, is_empty, is_not_power, is_too_wide, is_too_narrow, is_wide_choice, IsValid}
-use Rattle.borsh_values.specs.declared.faults.Fault.{Fault}
-use Rattle.borsh_values.specs.declared.faults.Reason.{Reason}
-use Rattle.borsh_values.specs.declared.faults.Reason.TheVariants.{BytesLeft, TooShort as IsShort, Count, Tag, MissingDefinition, Recursive}
-use Rattle.borsh_values.specs.declared.fronts.Front.{Front}
-use Rattle.borsh_values.specs.declared.fronts.Front.TheVariants.{Value, TooShort, NoMember, Ambiguous}
+use Rattle.borsh_values.specs.Words.{Shape, primitive, sequence, product, choice, Member, Reached, stays, Rule, tag_too_wide, tag_too_narrow, tag_not_power_of_two, empty_length_range, Breaks, is_empty, is_not_power, is_too_wide, is_too_narrow, is_wide_choice, IsValid, Fault, Reason, BytesLeft, ReasonTooShort as IsShort, Count, Tag, MissingDefinition, Recursive, Front, Value, FrontTooShort as TooShort, FrontNoMember as NoMember, FrontAmbiguous as Ambiguous, KeepsWidths, IsWidth, Membership, MembershipMember as IsMember, MembershipNoMember as IsNoMember, MembershipAmbiguous as IsAmbiguous}
 use Rattle.borsh_values.specs.Membership.{BeginsWith, Refuses, HasOtherCount, HasOtherTag, IsRefused, IsWhy, Stops, IsFault, IsAt, StopsAt, IsFront, HasNoFront, IsFrontAnswer, AnswersFront, IsDecidedFront, IsUndecided, IsDecided, IsAnswer, AnswersMembership}
 use Rattle.borsh_values.specs.Nodes.{Reads}
 use Rattle.borsh_values.specs.Cursor.{NoneBegins, Begun, Why, before}
 use Rattle.borsh_values.proofs.MemberLaws.{begun_end}
 use Rattle.borsh_values.proofs.TakesLaws.{take_front}
-use Rattle.borsh_walks.specs.RulesAnswer.{KeepsWidths, IsWidth}
 use Rattle.borsh_values.specs.Unambiguous.{IsUnambiguous}
-use Rattle.borsh_values.specs.declared.members.Membership.{Membership}
-use Rattle.borsh_values.specs.declared.members.Membership.TheVariants.{Member as IsMember, NoMember as IsNoMember, Ambiguous as IsAmbiguous}
 
 -- ---- answers of the loop over the bytes
 -- ---- bytes that are read, and those that are left

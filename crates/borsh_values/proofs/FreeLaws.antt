@@ -4,22 +4,14 @@ use Rattle.std.specs.Prelude.{Option, All, IfSome, MatchOption, slice_get, ℤ}
 use Rattle.std.proofs.lemmas.Bool.{eqb-true}
 use Rattle.std.proofs.Math.Nat.{suc-mul}
 use Rattle.std.proofs.lemmas.List.Elements.{All-take, All-drop}
-use Rattle.borsh_walks.specs.Container.{Shape, primitive, sequence, product, choice, sum_of, of_primitive, of_sequence, of_parts, Members, no_members, more_members, variant_names}
-use Rattle.borsh_plan.specs.declared.plan.Plan.{Plan}
-use Rattle.borsh_plan.specs.Names.{name_at, parts_in}
+use Rattle.borsh_values.specs.Words.{Shape, primitive, sequence, product, choice, sum_of, of_primitive, of_sequence, of_parts, Members, no_members, more_members, variant_names, Plan, name_at, parts_in, SizeAt, definitions_of, names_of, Named, Copies, One, Passed, Run}
 use Rattle.borsh_plan.specs.Sizes.{fitting, are_known, together, known_by, known_within}
-use Rattle.borsh_plan.specs.Plan.{SizeAt, definitions_of, names_of}
 use Rattle.borsh_plan.proofs.SizesLaws.{first_known, fits}
 use Rattle.borsh_values.proofs.MemberLaws.{member_as, same_front, members_head, whole, unwhole, joined, parted, no_more, opens_member, member_opens, opens_once}
 use Rattle.borsh_values.specs.Free.{FreeSize, FreeSizes, AreOnly, AreFirst, IsTagLength, IsRun, IsFreeFront, Passes}
-use Rattle.borsh_plan.specs.declared.named.Named.{Named}
-use Rattle.borsh_values.specs.declared.frames.Rest.TheVariants.{Copies}
-use Rattle.borsh_values.specs.declared.tags.Found.TheVariants.{One}
 use Rattle.borsh_values.specs.Nodes.{Opens}
 use Rattle.borsh_values.specs.Cursor.{OpensOnce, Takes, step_count}
 use Rattle.borsh_values.specs.Tags.{FoundAs}
-use Rattle.borsh_values.specs.declared.runs.Passed.{Passed}
-use Rattle.borsh_values.specs.declared.runs.Run.{Run}
 use Rattle.borsh_values.proofs.TakesLaws.{found_choice}
 
 -- ---- names whose members are all bytes of one length

@@ -3,7 +3,7 @@ use Rattle.std.proofs.Common.{◌≡◌, ℕ, suc, zero, ◌+◌, ◌/◌, ◌%�
 use Rattle.std.specs.Prelude.{Option, All, ℤ, pos}
 use Rattle.std.proofs.lemmas.List.{append_cancel_left}
 use Rattle.std.proofs.lemmas.Bool.{cases_lt}
-use Rattle.borsh_walks.specs.Container.{Shape, primitive, sequence, product, choice, IsIn, first, later, IsListedVariant, first_variant, later_variant, low_bytes, tag, Member, of_primitive, of_sequence, of_parts, of_choice, Members, no_members, more_members, onward, Reached, Reaches, IsOnCycle}
+use Rattle.borsh_values.specs.Words.{Shape, primitive, sequence, product, choice, IsIn, first, later, IsListedVariant, first_variant, later_variant, low_bytes, tag, Member, of_primitive, of_sequence, of_parts, of_choice, Members, no_members, more_members, onward, Reached, Reaches, IsOnCycle}
 use Rattle.borsh_values.specs.Unambiguous.{DistinctTags, no_tags, more_tags, IsUnambiguous, UnambiguousShape}
 use Rattle.borsh_walks.proofs.Laws.{length-tag, one_definition, variant-listed, among-replicate, lead_out, zero_member}
 use Rattle.borsh_values.specs.Cursor.{required_by, OnlyEmpty, AllOnlyEmpty, OpensOnce, Begun}

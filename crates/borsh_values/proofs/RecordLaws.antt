@@ -2,22 +2,12 @@
 use Rattle.std.proofs.Common.{◌≡◌, ℕ, zero, suc, ◌<◌, List, [], ◌∷◌, ◌++◌, length, take, drop, refl, sym, ◌∙◌, ap, subst, arith, append-nil, take-append-drop, length-take-le, ◌+◌, ◌*◌, ◌≤◌, inl, inr, true≢false, Bool, true, false, Result, Ok, Err, le_refl, append_assoc, length-append, length-take}
 use Rattle.std.specs.Prelude.{Option, ◌-◌, ◌^◌, ◌⊎◌, min, IfOk, OnOk, IfErr}
 use Rattle.std.proofs.lemmas.List.{append_cancel_left, take-append-le, drop-append-le, take-take, take_all}
-use Rattle.borsh_walks.specs.Container.{Shape, Member}
+use Rattle.borsh_values.specs.Words.{Shape, Member, Consumes, Keeps, IsAtEnd, error_kind, ReaderState, Consumed, CountedUp, ReadFailedAfterRetries, Error, ErrorKindOutOfMemory as NoRoom, Fault, Buffered, Records, RecordError, RecordErrorNoMember as NoMember, CutShort, TooLong, EmptyValue, RecordErrorAmbiguous as Ambiguous, Reader, RecordErrorOutOfMemory as OutOfMemory}
 use Rattle.borsh_values.specs.Membership.{IsFront, HasNoFront, BeginsWith}
 use Rattle.borsh_values.specs.Records.{AreValues, IsFirst, reader_of, held, Lost, IsUnread, ReadsMore, TakesHeld, IsFirstOf, IsRecordError, FaultsAre, Advances, AdvancesHeld, SameRoot, Falls, most_at_once, ahead, limit_of, next_offset, source_of, value_of}
 use Rattle.std.proofs.Math.Seq.{take-append_seam, take-append-add}
-use Rattle.std.specs.Io.KnownBytes.{Consumes, Keeps, IsAtEnd}
 use Rattle.std.proofs.KnownBytes.{Consumes-nil, Consumes-kept, Consumes-trans}
-use Rattle.borsh_io.specs.Errors.{error_kind}
-use Rattle.borsh_io.specs.Stream.{ReaderState, Consumed, CountedUp, ReadFailedAfterRetries}
-use Rattle.borsh_io.specs.declared.error.Error.{Error}
 use Rattle.borsh_io.specs.declared.error.ErrorKind.{ErrorKind}
-use Rattle.borsh_io.specs.declared.error.ErrorKind.TheVariants.{OutOfMemory as NoRoom}
-use Rattle.borsh_values.specs.declared.faults.Fault.{Fault}
-use Rattle.borsh_values.specs.declared.buffered.Buffered.{Buffered}
-use Rattle.borsh_values.specs.declared.records.Records.{Records}
-use Rattle.borsh_values.specs.declared.records.RecordError.{RecordError}
-use Rattle.borsh_values.specs.declared.records.RecordError.TheVariants.{NoMember, CutShort, TooLong, EmptyValue, Ambiguous, Reader, OutOfMemory}
 
 -- ---- the first of some values
 no_bytes : (xs ys : List ℕ) → xs ++ ys ≡ [] → length xs ≡ 0

@@ -1,40 +1,17 @@
 -- The steps of a cursor, and its folds.
 use Rattle.std.proofs.Common.{◌≡◌, ℕ, suc, ◌+◌, ◌-◌, ◌<◌, ◌≤◌, List, [], ◌∷◌, ◌++◌, length, take, drop, reverse, replicate, set, get_or, Some, None, refl, sym, ◌∙◌, ap, subst, take-append-drop, append-nil, append_assoc, Ok, zero, arith, length-append, ◌⊎◌, inl, inr}
 use Rattle.std.specs.Prelude.{Option, Vec, slice_get, Result}
-use Rattle.std.specs.Borrow.{Bor}
-use Rattle.std.specs.Global.{Global}
-use Rattle.std.specs.BTreeMap.{btree_map_len, get_by_text}
-use Rattle.borsh_walks.specs.declared.definition.Definition.{Definition}
-use Rattle.borsh_walks.specs.Container.{IsZeroSize, Member, Members, Shape}
-use Rattle.borsh_walks.specs.Definitions.{shape_of}
+use Rattle.borsh_values.specs.Words.{Bor, Global, btree_map_len, get_by_text, Definition, IsZeroSize, Member, Members, Shape, shape_of, Cursor, Event, EventOpen as AtOpen, Pass as AtPass, Close as AtClose, End as AtEnd, EventFault as AtFault, EventUndecided as AtUndecided, Reason, Recursive as IsRecursive, Frame, Rest, Step, Mark, Empty, MarkOpen as Open, Passed, definitions_of, map_of, names_of, root_of, named_definition, name_at, name_of, Front, Value, FrontAmbiguous as Ambiguous, Plan, Node, Preorder}
 use Rattle.borsh_walks.proofs.Laws.{zero_member}
-use Rattle.borsh_values.specs.declared.cursor.Cursor.{Cursor}
-use Rattle.borsh_values.specs.declared.cursor.Event.{Event}
-use Rattle.borsh_values.specs.declared.cursor.Event.TheVariants.{Open as AtOpen, Pass as AtPass, Close as AtClose, End as AtEnd, Fault as AtFault, Undecided as AtUndecided}
-use Rattle.borsh_values.specs.declared.faults.Reason.{Reason}
-use Rattle.borsh_values.specs.declared.faults.Reason.TheVariants.{Recursive as IsRecursive}
-use Rattle.borsh_values.specs.declared.frames.Frame.{Frame}
-use Rattle.borsh_values.specs.declared.frames.Rest.{Rest}
-use Rattle.borsh_values.specs.declared.frames.Step.{Step}
-use Rattle.borsh_values.specs.declared.frames.Mark.{Mark}
-use Rattle.borsh_values.specs.declared.frames.Mark.TheVariants.{Empty, Open}
-use Rattle.borsh_values.specs.declared.runs.Passed.{Passed}
 use Rattle.borsh_values.specs.Cursor.{Going, Happens, IsBegun, IsCursor, IsOpenable, IsStopped, Moves, OpensFull, PassesCopies, Why, before, name_in, pending_names, Begun, IsAnswerOf, Stays, GoesOn, KnownAs, NoneBegins, OnlyEmpty, past_copies, pending, remaining}
 use Rattle.borsh_values.specs.Free.{IsFreeFront}
-use Rattle.borsh_plan.specs.Plan.{definitions_of, map_of, names_of, root_of}
 use Rattle.borsh_plan.proofs.Laws.{looked_up as named}
 use Rattle.borsh_plan.proofs.Places.{name_there}
-use Rattle.borsh_plan.specs.Names.{named_definition, name_at, name_of}
 use Rattle.borsh_values.specs.Nodes.{Opens}
 use Rattle.borsh_values.proofs.Answers.{before_whole, suffix_on, answers_no, is_front}
 use Rattle.borsh_values.proofs.Walk.{going_skip, known_empty, less_skip, going_reached, going_next, going_denied, room, going_new, going_on, going_past, going_pass, going_up, going_up_empty, going_back, going_leads, less_new, less_on, less_past, less_pass, next_names, left, passes, with_rest}
 use Rattle.borsh_values.proofs.MemberLaws.{members_head, no_more}
-use Rattle.borsh_values.specs.declared.fronts.Front.{Front}
-use Rattle.borsh_values.specs.declared.fronts.Front.TheVariants.{Value, Ambiguous}
 use Rattle.borsh_values.specs.Membership.{IsFrontAnswer, StopsAt, IsUndecided}
-use Rattle.borsh_plan.specs.declared.plan.Plan.{Plan}
-use Rattle.borsh_values.specs.declared.nodes.Node.{Node}
-use Rattle.borsh_values.specs.declared.preorder.Preorder.{Preorder}
 use Rattle.borsh_values.specs.Preorder.{AreZero, GivesNode}
 
 -- ---- each step of a cursor

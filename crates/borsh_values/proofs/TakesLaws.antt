@@ -1,25 +1,18 @@
 -- What an opened definition takes.
 use Rattle.std.proofs.Common.{◌≡◌, ℕ, suc, zero, ◌+◌, ◌-◌, ◌*◌, ◌<◌, ◌≤◌, ◌^◌, List, [], ◌∷◌, ◌++◌, length, take, drop, replicate, Some, refl, sym, ◌∙◌, ap, subst, arith, append_assoc, length-append, length-drop, append-nil, take-add, ◌⊎◌, inl, inr}
 use Rattle.std.specs.Prelude.{Option, None, All, ℤ, pos, negsuc, slice_get}
-use Rattle.borsh_walks.specs.Container.{Shape, primitive, sequence, product, choice, IsIn, first, later, IsListedVariant, low_bytes, tag, variant_names, references, Member, of_primitive, of_sequence, of_parts, of_choice, Members, IsZeroSize, zeroed}
+use Rattle.borsh_values.specs.Words.{Shape, primitive, sequence, product, choice, IsIn, first, later, IsListedVariant, low_bytes, tag, variant_names, references, Member, of_primitive, of_sequence, of_parts, of_choice, Members, IsZeroSize, zeroed, Nothing, One, name_at, shape_at, parts_in, IsPlaceOf, Copies, Parts, Named, Opened, OpenedUndecided as Undecided, Refused, Taken, ReasonTooShort as TooShort}
 use Rattle.std.proofs.Math.Nat.{suc-mul}
 use Rattle.std.proofs.lemmas.List.Elements.{All-take, All-drop}
 use Rattle.borsh_walks.proofs.Names.{among_one}
 use Rattle.borsh_walks.proofs.Laws.{length-tag, among-replicate, variant-listed}
 use Rattle.borsh_values.specs.Unambiguous.{DistinctTags}
-use Rattle.borsh_values.specs.declared.tags.Found.TheVariants.{Nothing, One}
-use Rattle.borsh_plan.specs.Names.{name_at, shape_at, parts_in, IsPlaceOf}
-use Rattle.borsh_values.specs.declared.frames.Rest.TheVariants.{Copies, Parts}
-use Rattle.borsh_plan.specs.declared.named.Named.{Named}
-use Rattle.borsh_values.specs.declared.frames.Opened.{Opened}
-use Rattle.borsh_values.specs.declared.frames.Opened.TheVariants.{Undecided, Refused, Taken}
 use Rattle.borsh_values.specs.Nodes.{packed_size, OpensElements, Opens}
 use Rattle.borsh_values.specs.Membership.{BeginsWith, Refuses, HasOtherCount, HasOtherTag}
 use Rattle.borsh_values.specs.Cursor.{remaining, required_by, OnlyEmpty, AllOnlyEmpty, OpensOnce, NoneBegins, Takes, TakesElements, OpensAs}
 use Rattle.borsh_values.specs.Tags.{FoundAs}
 use Rattle.borsh_values.proofs.TagLaws.{listed_at, only_name}
 use Rattle.borsh_values.proofs.MemberLaws.{packed_is, copies_are, same_front, one_count, member_as, only_empty_members, opens_once, once_variant}
-use Rattle.borsh_values.specs.declared.faults.Reason.TheVariants.{TooShort}
 
 take_drop : (n : ℕ) (xs : List ℕ) → take n xs ++ drop n xs ≡ xs
 take_drop zero xs = refl

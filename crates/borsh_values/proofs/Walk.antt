@@ -3,36 +3,17 @@ use Rattle.std.proofs.Common.{◌++◌, replicate, subst, ◌≡◌, ℕ, suc, z
 use Rattle.std.specs.Prelude.{Option, String, option_map, string_bytes, cond}
 use Rattle.std.proofs.lemmas.List.{get_or-set_same, get_or-set_other, length-replicate, length-set}
 use Rattle.borsh_walks.proofs.Tables.{Updated}
-use Rattle.borsh_plan.specs.Names.{name_at, shape_at, parts_in, IsPlaceOf}
-use Rattle.borsh_plan.specs.declared.named.Named.{Named}
+use Rattle.borsh_values.specs.Words.{name_at, shape_at, parts_in, IsPlaceOf, Named, Rest, Copies, Parts, Step, Mark, lookup, nat_cmp, is_eq, definitions_in, shape_of, BTreeMap, btree_map_len, get_by_text, Definition, Shape, references, IsIn, first, later, Member, of_primitive, of_sequence, of_parts, of_choice, Reached, Reaches, IsOnCycle, stays, onward, Frame, distinct_none, distinct_more, Empty, MarkOpen as Open, Reason, definitions_of, map_of, names_of, root_of, Plan, Taken, Passed}
 use Rattle.borsh_values.specs.Cursor.{HasPlaces, opens, parts_of_all, steps_of, Begun, On, Top, Link, Chain, Walk, Going, remaining, step_count, GoesOn, Fits, past_copies, mark_at, pending, required_by, OnlyEmpty, AllOnlyEmpty, Takes, NoneBegins, OpensAs, KnownAs}
 use Rattle.borsh_plan.proofs.Places.{drop_end, drop_next, name_is, name_there}
-use Rattle.borsh_values.specs.declared.frames.Rest.{Rest}
-use Rattle.borsh_values.specs.declared.frames.Rest.TheVariants.{Copies, Parts}
-use Rattle.borsh_values.specs.declared.frames.Step.{Step}
-use Rattle.borsh_values.specs.declared.frames.Mark.{Mark}
 use Rattle.borsh_walks.proofs.Names.{shape_some, name_cases, also_defined, among_one, among_append, among_right, names_within}
-use Rattle.std.specs.Map.{lookup}
 use Rattle.std.specs.Cmp.Lexicographic.{slice_cmp}
-use Rattle.std.specs.Ordering.{nat_cmp, is_eq}
-use Rattle.borsh_walks.specs.Definitions.{definitions_in, shape_of}
-use Rattle.std.specs.BTreeMap.{BTreeMap, btree_map_len, get_by_text}
 use Rattle.std.proofs.Math.Nat.{mul-le-mul_left}
-use Rattle.borsh_walks.specs.declared.definition.Definition.{Definition}
-use Rattle.borsh_walks.specs.Container.{Shape, references, IsIn, first, later, Member, of_primitive, of_sequence, of_parts, of_choice, Reached, Reaches, IsOnCycle, stays, onward}
-use Rattle.borsh_values.specs.declared.frames.Frame.{Frame}
-use Rattle.borsh_walks.specs.SizeAnswer.{distinct_none, distinct_more}
 use Rattle.borsh_values.specs.Membership.{BeginsWith, LeadsTo}
 use Rattle.borsh_values.specs.Nodes.{Opens, Reads, reads_none}
-use Rattle.borsh_values.specs.declared.frames.Mark.TheVariants.{Empty, Open}
 use Rattle.borsh_values.proofs.MemberLaws.{begun_start, begun_skip, begun_on, begun_denied, begun_first, reads_on, reads_member, reads_skip, leads_on, only_empty_copies, not_required}
 use Rattle.borsh_values.specs.Free.{AreFirst, IsFreeFront}
-use Rattle.borsh_values.specs.declared.faults.Reason.{Reason}
-use Rattle.borsh_plan.specs.Plan.{definitions_of, map_of, names_of, root_of}
 use Rattle.borsh_plan.proofs.Laws.{back, defined_at, place, root_there, sound}
-use Rattle.borsh_plan.specs.declared.plan.Plan.{Plan}
-use Rattle.borsh_values.specs.declared.frames.Opened.TheVariants.{Taken}
-use Rattle.borsh_values.specs.declared.runs.Passed.{Passed}
 
 -- ---- the parts and the marks at places
 -- ---- the next name

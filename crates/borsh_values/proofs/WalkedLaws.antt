@@ -2,10 +2,8 @@
 use Rattle.std.proofs.Common.{◌≡◌, ℕ, suc, zero, ◌≤◌, ◌<◌, ◌^◌, inl, inr, List, [], ◌∷◌, ◌++◌, drop, take, length, length-append, Some, None, refl, sym, ◌∙◌, ap, subst, arith, append_assoc, append-nil}
 use Rattle.std.specs.Prelude.{Option, ℤ, pos, slice_get}
 use Rattle.std.proofs.Math.Seq.{take-append_seam, drop-append_seam}
-use Rattle.borsh_walks.specs.Container.{Shape, sequence, product, choice, tag, Member, Members, IsZeroSize}
+use Rattle.borsh_values.specs.Words.{Shape, sequence, product, choice, tag, Member, Members, IsZeroSize, Opened, OpenedUndecided as Undecided, Refused, Taken}
 use Rattle.borsh_walks.proofs.Laws.{length-tag, zero_member}
-use Rattle.borsh_values.specs.declared.frames.Opened.{Opened}
-use Rattle.borsh_values.specs.declared.frames.Opened.TheVariants.{Undecided, Refused, Taken}
 use Rattle.borsh_values.specs.Nodes.{packed_size, Opens, OpensElements, IsCountOf, IsVariantOf, Reads, reads_none}
 use Rattle.borsh_values.specs.Tags.{value_of, IsVariantIndex}
 use Rattle.borsh_values.specs.Cursor.{OpensOnce}

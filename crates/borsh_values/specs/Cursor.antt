@@ -1,35 +1,10 @@
 -- Where a walk over the bytes of a value is, and what its steps find.
 use Rattle.std.specs.Prelude.{◌≡◌, ℕ, Bool, true, false, suc, zero, ◌+◌, ◌*◌, ◌≤◌, ◌<◌, ◌^◌, List, [], ◌∷◌, ◌++◌, length, take, drop, replicate, ℤ, Option, Some, None, get_or, slice_get, ⊤, ◌⊎◌, ◌-◌, reverse, String}
-use Rattle.borsh_walks.specs.Container.{Shape, primitive, sequence, product, choice, IsIn, IsListedVariant, tag, Member, references, IsZeroSize, IsDefined, Members, Reached}
-use Rattle.borsh_walks.specs.RulesAnswer.{KeepsWidths, IsWidth}
+use Rattle.borsh_values.specs.Words.{Shape, primitive, sequence, product, choice, IsIn, IsListedVariant, tag, Member, references, IsZeroSize, IsDefined, Members, Reached, KeepsWidths, IsWidth, Reason, ReasonTooShort as TooShort, BytesLeft, Count, Tag, MissingDefinition, Recursive, name_at, shape_at, parts_in, name_of, Named, Step, Rest, Copies, Parts, Frame, Opened, OpenedUndecided as Unopened, Refused, Taken, Mark, Empty, MarkOpen as IsOpen, Bor, btree_map_len, get_by_text, Definition, shape_of, Distinct, Plan, definitions_of, map_of, names_of, root_of, Front, Value, FrontAmbiguous as Ambiguous, Cursor, Event, EventOpen as Open, Pass, Close, End, EventFault as Fault, EventUndecided as Undecided}
 use Rattle.borsh_values.specs.Unambiguous.{DistinctTags, UnambiguousShape}
 use Rattle.borsh_values.specs.Nodes.{Opens, Reads}
 use Rattle.borsh_values.specs.Membership.{BeginsWith, Refuses, IsRefused, LeadsTo, StopsAt, IsUndecided}
-use Rattle.borsh_values.specs.declared.faults.Reason.{Reason}
-use Rattle.borsh_values.specs.declared.faults.Reason.TheVariants.{TooShort, BytesLeft, Count, Tag, MissingDefinition, Recursive}
-use Rattle.borsh_plan.specs.Names.{name_at, shape_at, parts_in, name_of}
-use Rattle.borsh_plan.specs.declared.named.Named.{Named}
-use Rattle.borsh_values.specs.declared.frames.Step.{Step}
-use Rattle.borsh_values.specs.declared.frames.Rest.{Rest}
-use Rattle.borsh_values.specs.declared.frames.Rest.TheVariants.{Copies, Parts}
-use Rattle.borsh_values.specs.declared.frames.Frame.{Frame}
-use Rattle.borsh_values.specs.declared.frames.Opened.{Opened}
-use Rattle.borsh_values.specs.declared.frames.Opened.TheVariants.{Undecided as Unopened, Refused, Taken}
-use Rattle.borsh_values.specs.declared.frames.Mark.{Mark}
-use Rattle.borsh_values.specs.declared.frames.Mark.TheVariants.{Empty, Open as IsOpen}
-use Rattle.std.specs.Borrow.{Bor}
-use Rattle.std.specs.BTreeMap.{btree_map_len, get_by_text}
-use Rattle.borsh_walks.specs.declared.definition.Definition.{Definition}
-use Rattle.borsh_walks.specs.Definitions.{shape_of}
-use Rattle.borsh_walks.specs.SizeAnswer.{Distinct}
-use Rattle.borsh_plan.specs.declared.plan.Plan.{Plan}
-use Rattle.borsh_plan.specs.Plan.{definitions_of, map_of, names_of, root_of}
 use Rattle.borsh_values.specs.Tags.{AreTagTables}
-use Rattle.borsh_values.specs.declared.fronts.Front.{Front}
-use Rattle.borsh_values.specs.declared.fronts.Front.TheVariants.{Value, Ambiguous}
-use Rattle.borsh_values.specs.declared.cursor.Cursor.{Cursor}
-use Rattle.borsh_values.specs.declared.cursor.Event.{Event}
-use Rattle.borsh_values.specs.declared.cursor.Event.TheVariants.{Open, Pass, Close, End, Fault, Undecided}
 
 -- the names that are still to be read, of those of a plan
 abbrev pub remaining : List Named → Rest → List (List ℕ)

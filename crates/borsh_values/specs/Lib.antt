@@ -1,3 +1,4 @@
+pub mod Words
 pub mod Unambiguous
 pub mod Tags
 pub mod Nodes

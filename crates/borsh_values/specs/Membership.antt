@@ -1,16 +1,8 @@
 -- What is answered of bytes: whether they are a value, how they begin, and where and why they stop being one.
 use Rattle.std.specs.Prelude.{◌≡◌, ◌⊎◌, ℕ, ◌+◌, ◌*◌, ◌≤◌, ◌<◌, ℤ, pos, List, [], ◌∷◌, ◌++◌, length, take, drop, Option, Some, None, ⊤, Result, IfOk, ◌-◌}
-use Rattle.borsh_walks.specs.Container.{Shape, primitive, sequence, product, choice, IsListedVariant, tag, Member, Reached, IsValid}
+use Rattle.borsh_values.specs.Words.{Shape, primitive, sequence, product, choice, IsListedVariant, tag, Member, Reached, IsValid, Fault, Reason, BytesLeft, ReasonTooShort as TooShort, Count, Tag, MissingDefinition, Recursive, KeepsWidths, Membership, MembershipMember as IsMember, MembershipNoMember as NoMember, MembershipAmbiguous as Ambiguous, Front, Value, FrontTooShort as ShortFront, FrontNoMember as NoFront, FrontAmbiguous as Unclear}
 use Rattle.borsh_values.specs.Nodes.{packed_size, Opens, Reads}
-use Rattle.borsh_values.specs.declared.faults.Fault.{Fault}
-use Rattle.borsh_values.specs.declared.faults.Reason.{Reason}
-use Rattle.borsh_values.specs.declared.faults.Reason.TheVariants.{BytesLeft, TooShort, Count, Tag, MissingDefinition, Recursive}
-use Rattle.borsh_walks.specs.RulesAnswer.{KeepsWidths}
 use Rattle.borsh_values.specs.Unambiguous.{UnambiguousShape, IsUnambiguous}
-use Rattle.borsh_values.specs.declared.members.Membership.{Membership}
-use Rattle.borsh_values.specs.declared.members.Membership.TheVariants.{Member as IsMember, NoMember, Ambiguous}
-use Rattle.borsh_values.specs.declared.fronts.Front.{Front}
-use Rattle.borsh_values.specs.declared.fronts.Front.TheVariants.{Value, TooShort as ShortFront, NoMember as NoFront, Ambiguous as Unclear}
 
 -- the definition takes more bytes than these: as a primitive, for its tag, its count, or the elements that are listed with this
 abbrev pub TakesMore : (List ℕ → Option Shape) → Shape → List ℕ → Type 0

@@ -1,7 +1,7 @@
 -- The nodes of a value: its parts in preorder, each with the bytes that it encodes before its own parts.
 use Rattle.std.specs.Prelude.{◌≡◌, ℕ, suc, zero, ◌*◌, ◌<◌, ◌≤◌, ℤ, pos, List, [], ◌∷◌, ◌++◌, length, replicate, take, drop, Option, Some, None, MatchOption, All}
 use Rattle.borsh_values.specs.Tags.{value_of, IsVariantIndex}
-use Rattle.borsh_walks.specs.Container.{Shape, primitive, sequence, product, choice, IsListedVariant, tag}
+use Rattle.borsh_values.specs.Words.{Shape, primitive, sequence, product, choice, IsListedVariant, tag}
 
 -- how many bytes an element has, by the definition of its name, if elements are listed with their sequence: primitives of some bytes; 0 for others
 abbrev pub packed_size : Option Shape → ℕ

@@ -1,18 +1,7 @@
 -- Values one after another, as a reader gives them.
 use Rattle.std.specs.Prelude.{◌≡◌, ℕ, ◌<◌, List, [], ◌∷◌, ◌++◌, length, Option, ⊤, ◌+◌, ◌*◌, ◌-◌, ◌^◌, ◌≤◌, ◌⊎◌, Bool, true, false, take, drop, min, Result, Ok, Err, IfOk, OnOk, IfErr}
-use Rattle.borsh_walks.specs.Container.{Shape, Member}
-use Rattle.std.specs.Io.KnownBytes.{Consumes, IsAtEnd}
-use Rattle.borsh_io.specs.Errors.{error_kind}
-use Rattle.borsh_io.specs.Stream.{ReaderState, CountedUp}
-use Rattle.borsh_io.specs.declared.error.Error.{Error}
-use Rattle.borsh_io.specs.declared.error.ErrorKind.TheVariants.{OutOfMemory as NoRoom}
+use Rattle.borsh_values.specs.Words.{Shape, Member, Consumes, IsAtEnd, error_kind, ReaderState, CountedUp, Error, ErrorKindOutOfMemory as NoRoom, Buffered, Bor, Plan, Records, RecordError, RecordErrorNoMember as NoMember, CutShort, TooLong, EmptyValue, RecordErrorAmbiguous as Ambiguous, Reader, RecordErrorOutOfMemory as OutOfMemory}
 use Rattle.borsh_values.specs.Membership.{BeginsWith, HasNoFront, IsUndecided}
-use Rattle.borsh_values.specs.declared.buffered.Buffered.{Buffered}
-use Rattle.std.specs.Borrow.{Bor}
-use Rattle.borsh_plan.specs.declared.plan.Plan.{Plan}
-use Rattle.borsh_values.specs.declared.records.Records.{Records}
-use Rattle.borsh_values.specs.declared.records.RecordError.{RecordError}
-use Rattle.borsh_values.specs.declared.records.RecordError.TheVariants.{NoMember, CutShort, TooLong, EmptyValue, Ambiguous, Reader, OutOfMemory}
 
 module _ (C : List ℕ → Option Shape) (root : List ℕ) where
   -- the bytes are these values of the root, one after another

@@ -1,13 +1,7 @@
 -- Tags, numbers for them, and the variants that have them.
 use Rattle.std.specs.Prelude.{◌≡◌, ℕ, suc, zero, ◌+◌, ◌-◌, ◌*◌, ◌/◌, ◌%◌, ◌<◌, ℤ, pos, negsuc, Bool, true, false, List, [], ◌∷◌, length, take, Option, Some, None, MatchOption, slice_get, unwrap_or}
-use Rattle.std.specs.Borrow.{Bor}
-use Rattle.std.specs.BTreeMap.{BTreeMap, get}
-use Rattle.std.specs.Ordering.{nat_cmp}
-use Rattle.borsh_walks.specs.Container.{Shape, choice, IsListedVariant, tag}
-use Rattle.borsh_walks.specs.Tables.{mark_of}
+use Rattle.borsh_values.specs.Words.{Bor, BTreeMap, get, nat_cmp, Shape, choice, IsListedVariant, tag, mark_of, Found, Nothing, One, Several}
 use Rattle.borsh_values.specs.Unambiguous.{DistinctTags}
-use Rattle.borsh_values.specs.declared.tags.Found.{Found}
-use Rattle.borsh_values.specs.declared.tags.Found.TheVariants.{Nothing, One, Several}
 
 -- the number that the bytes encode, little-endian
 abbrev pub value_of : List ℕ → ℕ

@@ -1,15 +1,7 @@
 -- Values that are walked part by part.
 use Rattle.std.specs.Prelude.{◌≡◌, ◌⊎◌, ⊤, ℕ, ◌+◌, ◌^◌, ◌<◌, ◌≤◌, List, [], ◌∷◌, ◌++◌, length, Option, Some, MatchOption, String}
-use Rattle.std.specs.BTreeMap.{BTreeMap, get_by_text}
-use Rattle.borsh_walks.specs.declared.definition.Definition.{Definition}
-use Rattle.borsh_walks.specs.Container.{Shape, primitive, sequence, product, choice, Members}
-use Rattle.borsh_walks.specs.Definitions.{definitions_in, shape_of}
-use Rattle.borsh_plan.specs.Plan.{definitions_of, map_of, names_of, root_of}
-use Rattle.borsh_values.specs.declared.frames.Opened.{Opened}
-use Rattle.borsh_values.specs.declared.frames.Opened.TheVariants.{Undecided, Refused, Taken}
-use Rattle.borsh_values.specs.declared.nodes.Node.{Node}
+use Rattle.borsh_values.specs.Words.{BTreeMap, get_by_text, Definition, Shape, primitive, sequence, product, choice, Members, definitions_in, shape_of, definitions_of, map_of, names_of, root_of, Opened, OpenedUndecided as Undecided, Refused, Taken, Node, name_of}
 use Rattle.borsh_values.specs.declared.walker.Walker.{Walker}
-use Rattle.borsh_plan.specs.Names.{name_of}
 use Rattle.borsh_values.specs.Membership.{IsUndecided}
 use Rattle.borsh_values.specs.Nodes.{Opens, Reads}
 use Rattle.borsh_values.specs.Cursor.{OpensOnce}

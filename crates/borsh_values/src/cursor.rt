@@ -1,7 +1,6 @@
 // The one walk over the bytes of a value.
-ghost use Rattle.borsh_plan.specs.Plan.{definitions_of, names_of, root_of};
+ghost use Rattle.borsh_values.specs.Words.{definitions_of, names_of, root_of, Member};
 ghost use Rattle.borsh_values.specs.Cursor.{Happens, IsCursor, IsOpenable, Moves, OpensFull, Stays, pending_names, GoesOn, KnownAs, remaining};
-ghost use Rattle.borsh_walks.specs.Container.{Member};
 ghost use Rattle.std.specs.Prelude.{IfOk, OnOk, None, Some, [], false, true, ◌∷◌, ◌-◌, ◌<◌, ◌≤◌, ◌≡◌, drop, get_or, length, replicate, slice_set, take};
 
 use crate::faults::{Path, Reason, path_to};

@@ -1,6 +1,5 @@
 // What is still to be read of a value.
-ghost use Rattle.borsh_plan.specs.Names.{IsPlaceOf, name_at, places_in};
-ghost use Rattle.borsh_plan.specs.Plan.{names_of};
+ghost use Rattle.borsh_values.specs.Words.{IsPlaceOf, name_at, places_in, names_of};
 ghost use Rattle.borsh_values.specs.Cursor.{Fits, GoesOn, past_copies, remaining};
 ghost use Rattle.std.specs.Prelude.{false, length, true, ◌≡◌, ◌<◌, [], MatchOption, OnSome, slice_get};
 

@@ -1,13 +1,9 @@
 // What the definition of a name takes from the bytes.
-ghost use Rattle.borsh_plan.specs.Names.{name_at, named_definition, shape_at};
-ghost use Rattle.borsh_plan.specs.Plan.{definitions_of, names_of};
+ghost use Rattle.borsh_values.specs.Words.{name_at, named_definition, shape_at, definitions_of, names_of, choice, sequence, shape_of, mark_of};
 ghost use Rattle.borsh_values.specs.Nodes.{packed_size};
 ghost use Rattle.borsh_values.specs.Cursor.{FitsWidth, OpensAs, TakesElements};
 ghost use Rattle.borsh_values.specs.Tags.{AreTagTables, KeepsTables, TableFits};
 ghost use Rattle.borsh_values.specs.Walks.{CountsIfTaken};
-ghost use Rattle.borsh_walks.specs.Container.{choice, sequence};
-ghost use Rattle.borsh_walks.specs.Definitions.{shape_of};
-ghost use Rattle.borsh_walks.specs.Tables.{mark_of};
 ghost use Rattle.std.specs.Prelude.{◌≡◌, ◌≤◌, ◌<◌, IfOk, OnOk, Some, length, map, option_map, slice_get, string_bytes};
 
 use crate::faults::Reason;

@@ -1,10 +1,6 @@
 // Values that are passed without a frame for each: those of names of free size, and runs of values of one name.
-ghost use Rattle.borsh_plan.specs.Plan.{definitions_of, names_of};
+ghost use Rattle.borsh_values.specs.Words.{definitions_of, names_of, name_at, parts_in, shape_at, Copies, choice, product, shape_of};
 ghost use Rattle.borsh_values.specs.Free.{AreFirst, FreeSize, IsFreeFront, IsRight, IsRun, IsTagLength, Passes};
-ghost use Rattle.borsh_plan.specs.Names.{name_at, parts_in, shape_at};
-ghost use Rattle.borsh_values.specs.declared.frames.Rest.TheVariants.{Copies};
-ghost use Rattle.borsh_walks.specs.Container.{choice, product};
-ghost use Rattle.borsh_walks.specs.Definitions.{shape_of};
 ghost use Rattle.std.specs.Prelude.{IfSome, MatchOption, Some, [], ◌∷◌, ◌≡◌, ◌<◌, ◌≤◌, ◌⊎◌, length, map, string_bytes};
 
 use crate::cursor::after;

@@ -1,7 +1,6 @@
 // The tags of variants, numbers for them, and tables, so that the variant of a tag isn't looked for among all variants.
 ghost use Rattle.borsh_values.specs.Tags.{FoundAs, IsTagKey, IsTagTable, IsVariantIndex, KeepsTables, TableFits, at_key, bits_of, byte_as, is_negative, key_of, magnitude_of, more_found, tag_from, value_of};
-ghost use Rattle.borsh_walks.specs.Container.{low_bytes, tag};
-ghost use Rattle.borsh_walks.specs.Tables.{mark_of};
+ghost use Rattle.borsh_values.specs.Words.{low_bytes, tag, mark_of};
 ghost use Rattle.std.specs.Prelude.{Decides, IfOk, MatchOption, OnOk, ◌<◌, ◌≤◌, ◌≡◌, ◌^◌, length, map, string_bytes};
 
 use borsh_walks::{Declaration, DiscriminantValue, VariantName};

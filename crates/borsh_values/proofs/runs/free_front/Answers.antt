@@ -1,8 +1,5 @@
 use Rattle.std.proofs.Common.{◌≡◌, ◌*◌, ◌<◌, ◌+◌, ◌∷◌, [], replicate, append-nil, subst, sym, ap, ◌∙◌, arith}
-use Rattle.borsh_plan.specs.Plan.{definitions_of, names_of}
-use Rattle.borsh_values.specs.declared.frames.Rest.TheVariants.{Parts}
-use Rattle.borsh_values.specs.declared.runs.Passed.{Passed}
-use Rattle.borsh_plan.specs.Names.{name_at}
+use Rattle.borsh_values.specs.Words.{definitions_of, names_of, Parts, Passed, name_at}
 use Rattle.borsh_values.specs.Cursor.{remaining}
 use Rattle.borsh_values.specs.Free.{FreeSize, FreeSizes, IsFreeFront}
 use Rattle.borsh_values.proofs.Walk.{some_step, parts_on, fits_parts, fits_copies}

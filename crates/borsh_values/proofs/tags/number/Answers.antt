@@ -1,5 +1,5 @@
 use Rattle.std.proofs.Common.{◌≡◌, ℕ, suc, zero, ◌^◌, ◌<◌, ◌≤◌, length, drop, List, refl, sym, ◌∙◌, ap, subst, arith, length-drop}
-use Rattle.borsh_walks.specs.Container.{low_bytes}
+use Rattle.borsh_values.specs.Words.{low_bytes}
 use Rattle.borsh_values.specs.Tags.{value_of}
 use Rattle.borsh_values.proofs.TagLaws.{value_written, value_small, value_under, drop_bytes}
 use Rattle.borsh_values.proofs.tags.number.Goals as goal

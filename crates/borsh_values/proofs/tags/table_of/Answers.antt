@@ -1,13 +1,9 @@
 use Rattle.std.proofs.Common.{◌≡◌, ◌∙◌, ℕ, length, take, List, sym, ap, subst, arith, [], length-take-le, false, ℤ}
 use Rattle.std.specs.Prelude.{string_bytes, unwrap_or}
-use Rattle.std.specs.Ordering.{nat_cmp, is_eq}
-use Rattle.std.specs.Map.{lookup}
-use Rattle.std.specs.BTreeMap.{BTreeMap, is_at}
+use Rattle.borsh_values.specs.Words.{nat_cmp, is_eq, lookup, BTreeMap, is_at, Found, Nothing}
 use Rattle.std.proofs.lemmas.Bool.Decides.{nat_tests}
 use Rattle.std.proofs.lemmas.List.{length-map}
 use Rattle.borsh_values.specs.Tags.{IsTagTable, at_key, more_found}
-use Rattle.borsh_values.specs.declared.tags.Found.{Found}
-use Rattle.borsh_values.specs.declared.tags.Found.TheVariants.{Nothing}
 use Rattle.borsh_values.proofs.TagLaws.{unnamed, got, got_none, table_none, table_more}
 use Rattle.borsh_values.proofs.tags.table_of.Goals as goal
 
