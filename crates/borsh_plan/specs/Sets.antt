@@ -19,7 +19,7 @@ shape (inr (inl s)) = sequence s.0 s.1.0 s.1.1.0 s.1.1.1
 shape (inr (inr (inl ps))) = product ps
 shape (inr (inr (inr c))) = choice c.0 c.1
 
-shape_parts : (d : Shape) → shape (parts d) ≡ d
+pub shape_parts : (d : Shape) → shape (parts d) ≡ d
 shape_parts (primitive n) = refl
 shape_parts (sequence w lo hi e) = refl
 shape_parts (product ps) = refl
