@@ -234,14 +234,14 @@ fn pass_run(plan: &Plan<'_>, at: usize, count: u64, left: &[u8]) -> Option<Passe
             variants,
         } => {
             if *tag_width == 1 && has_short_parts(plan, at, true) {
-                passed(at, count, run_of_enums(plan, at, variants, count, left))
+                pass_some(at, count, run_of_enums(plan, at, variants, count, left))
             } else {
                 None
             }
         }
         Definition::Struct { .. } | Definition::Tuple { .. } => {
             if has_short_parts(plan, at, false) {
-                passed(at, count, run_of_products(plan, at, count, left))
+                pass_some(at, count, run_of_products(plan, at, count, left))
             } else {
                 None
             }
@@ -251,7 +251,7 @@ fn pass_run(plan: &Plan<'_>, at: usize, count: u64, left: &[u8]) -> Option<Passe
 }
 
 // What is passed of so many values, if there are any.
-fn passed(at: usize, count: u64, run: Run) -> Option<Passed>
+fn pass_some(at: usize, count: u64, run: Run) -> Option<Passed>
     requires { run.values ≤ count }
     ensures { MatchOption result (run.taken ≡ 0) (λ p. Passes at count run p) }
 {
