@@ -1,5 +1,6 @@
 // Values that are passed without a frame for each: those of names of free size, and runs of values of one name.
 ghost use Rattle.borsh_values.specs.Words.{definitions_of, names_of, name_at, parts_in, shape_at, Copies, choice, product, shape_of};
+ghost use Rattle.borsh_values.specs.Cursor.{Fits};
 ghost use Rattle.borsh_values.specs.Free.{AreFirst, FreeSize, IsFreeFront, IsRight, IsRun, IsTagLength, Passes};
 ghost use Rattle.std.specs.Prelude.{IfSome, MatchOption, Some, [], ◌∷◌, ◌≡◌, ◌<◌, ◌≤◌, ◌⊎◌, length, map, string_bytes};
 

@@ -26,7 +26,7 @@ returns-in-Taken-default-Copies-default-eq0 c =
     let s = shape_of c.in_ok-definition.definition.now in
     let there = sym c.in_ok-definition.ensures.shape in
     let left = c.args.left.now in
-    let o = opens_sequence C ns c.args.at c.requires.within _ _ _ c.in_ok-element.element _ s left c.open_sequence.result (ap (λ d. shape_of d) c.in-Sequence.is) there c.in_ok-element.ensures.place c.open_sequence.ensures.opened in
+    let o = opens_sequence C ns c.args.at c.requires.within _ _ _ c.in_ok-element-in-Sequence.element _ s left c.open_sequence.result (ap (λ d. shape_of d) c.in-Sequence.is) there c.in_ok-element-in-Sequence.ensures.place c.open_sequence.ensures.opened in
     let q = subst (λ o. OpensAs C ns s left o) t.is o in
     let none = ap (λ r. remaining ns r) (t.field-1-is ∙ ap (λ k. Copies t.field-1-0 k) t.field-1-1-test) in
     first_taken C s left t.taken (defined_at l c.args.at c.requires.within ∙ there) (subst (λ r. Takes C s left t.taken r) none q.0)

@@ -1,5 +1,6 @@
-use Rattle.std.proofs.Common.{refl, ◌∙◌, ap, arith}
+use Rattle.std.proofs.Common.{None, Some, refl, ◌∙◌, ap, arith, get_or, length, subst}
 use Rattle.borsh_values.specs.Words.{btree_map_len}
+use Rattle.borsh_values.specs.Cursor.{KnownAs}
 use Rattle.borsh_walks.proofs.Spots.{last_first}
 use Rattle.borsh_values.proofs.Stepping.{cursor_skip, marked_empty, skips, stopped_again, few_idle, cursor_new, new_begun}
 use Rattle.borsh_values.proofs.Walk.{with_rest}
@@ -8,15 +9,19 @@ use Rattle.borsh_values.proofs.cursor.Cursor.open_empty.Goals as goal
 pub returns-in-Some-Empty-clause-cursor : goal.returns-in-Some-Empty-clause-cursor
 returns-in-Some-Empty-clause-cursor c =
     let k = c.args.self.now in
-    cursor_skip k c.requires.cursor c.args.step c.requires.step c.after_copies-self.result c.after_copies-self.ensures (marked_empty k c.requires.cursor c.args.step c.requires.step c.in-Some-Empty.ensures)
+    let e = subst (λ m. KnownAs (get_or k.marks.items c.args.step.at None) (length k.left.now) (Some m)) c.in-Some-Empty.field-0-is c.in-Some-Empty.ensures in
+    cursor_skip k c.requires.cursor c.args.step c.requires.step c.after_copies-self.result c.after_copies-self.ensures (marked_empty k c.requires.cursor c.args.step c.requires.step e)
 
 pub returns-in-Some-Empty-clause-happens : goal.returns-in-Some-Empty-clause-happens
 returns-in-Some-Empty-clause-happens c =
     let k = c.args.self.now in
-    (marked_empty k c.requires.cursor c.args.step c.requires.step c.in-Some-Empty.ensures, skips k c.requires.cursor c.args.step c.requires.step c.after_copies-self.result c.after_copies-self.ensures)
+    let e = subst (λ m. KnownAs (get_or k.marks.items c.args.step.at None) (length k.left.now) (Some m)) c.in-Some-Empty.field-0-is c.in-Some-Empty.ensures in
+    (marked_empty k c.requires.cursor c.args.step c.requires.step e, skips k c.requires.cursor c.args.step c.requires.step c.after_copies-self.result c.after_copies-self.ensures)
 
 pub returns-in-Some-Open-clause-happens : goal.returns-in-Some-Open-clause-happens
-returns-in-Some-Open-clause-happens c = (refl, stopped_again c.args.self.now c.requires.cursor c.args.step c.requires.step c.in-Some-Open.ensures)
+returns-in-Some-Open-clause-happens c =
+    let k = c.args.self.now in
+    (refl, stopped_again k c.requires.cursor c.args.step c.requires.step (subst (λ m. KnownAs (get_or k.marks.items c.args.step.at None) (length k.left.now) (Some m)) c.in-Some-Open.field-0-is c.in-Some-Open.ensures))
 
 pub overflow_add-self : goal.overflow_add-self
 overflow_add-self c =
