@@ -7,10 +7,9 @@ use Rattle.borsh_walks.specs.Container.{Shape}
 use Rattle.borsh_walks.specs.Definitions.{definitions_in}
 use Rattle.borsh_definitions.specs.Codecs.{root_and_map}
 use Rattle.borsh_plan.specs.Plan.{IsPlanOf, definitions_of, map_of, root_of}
-use Rattle.borsh_values.specs.Faults.{BeginsWith}
-use Rattle.borsh_values.specs.Fronts.{IsFront}
+use Rattle.borsh_values.specs.Membership.{BeginsWith, IsFront}
 use Rattle.borsh_plan.specs.declared.plan.Plan.{Plan}
-use Rattle.borsh_values.proofs.Valid.{none_ambiguous}
+use Rattle.borsh_values.proofs.Answers.{none_ambiguous}
 use Rattle.borsh_json.specs.declared.definitions.Definitions.{Definitions as Json}
 use Rattle.borsh_json.specs.declared.error.JsonError.{JsonError}
 use Rattle.borsh_c.specs.Answers.{Definitions, IsRefused, IsUnclear, Saying}

@@ -11,7 +11,7 @@ use Rattle.borsh_walks.specs.declared.error.SchemaContainerValidateError.TheVari
 use Rattle.borsh_walks.specs.declared.error.SchemaMaxSerializedSizeError.{SchemaMaxSerializedSizeError}
 use Rattle.borsh_walks.specs.declared.error.SchemaMaxSerializedSizeError.TheVariants.{Overflow, Recursive, MissingDefinition as Missing, OutOfMemory as NoMemory, Redefinition}
 use Rattle.borsh_values.specs.Membership.{IsUndecided}
-use Rattle.borsh_values.proofs.Valid.{none_ambiguous}
+use Rattle.borsh_values.proofs.Answers.{none_ambiguous}
 use Rattle.borsh_json.specs.declared.error.JsonError.{JsonError}
 use Rattle.borsh_json.specs.declared.error.JsonError.TheVariants.{OutOfMemory as NoJsonRoom, NoMember, NoValue, Ambiguous, NotJson, Refused}
 use Rattle.borsh_json.specs.Errors.{IsNoJsonReason, IsTextReason}

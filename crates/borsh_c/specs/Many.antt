@@ -2,9 +2,7 @@
 use Rattle.std.specs.Prelude.{◌≡◌, ◌≤◌, ◌<◌, ⊤, ℕ, List, [], ◌∷◌, ◌++◌, length, take, drop, slice_index, All, Option, None, Some, codes, string_bytes}
 use Rattle.borsh_walks.specs.Container.{Shape, IsValid, Member}
 use Rattle.borsh_walks.specs.Definitions.{definitions_in}
-use Rattle.borsh_values.specs.Faults.{BeginsWith}
-use Rattle.borsh_values.specs.Fronts.{IsFront, HasNoFront}
-use Rattle.borsh_values.specs.Membership.{IsUndecided}
+use Rattle.borsh_values.specs.Membership.{BeginsWith, IsFront, HasNoFront, IsUndecided}
 use Rattle.borsh_values.specs.Unambiguous.{IsUnambiguous}
 use Rattle.borsh_values.specs.declared.faults.Fault.{Fault}
 use Rattle.borsh_json.specs.Ascii.{IsInLine}

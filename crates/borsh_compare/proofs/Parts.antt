@@ -9,7 +9,7 @@ use Rattle.borsh_plan.specs.declared.named.Named.{Named}
 use Rattle.borsh_plan.specs.Names.{AreParts, name_at, name_of, named_shape, parts_in, shape_at}
 use Rattle.borsh_plan.specs.Plan.{definitions_of, names_of, map_of, root_of, parts_of, planned}
 use Rattle.borsh_plan.proofs.Places.{defined}
-use Rattle.borsh_values.proofs.FoundLaws.{listed_at}
+use Rattle.borsh_values.proofs.TagLaws.{listed_at}
 use Rattle.borsh_compare.specs.Together.{NamesGo, VariantGoes, DefinitionsGo, by_definition}
 use Rattle.borsh_compare.specs.Walks.{Paired, PartGoes, DefinitionsGoAt, GoAt}
 use Rattle.borsh_compare.specs.declared.pairs.Pair.{Pair}

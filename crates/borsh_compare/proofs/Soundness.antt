@@ -5,7 +5,7 @@ use Rattle.std.proofs.lemmas.Option.{slice_get_within}
 use Rattle.std.proofs.lemmas.List.Elements.{All-take, All-drop}
 use Rattle.borsh_walks.specs.Container.{Shape, primitive, sequence, product, choice, IsListedVariant, first_variant, later_variant, tag, Member, of_parts, Members, no_members, more_members}
 use Rattle.borsh_walks.proofs.Laws.{one_definition}
-use Rattle.borsh_values.proofs.Required.{parted, unwhole}
+use Rattle.borsh_values.proofs.MemberLaws.{parted, unwhole}
 use Rattle.borsh_compare.specs.Together.{HasNone, NamesGo, ShapesGo, LeadsTo, stops, passes, opens, DefinitionsGo, GoesOn, begins, onward, GoThrough, Goes, without_definition, without_members, of_one_size, by_definition, by_parts}
 use Rattle.borsh_compare.proofs.Heights.{AllOf, all_none, all_more, all_joined, ValueOf, Within, find_height, within_member, within_parts, member_value, member_small}
 

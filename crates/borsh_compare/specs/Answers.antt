@@ -3,7 +3,7 @@ use Rattle.std.specs.Prelude.{ℕ, List}
 use Rattle.borsh_walks.specs.Container.{Member}
 use Rattle.borsh_plan.specs.declared.plan.Plan.{Plan}
 use Rattle.borsh_plan.specs.Plan.{definitions_of, root_of}
-use Rattle.borsh_values.specs.Faults.{IsFault}
+use Rattle.borsh_values.specs.Membership.{IsFault}
 use Rattle.borsh_values.specs.declared.faults.Fault.{Fault}
 use Rattle.borsh_compare.specs.Corresponding.{RootsCorrespond}
 use Rattle.borsh_compare.specs.Walks.{Includes}

@@ -6,7 +6,7 @@ use Rattle.std.specs.declared.cmp.Ordering.TheVariants.{Less}
 use Rattle.borsh_walks.specs.Container.{Shape, sequence as sequence_shape, product, IsIn, first, later}
 use Rattle.borsh_plan.specs.declared.named.Named.{Named}
 use Rattle.borsh_values.specs.Nodes.{packed_size, Opens, OpensElements}
-use Rattle.borsh_values.specs.Steps.{OpensOnce}
+use Rattle.borsh_values.specs.Cursor.{OpensOnce}
 use Rattle.borsh_json.specs.declared.definitions.Definitions.{Definitions}
 use Rattle.borsh_json.specs.declared.kinds.Elements.{Elements as FoundElements}
 use Rattle.borsh_json.specs.declared.kinds.Kind.{Kind as Found}

@@ -8,8 +8,7 @@ use Rattle.std.specs.declared.cmp.Ordering.TheVariants.{Less, Equal, Greater}
 use Rattle.std.proofs.Math.Nat.{suc-mul, zero-mul, mul-le-mul_left, mul-le-mul_right}
 use Rattle.borsh_walks.specs.Container.{Member, of_primitive, Members, tag}
 use Rattle.borsh_walks.specs.Container as shape
-use Rattle.borsh_values.proofs.Packed.{copies_of}
-use Rattle.borsh_values.proofs.PrefixFree.{same_front}
+use Rattle.borsh_values.proofs.MemberLaws.{copies_of, same_front}
 use Rattle.borsh_json.specs.Descents.{NumbersDescend, HasKeys, HasDescent}
 use Rattle.borsh_json.specs.Forms.{Form, primitive, shapes}
 use Rattle.borsh_json.specs.Table.{InRange}

@@ -5,12 +5,12 @@ use Rattle.std.specs.Prelude.{ℤ, pos, negsuc, All}
 use Rattle.std.proofs.lemmas.Bool.{cases_lt}
 use Rattle.std.specs.Int.{cast_signed, w128}
 use Rattle.borsh_walks.specs.Container.{low_bytes}
-use Rattle.borsh_values.specs.Numbers.{value_of}
+use Rattle.borsh_values.specs.Tags.{value_of}
 use Rattle.borsh_json.specs.Table.{InRange}
 use Rattle.borsh_json.specs.Ranks.{rank_of}
 use Rattle.borsh_json.specs.Integers.{IsEncoded, signed_as, turned}
 use Rattle.borsh_json.proofs.RepresentsLaws.{power_most}
-use Rattle.borsh_values.proofs.NumberLaws.{Bytes, value_written, value_small, value_under, drop_bytes, drop_at}
+use Rattle.borsh_values.proofs.TagLaws.{Bytes, value_written, value_small, value_under, drop_bytes, drop_at}
 
 tail_bytes : (b : ℕ) (bs : List ℕ) → Bytes (b ∷ bs) → Bytes bs
 tail_bytes b bs f = λ i h. f (suc i) (omega arith)

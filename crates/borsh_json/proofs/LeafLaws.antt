@@ -15,7 +15,7 @@ use Rattle.json.specs.Tree.{json_tokens, depth, HasNumbers}
 use Rattle.json.proofs.Printed.Decimals.{IsNumber-decimal, IsNumber-signed_decimal}
 use Rattle.borsh_walks.specs.Container.{tag, low_bytes}
 use Rattle.borsh_values.specs.Nodes.{Opens}
-use Rattle.borsh_values.specs.Numbers.{value_of}
+use Rattle.borsh_values.specs.Tags.{value_of}
 use Rattle.borsh_plan.specs.declared.named.Named.{Named}
 use Rattle.borsh_json.specs.declared.error.WriteError.{WriteError}
 use Rattle.borsh_json.specs.declared.kinds.Kind.{Kind as Found}

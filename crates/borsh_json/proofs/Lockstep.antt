@@ -10,8 +10,8 @@ use Rattle.json.specs.Json.{Json, array, string, Items, no_items, item, Members}
 use Rattle.borsh_walks.specs.Container.{Shape, first, later, zeroed, IsListedVariant, first_variant, later_variant, tag}
 use Rattle.borsh_walks.specs.Container as shape
 use Rattle.borsh_values.specs.Nodes.{packed_size, OpensElements, Opens}
-use Rattle.borsh_values.specs.Steps.{OpensOnce}
-use Rattle.borsh_values.proofs.PrefixFree.{same_front}
+use Rattle.borsh_values.specs.Cursor.{OpensOnce}
+use Rattle.borsh_values.proofs.MemberLaws.{same_front}
 use Rattle.borsh_json.specs.Checked.{Due, one, ascending, IsOnly, AreChecked, empty, plain, collection, packed, elements_end, next_element}
 use Rattle.borsh_json.specs.Descents.{HasKeys, NumbersDescend}
 use Rattle.borsh_json.specs.Forms.{Form, primitive, sequence, tuple, newtype, unnamed, named, choice, shape_of_form, shapes, HasNoBytes, IsList, IsByte}

@@ -3,8 +3,7 @@ use Rattle.std.proofs.Common.{◌≡◌, ℕ, suc, ◌≤◌, List, [], ◌∷�
 use Rattle.borsh_walks.specs.Container.{Shape, IsIn, first, later, Member, Members, no_members, more_members, IsZeroSize}
 use Rattle.borsh_walks.proofs.Laws.{zero_member}
 use Rattle.borsh_values.specs.Nodes.{Opens}
-use Rattle.borsh_values.proofs.NodesLaws.{opens_member}
-use Rattle.borsh_values.proofs.Required.{members_head, whole, joined}
+use Rattle.borsh_values.proofs.MemberLaws.{opens_member, members_head, whole, joined}
 use Rattle.borsh_json.specs.Inside.{IsInside, outermost, inside}
 use Rattle.borsh_json.specs.Writes.{Rest, names_of_rest, Level, opened, Nested, unread, entered, passed, Mark, AreLevels, no_levels, level, no_place}
 

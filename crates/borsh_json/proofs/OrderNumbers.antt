@@ -10,7 +10,7 @@ use Rattle.std.proofs.lemmas.Cmp.{ranked}
 use Rattle.std.proofs.lemmas.Bool.Decides.{nat_tests}
 use Rattle.std.proofs.lemmas.Int.{ints}
 use Rattle.borsh_walks.specs.Container.{tag, low_bytes}
-use Rattle.borsh_values.proofs.NumberLaws.{drop_at}
+use Rattle.borsh_values.proofs.TagLaws.{drop_at}
 use Rattle.borsh_json.specs.Table.{InRange}
 use Rattle.borsh_json.specs.Ordered.{is_below_zero}
 

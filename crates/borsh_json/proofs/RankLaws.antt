@@ -8,10 +8,7 @@ use Rattle.borsh_walks.specs.Container.{IsIn, first, later, IsListedVariant, fir
 use Rattle.borsh_walks.specs.Container as shape
 use Rattle.borsh_walks.proofs.Laws.{zero_member}
 use Rattle.borsh_values.specs.Nodes.{Reads, reads_none, reads_more}
-use Rattle.borsh_values.proofs.NodesLaws.{opens_member}
-use Rattle.borsh_values.proofs.Packed.{copies_are}
-use Rattle.borsh_values.proofs.PrefixFree.{member_as}
-use Rattle.borsh_values.proofs.Required.{joined, parted}
+use Rattle.borsh_values.proofs.MemberLaws.{opens_member, copies_are, member_as, joined, parted}
 use Rattle.borsh_json.specs.Descents.{HasKeys}
 use Rattle.borsh_json.specs.Forms.{Form, shape_of_form, shapes}
 use Rattle.borsh_json.specs.Ordered.{Order, single, numbers, text, array, list, parts, needs, HasOrder, OrdersBytes, IsOrdered, ordered, Ranked, a_value, elements, Rank, no_rank, more_rank, Compare}

@@ -12,7 +12,7 @@ use Rattle.hex.specs.Hex.{IsBytes}
 use Rattle.hex.proofs.HexLemmas.{decode_of-ok}
 use Rattle.json.specs.Json.{Json, null, array as json_array, Items, no_items, item}
 use Rattle.borsh_walks.specs.Container.{IsIn, first, later, tag}
-use Rattle.borsh_values.proofs.Packed.{copies_of}
+use Rattle.borsh_values.proofs.MemberLaws.{copies_of}
 use Rattle.borsh_json.specs.Descents.{HasKeys}
 use Rattle.borsh_json.specs.Forms.{Form, primitive, sequence, tuple, choice, shapes, HasNoBytes, IsByte, IsOption}
 use Rattle.borsh_json.specs.Ordered.{Order, single, numbers, text, array, list, parts, needs, AreNumbers, IsListName, HasOrder, OrdersBytes, IsOrdered, ordered, Ranked, a_value, elements, Rank, no_rank, more_rank, Compare}

@@ -15,7 +15,7 @@ use Rattle.borsh_plan.specs.Names.{name_of}
 use Rattle.borsh_plan.specs.Plan.{map_of, names_of as plan_names, root_of}
 use Rattle.borsh_values.specs.Membership.{IsUndecided}
 use Rattle.borsh_values.specs.Nodes.{Opens}
-use Rattle.borsh_values.specs.Steps.{OpensOnce}
+use Rattle.borsh_values.specs.Cursor.{OpensOnce}
 use Rattle.borsh_values.specs.Walks.{IsReadTo, IsCounted, IsNodeOf, FindsNode, FindsAt, IsWalker}
 use Rattle.borsh_plan.specs.declared.plan.Plan.{Plan}
 use Rattle.borsh_plan.specs.declared.named.Named.{Named}
@@ -60,8 +60,7 @@ use Rattle.borsh_json.specs.Places.{IsAt, AreKeysOf, IsKindOf, lengths_of}
 use Rattle.borsh_json.specs.Represents.{SaysFirst, next_part}
 use Rattle.borsh_json.specs.Table.{Keys, Kind, no_bytes, whole, utf8, HasKind, key_order, key_json}
 use Rattle.borsh_walks.proofs.Laws.{zero_member}
-use Rattle.borsh_values.proofs.NodesLaws.{opens_member}
-use Rattle.borsh_values.proofs.Required.{members_head}
+use Rattle.borsh_values.proofs.MemberLaws.{opens_member, members_head}
 use Rattle.borsh_values.proofs.WalkedLaws.{read_product}
 use Rattle.borsh_json.specs.Writes.{IsAbove, IsLast, IsBegunOf, IsWhole, IsWrittenOn, ends_of, Rest, IsRest, WritesFront, names_of_rest, names_of_all, leaf_depth, opened, Nested, passed, Mark, AreEach, IsNewPlace, IsAscending, IsKeyed, IsLastKey, IsComparing, IsMarked, IsRestOf, BeginsNext, TellsAscent, RisesAt, IsWriterOf, IsHalved, IsWriting, IsAwaiting, RefusesOwn, RefusesValue, IsWrittenAs, Stops, IsWritingAt, IsAwaitingAt, IsFull, IsFullOrFalls, AscendsFrom, IsOfWrite}
 use Rattle.borsh_json.proofs.CheckedLaws.{IsDueAs, IsRisen, kind_free, same_only, product_due, pair_due, leaf_checked, zero_checked}

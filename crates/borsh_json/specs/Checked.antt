@@ -3,7 +3,7 @@ use Rattle.std.specs.Prelude.{◌≡◌, ℕ, suc, zero, List, [], ◌∷◌, �
 use Rattle.std.specs.declared.cmp.Ordering.{Ordering}
 use Rattle.std.specs.declared.cmp.Ordering.TheVariants.{Less}
 use Rattle.borsh_values.specs.Nodes.{packed_size}
-use Rattle.borsh_values.specs.Steps.{OpensOnce}
+use Rattle.borsh_values.specs.Cursor.{OpensOnce}
 use Rattle.borsh_json.specs.Descents.{HasKeys, NumbersDescend}
 use Rattle.borsh_json.specs.Forms.{Form, shape_of_form, shapes, HasNoBytes}
 use Rattle.borsh_json.specs.Found.{IsSet}

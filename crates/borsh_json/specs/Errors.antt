@@ -2,8 +2,7 @@
 use Rattle.std.specs.Prelude.{◌≡◌, ⊤, ℕ, List, Option, None, IsSome}
 use Rattle.json.specs.Json.{document}
 use Rattle.borsh_walks.specs.Container.{Shape, Member}
-use Rattle.borsh_values.specs.Membership.{IsUndecided}
-use Rattle.borsh_values.specs.Faults.{IsFault}
+use Rattle.borsh_values.specs.Membership.{IsUndecided, IsFault}
 use Rattle.borsh_json.specs.declared.error.JsonError.{JsonError}
 use Rattle.borsh_json.specs.declared.error.JsonError.TheVariants.{OutOfMemory, NoMember, NoValue, Ambiguous, NotJson, Refused}
 use Rattle.borsh_json.specs.declared.error.PartError.{PartError}

@@ -1,5 +1,5 @@
 // Whole numbers that bytes encode.
-ghost use Rattle.borsh_values.specs.Numbers.{value_of};
+ghost use Rattle.borsh_values.specs.Tags.{value_of};
 ghost use Rattle.borsh_json.specs.Integers.{IsEncoded, integer_of, turned};
 ghost use Rattle.borsh_json.specs.Words.{InRange, rank_of};
 ghost use Rattle.std.specs.Fmt.{signed_decimal};

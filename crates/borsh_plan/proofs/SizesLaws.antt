@@ -25,11 +25,8 @@ pub fits_large : (n : ℕ) → 2 ^ 64 ≤ n → fitting n ≡ 0
 fits_large n h = ap (λ b. cond b n 0) (le-ltb n (2 ^ 64) h)
 
 -- ---- sizes of parts together
-no_true : false ≡ true → ⊥
-no_true e = cc
-
-first_known : (n : ℕ) (ns : List ℕ) → are_known (n ∷ ns) ≡ true → (0 < n) × (are_known ns ≡ true)
-first_known zero ns h = absurd (no_true h)
+pub first_known : (n : ℕ) (ns : List ℕ) → are_known (n ∷ ns) ≡ true → (0 < n) × (are_known ns ≡ true)
+first_known zero ns h = cc
 first_known (suc n) ns h = (omega arith, h)
 
 known_on : (n : ℕ) (ns : List ℕ) → (n ≡ 0 → ⊥) → are_known (n ∷ ns) ≡ are_known ns
@@ -67,27 +64,6 @@ module _ (P : List ℕ → ℕ) (all : List (List ℕ)) where
   summed_end left total e low h =
       let s : sum_of (map P all) ≡ total = h.1 ∙ ap (λ l. total + sum_of (map P l)) e ∙ omega arith in
       ap (λ b. cond b (fitting (sum_of (map P all))) 0) (h.0 ∙ ap (λ l. are_known (map P l)) e) ∙ ap (λ n. fitting n) s ∙ fits_small total low
-
--- copies of a name
-map_copies : (P : List ℕ → ℕ) (e : List ℕ) (k : ℕ) → map P (replicate k e) ≡ replicate k (P e)
-map_copies P e zero = refl
-map_copies P e (suc k) = ap (λ l. P e ∷ l) (map_copies P e k)
-
-copies_known : (n k : ℕ) → are_known (replicate k (suc n)) ≡ true
-copies_known n zero = refl
-copies_known n (suc k) = copies_known n k
-
-copies_sum : (n k : ℕ) → sum_of (replicate k n) ≡ k * n
-copies_sum n zero = omega arith
-copies_sum n (suc k) = let r = copies_sum n k in let p = suc-mul k n in omega (arith, r, p)
-
-copies_or : (n k : ℕ) → together (replicate k n) ≡ fitting (k * n)
-copies_or n zero = ap (λ i. fitting i) {x = 0} {y = 0 * n} (omega arith)
-copies_or zero (suc k) = ap (λ i. fitting i) {x = 0} {y = suc k * 0} (omega arith)
-copies_or (suc n) (suc k) = ap (λ b. cond b (fitting (sum_of (replicate (suc k) (suc n)))) 0) (copies_known n (suc k)) ∙ ap (λ i. fitting i) (copies_sum (suc n) (suc k))
-
-pub copies_together : (P : List ℕ → ℕ) (e : List ℕ) (k : ℕ) → together (map P (replicate k e)) ≡ fitting (k * P e)
-copies_together P e k = ap (λ l. together l) (map_copies P e k) ∙ copies_or (P e) k
 
 -- ---- the size of a definition
 module _ (P : List ℕ → ℕ) (o : Option Shape) (s : Shape) (there : o ≡ Some s) where
@@ -129,22 +105,27 @@ pub sizes_next : (ns : List Named) (C : List ℕ → Option Shape) (k : ℕ) (v 
 unfolding known_within
 sizes_next ns C k v defined f i h = f i h ∙ ap (λ o. known_by (λ x. known_within k C x) o) (sym (defined i h)) ∙ ap (λ j. known_within j C (name_at ns i)) (sym (add-one k))
 
--- ---- a list of sizes, one for each place
-module _ (P : List ℕ → ℕ) (ns : List Named) where
-  abbrev pub SizedBy : List ℕ → Type 0
-  SizedBy zs = (i : ℕ) → i < length zs → get_or zs i 0 ≡ known_by P (shape_at ns i)
+-- ---- a list of answers, one for each place
+module _ {A : Type 0} (d : A) (Q : ℕ → A → Type 0) where
+  abbrev pub Answered : List A → Type 0
+  Answered zs = (i : ℕ) → i < length zs → Q i (get_or zs i d)
 
-  pub sized_none : (zs : List ℕ) → zs ≡ [] → SizedBy zs
-  sized_none zs e i h = let n = ap (λ l. length l) e in absurd (omega (arith, n, h))
+  pub answered_none : (zs : List A) → zs ≡ [] → Answered zs
+  answered_none zs e i h = let n = ap (λ l. length l) e in absurd (omega (arith, n, h))
 
-  pub sized_more : (zs : List ℕ) (z : ℕ) → SizedBy zs → z ≡ known_by P (shape_at ns (length zs)) → SizedBy (zs ++ z ∷ [])
-  sized_more zs z f g i h = elim (cases_lt i (length zs)) [
-    | inl l ↦ get_or-append zs (z ∷ []) 0 i l ∙ f i l
+  pub answered_more : (zs : List A) (z : A) → Answered zs → Q (length zs) z → Answered (zs ++ z ∷ [])
+  answered_more zs z f g i h = elim (cases_lt i (length zs)) [
+    | inl l ↦ subst (λ b. Q i b) (sym (get_or-append zs (z ∷ []) d i l)) (f i l)
     | inr l ↦
         let n = length-append zs (z ∷ []) in
         let e : i ≡ length zs = omega (arith, n, l, h) in
-        subst (λ k. get_or (zs ++ z ∷ []) k 0 ≡ known_by P (shape_at ns k)) (sym e) (get_or-append_seam zs z [] 0 ∙ g)
+        subst (λ k. Q k (get_or (zs ++ z ∷ []) k d)) (sym e) (subst (λ b. Q (length zs) b) (sym (get_or-append_seam zs z [] d)) g)
   ]
 
-  pub sized_all : (zs : List ℕ) → length ns ≤ length zs → SizedBy zs → AreSizesBy P ns zs
-  sized_all zs n f i h = f i (omega (arith, n, h))
+  -- the places are all those of n names
+  pub answered_all : (zs : List A) (n : ℕ) → n ≤ length zs → Answered zs → (i : ℕ) → i < n → Q i (get_or zs i d)
+  answered_all zs n l f i h = f i (omega (arith, l, h))
+
+-- of the definitions' sizes
+abbrev pub SizedBy : (List ℕ → ℕ) → List Named → ℕ → ℕ → Type 0
+SizedBy P ns i z = z ≡ known_by P (shape_at ns i)

@@ -35,24 +35,3 @@ module _ (C : List ℕ → Option Shape) where
       let t : Some qs ≡ Some ps = ap (λ k. zero_size_references k) q ∙ z in
       let u : qs ≡ ps = cc in
       f (h p (subst (λ l. IsIn p l) u a))
-
--- ---- a list of answers, one for each place
-module _ (C : List ℕ → Option Shape) (ns : List Named) where
-  abbrev pub Answered : List Bool → Type 0
-  Answered zs = (i : ℕ) → i < length zs → ZeroAt C ns i (get_or zs i false)
-
-  pub answered_none : (zs : List Bool) → zs ≡ [] → Answered zs
-  answered_none zs e i h = let n = ap (λ l. length l) e in absurd (omega (arith, n, h))
-
-  pub answered_more : (zs : List Bool) (z : Bool) → Answered zs → ZeroAt C ns (length zs) z → Answered (zs ++ z ∷ [])
-  answered_more zs z f g i h = elim (cases_lt i (length zs)) [
-    | inl l ↦ subst (λ b. ZeroAt C ns i b) (sym (get_or-append zs (z ∷ []) false i l)) (f i l)
-    | inr l ↦
-        let n = length-append zs (z ∷ []) in
-        let e : i ≡ length zs = omega (arith, n, l, h) in
-        subst (λ k. ZeroAt C ns k (get_or (zs ++ z ∷ []) k false)) (sym e) (subst (λ b. ZeroAt C ns (length zs) b) (sym (get_or-append_seam zs z [] false)) g)
-  ]
-
-  -- the places are all those of the names
-  pub answered_all : (zs : List Bool) → length ns ≤ length zs → Answered zs → AreZeros C ns zs
-  answered_all zs n f i h = f i (omega (arith, n, h))

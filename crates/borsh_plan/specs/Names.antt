@@ -2,12 +2,13 @@
 use Rattle.std.specs.Prelude.{◌≡◌, ◌⊎◌, ℕ, ◌+◌, ◌<◌, ◌≤◌, List, [], length, map, Option, Some, None, option_map, unwrap_or, slice_get, MatchOption, String, Vec}
 use Rattle.std.specs.Global.{Global}
 use Rattle.std.specs.BTreeMap.{BTreeMap, get_by_text}
-use Rattle.std.specs.Coded.{×_prop, Π_prop, le_prop}
+use Rattle.std.specs.Coded.{×_prop, Π_prop, le_prop, Coded-set, coded_list, coded_option, coded_ℕ}
 use Rattle.borsh_walks.specs.declared.definition.Definition.{Definition}
+use Rattle.borsh_walks.specs.contracts.definition.Definition.{the_row}
 use Rattle.borsh_walks.specs.Container.{Shape, references}
 use Rattle.borsh_walks.specs.Definitions.{shape_of}
 use Rattle.borsh_plan.specs.declared.named.Named.{Named}
-use Rattle.borsh_plan.specs.Sets.{definitions_set, name_set, parts_set, number_set}
+use Rattle.borsh_plan.specs.Sets.{coded_name}
 
 -- the name at a place, if there is one
 abbrev pub name_of : List Named → ℕ → Option (List ℕ)
@@ -84,15 +85,9 @@ pub record IsPlanned {A : Type 0} (m : BTreeMap (String A) Definition) (x0 : Lis
 -- there is at most one proof of that
 pub IsPlanned-prop : {A : Type 0} (m : BTreeMap (String A) Definition) (x0 : List ℕ) (ns : List Named) (ps : List (Vec ℕ Global)) → IsProp (IsPlanned m x0 ns ps)
 IsPlanned-prop m x0 ns ps a b =
-    let first_prop : IsProp (name_of ns 0 ≡ Some x0) = name_set _ _ in
-    let once_prop : IsProp ((x : List ℕ) (i j : ℕ) → name_of ns i ≡ Some x → name_of ns j ≡ Some x → i ≡ j) = Π_prop λ x. Π_prop λ i. Π_prop λ j. Π_prop λ _. Π_prop λ _. number_set _ _ in
-    let looked_up_prop : IsProp ((x : List ℕ) (i : ℕ) → name_of ns i ≡ Some x → get_by_text m x ≡ named_definition (slice_get ns i)) = Π_prop λ x. Π_prop λ i. Π_prop λ _. definitions_set _ _ in
-    let parts_prop : IsProp ((i : ℕ) → AreParts ns (places_in (slice_get ps i)) (parts_in (shape_at ns i))) = Π_prop λ i. parts_set _ _ in
+    let name_set : (o p : Option (List ℕ)) → IsProp (o ≡ p) = Coded-set (coded_option coded_name) in
+    let looked_up_prop : IsProp ((x : List ℕ) (i : ℕ) → name_of ns i ≡ Some x → get_by_text m x ≡ named_definition (slice_get ns i)) = Π_prop λ x. Π_prop λ i. Π_prop λ _. Coded-set (coded_option the_row.coded) _ _ in
+    let once_prop : IsProp ((x : List ℕ) (i j : ℕ) → name_of ns i ≡ Some x → name_of ns j ≡ Some x → i ≡ j) = Π_prop λ x. Π_prop λ i. Π_prop λ j. Π_prop λ _. Π_prop λ _. Coded-set coded_ℕ _ _ in
+    let parts_prop : IsProp ((i : ℕ) → AreParts ns (places_in (slice_get ps i)) (parts_in (shape_at ns i))) = Π_prop λ i. Coded-set (coded_list (coded_option coded_name)) _ _ in
     let led_prop : IsProp ((i : ℕ) (n : Named) → slice_get ns i ≡ Some n → 0 < i → IsLed ns i n) = Π_prop λ i. Π_prop λ n. Π_prop λ _. Π_prop λ _. ×_prop le_prop (name_set _ _) in
-    λ i. record {
-      first = first_prop a.first b.first i;
-      once = once_prop a.once b.once i;
-      looked_up = looked_up_prop a.looked_up b.looked_up i;
-      parts = parts_prop a.parts b.parts i;
-      led = led_prop a.led b.led i;
-    }
+    λ i. record { first = name_set _ _ a.first b.first i; once = once_prop a.once b.once i; looked_up = looked_up_prop a.looked_up b.looked_up i; parts = parts_prop a.parts b.parts i; led = led_prop a.led b.led i }

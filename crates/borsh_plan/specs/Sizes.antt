@@ -1,9 +1,8 @@
 -- The sizes of names whose members are all bytes of one length, as far as definitions tell them.
-use Rattle.std.specs.Prelude.{◌≡◌, ℕ, suc, zero, ◌*◌, ◌^◌, ◌<◌, Bool, true, false, cond, eqb, ltb, List, [], ◌∷◌, map, length, get_or, Option, Some, None}
-use Rattle.std.specs.Coded.{Π_prop}
-use Rattle.borsh_walks.specs.Container.{Shape, primitive, sequence, product, choice, sum_of}
+use Rattle.std.specs.Prelude.{◌≡◌, ℕ, suc, zero, ◌*◌, ◌^◌, ◌<◌, Bool, true, false, cond, eqb, ltb, List, [], ◌∷◌, map, length, get_or, Option, Some}
+use Rattle.std.specs.Coded.{Π_prop, Coded-set, coded_ℕ}
+use Rattle.borsh_walks.specs.Container.{Shape, primitive, sequence, product, sum_of}
 use Rattle.borsh_plan.specs.declared.named.Named.{Named}
-use Rattle.borsh_plan.specs.Sets.{number_set}
 use Rattle.borsh_plan.specs.Names.{name_at, shape_at}
 
 -- the number, if it has at most 64 bits; else 0
@@ -22,12 +21,10 @@ together ns = cond (are_known ns) (fitting (sum_of ns)) 0
 
 -- the size of a primitive, a struct, a tuple or an array, by the sizes of parts; 0 where it isn't known
 abbrev pub known_by : (List ℕ → ℕ) → Option Shape → ℕ
-known_by P None = 0
 known_by P (Some (primitive n)) = n
 known_by P (Some (sequence zero lo hi e)) = cond (eqb lo hi) (fitting (lo * P e)) 0
-known_by P (Some (sequence (suc w) lo hi e)) = 0
 known_by P (Some (product ps)) = together (map P ps)
-known_by P (Some (choice w vs)) = 0
+known_by P o = 0
 
 -- the size of a name, by so many definitions within one another
 unfoldable pub known_within : ℕ → (List ℕ → Option Shape) → List ℕ → ℕ
@@ -48,4 +45,4 @@ AreSizesBy P ns sizes = (i : ℕ) → i < length ns → get_or sizes i 0 ≡ kno
 
 -- there is at most one proof of the former
 pub AreSizes-prop : (P : List ℕ → ℕ) (ns : List Named) (sizes : List ℕ) → IsProp (AreSizes P ns sizes)
-AreSizes-prop P ns sizes = Π_prop λ i. Π_prop λ _. number_set _ _
+AreSizes-prop P ns sizes = Π_prop λ i. Π_prop λ _. Coded-set coded_ℕ _ _

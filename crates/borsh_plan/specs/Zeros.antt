@@ -1,11 +1,11 @@
 -- Names whose values have no bytes.
 use Rattle.std.specs.Prelude.{◌≡◌, ◌<◌, ℕ, List, length, Bool, false, Option, Some, None, Decides, get_or, ⊤}
-use Rattle.std.specs.Coded.{×_prop, Π_prop}
+use Rattle.std.specs.Coded.{×_prop, Π_prop, Coded-set, coded_bool, coded_list, coded_option}
 use Rattle.std.proofs.Common.{refl, sym, ◌∙◌, ap}
 use mathlib.Core.Path.{path_j}
-use Rattle.borsh_walks.specs.Container.{Shape, primitive, sequence, product, choice, IsIn, IsZeroSize, zeroed, zero_size_references}
+use Rattle.borsh_walks.specs.Container.{Shape, product, IsIn, IsZeroSize, zeroed, zero_size_references}
 use Rattle.borsh_plan.specs.declared.named.Named.{Named}
-use Rattle.borsh_plan.specs.Sets.{names_set, shapes_set, truth_set}
+use Rattle.borsh_plan.specs.Sets.{coded_name, coded_shape}
 use Rattle.borsh_plan.specs.Names.{name_at, shape_at, parts_in}
 
 -- a definition that says without its parts that values have bytes
@@ -15,10 +15,8 @@ IsFull (Some d) = zero_size_references d ≡ None
 
 -- a definition whose parts come one after another
 abbrev pub IsProduct : Shape → Type 0
-IsProduct (primitive n) = ⊥
-IsProduct (sequence w lo hi e) = ⊥
 IsProduct (product ps) = ⊤
-IsProduct (choice w vs) = ⊥
+IsProduct d = ⊥
 
 -- the definition at a place has a part whose definition says that values have bytes
 abbrev pub HasFullPart : List Named → ℕ → Type 0
@@ -34,7 +32,7 @@ module _ (C : List ℕ → Option Shape) where
       path_j (λ d2 p. (ps2 : List (List ℕ)) (e2 : C x ≡ Some d2) (f2 : zero_size_references d2 ≡ Some ps2) (g2 : (y : List ℕ) → IsIn y ps2 → IsZeroSize C y) → zeroed d ps e f g ≡ zeroed d2 ps2 e2 f2 g2)
       (λ ps2 e2 f2 g2.
       path_j (λ ps2 q. (f2 : zero_size_references d ≡ Some ps2) (g2 : (y : List ℕ) → IsIn y ps2 → IsZeroSize C y) → zeroed d ps e f g ≡ zeroed d ps2 e2 f2 g2)
-      (λ f2 g2. λ i. zeroed d ps (shapes_set (C x) (Some d) e e2 i) (names_set (zero_size_references d) (Some ps) f f2 i) (λ y a. zero_prop (g y a) (g2 y a) i))
+      (λ f2 g2. λ i. zeroed d ps (Coded-set (coded_option coded_shape) (C x) (Some d) e e2 i) (Coded-set (coded_option (coded_list coded_name)) (zero_size_references d) (Some ps) f f2 i) (λ y a. zero_prop (g y a) (g2 y a) i))
       (same_some f f2) f2 g2)
       (same_some e e2) ps2 e2 f2 g2
 
@@ -48,4 +46,4 @@ module _ (C : List ℕ → Option Shape) where
     AreZeros zs = (i : ℕ) → i < length ns → ZeroAt i (get_or zs i false)
 
     pub AreZeros-prop : (zs : List Bool) → IsProp (AreZeros zs)
-    AreZeros-prop zs = Π_prop λ i. Π_prop λ _. ×_prop (Π_prop λ _. zero_prop) (Π_prop λ _. truth_set _ _)
+    AreZeros-prop zs = Π_prop λ i. Π_prop λ _. ×_prop (Π_prop λ _. zero_prop) (Π_prop λ _. Coded-set coded_bool _ _)

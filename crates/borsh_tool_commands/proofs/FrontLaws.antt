@@ -2,7 +2,7 @@
 use Rattle.std.proofs.Common.{◌≡◌, ◌∙◌, ℕ, ◌<◌, List, [], ◌++◌, length, take, Option, None, Some, IfSome, sym, ap, subst, arith, append-nil, length-append, length-take}
 use Rattle.std.specs.Io.KnownBytes.{Consumes, IsAtEnd}
 use Rattle.borsh_walks.specs.Container.{Shape, Member}
-use Rattle.borsh_values.specs.Fronts.{HasNoFront, IsFront}
+use Rattle.borsh_values.specs.Membership.{HasNoFront, IsFront}
 use Rattle.borsh_values.specs.declared.faults.Fault.{Fault}
 use Rattle.borsh_tool_commands.specs.Fronts.{IsRead}
 use Rattle.borsh_tool_commands.specs.Fronts.IsRead.{whole, front}

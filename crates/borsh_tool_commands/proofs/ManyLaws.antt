@@ -9,9 +9,8 @@ use Rattle.std.proofs.lemmas.List.{length_push}
 use Rattle.borsh_io.specs.Sink.{WriterModel, WriterLaws}
 use Rattle.borsh_io.specs.Stream.{ReaderState}
 use Rattle.borsh_walks.specs.Container.{Shape}
-use Rattle.borsh_values.specs.Fronts.{HasNoFront}
-use Rattle.borsh_values.specs.Next.{IsFirst}
-use Rattle.borsh_values.specs.Records.{Advances, IsRecordError, IsUnread, ahead, source_of, value_of}
+use Rattle.borsh_values.specs.Membership.{HasNoFront}
+use Rattle.borsh_values.specs.Records.{IsFirst, Advances, IsRecordError, IsUnread, ahead, source_of, value_of}
 use Rattle.borsh_values.specs.declared.faults.Fault.{Fault}
 use Rattle.borsh_plan.specs.declared.plan.Plan.{Plan}
 use Rattle.borsh_values.specs.declared.records.Records.{Records}

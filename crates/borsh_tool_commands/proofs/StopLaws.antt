@@ -8,8 +8,7 @@ use Rattle.std.proofs.lemmas.List.{take-append-le}
 use Rattle.borsh_io.specs.Stream.{ReaderState}
 use Rattle.borsh_io.specs.declared.error.Error.{Error}
 use Rattle.borsh_walks.specs.Container.{Shape, Member}
-use Rattle.borsh_values.specs.Faults.{BeginsWith}
-use Rattle.borsh_values.specs.Fronts.{HasNoFront}
+use Rattle.borsh_values.specs.Membership.{BeginsWith, HasNoFront}
 use Rattle.borsh_values.specs.Records.{Advances, AdvancesHeld, IsRecordError, ahead, source_of}
 use Rattle.borsh_values.specs.declared.records.Records.{Records}
 use Rattle.borsh_values.specs.declared.records.RecordError.{RecordError}

@@ -11,10 +11,8 @@ use Rattle.borsh_io.specs.Stream.{ReaderState}
 use Rattle.borsh_io.specs.declared.error.Error.{Error}
 use Rattle.borsh_walks.specs.Container.{Shape, Member}
 use Rattle.borsh_plan.specs.Plan.{definitions_of, map_of, root_of}
-use Rattle.borsh_values.specs.Faults.{BeginsWith}
-use Rattle.borsh_values.specs.Membership.{IsUndecided}
-use Rattle.borsh_values.specs.Next.{IsFirst}
-use Rattle.borsh_values.specs.Records.{IsUnread, ahead, held, reader_of, source_of}
+use Rattle.borsh_values.specs.Membership.{BeginsWith, IsUndecided}
+use Rattle.borsh_values.specs.Records.{IsFirst, IsUnread, ahead, held, reader_of, source_of}
 use Rattle.borsh_values.specs.declared.buffered.Buffered.{Buffered}
 use Rattle.borsh_values.specs.declared.records.Records.{Records}
 use Rattle.borsh_values.specs.declared.records.RecordError.{RecordError}

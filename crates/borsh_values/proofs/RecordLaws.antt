@@ -1,27 +1,45 @@
--- Values one after another, as a reader gives them.
-use Rattle.std.proofs.Common.{◌≡◌, ℕ, zero, suc, ◌+◌, ◌*◌, ◌<◌, ◌≤◌, inl, inr, true≢false, Bool, true, false, List, [], ◌++◌, length, take, drop, Result, Ok, Err, refl, sym, ◌∙◌, ap, subst, arith, le_refl, append_assoc, append-nil, take-append-drop, length-append, length-take, length-take-le}
-use Rattle.std.proofs.lemmas.List.{take-append-le, drop-append-le, take-take, take_all}
+-- Values one after another.
+use Rattle.std.proofs.Common.{◌≡◌, ℕ, zero, suc, ◌<◌, List, [], ◌∷◌, ◌++◌, length, take, drop, refl, sym, ◌∙◌, ap, subst, arith, append-nil, take-append-drop, length-take-le, ◌+◌, ◌*◌, ◌≤◌, inl, inr, true≢false, Bool, true, false, Result, Ok, Err, le_refl, append_assoc, length-append, length-take}
+use Rattle.std.specs.Prelude.{Option, ◌-◌, ◌^◌, ◌⊎◌, min, IfOk, OnOk, IfErr}
+use Rattle.std.proofs.lemmas.List.{append_cancel_left, take-append-le, drop-append-le, take-take, take_all}
+use Rattle.borsh_values.specs.Words.{Shape, Member, Consumes, Keeps, IsAtEnd, error_kind, ReaderState, Consumed, CountedUp, ReadFailedAfterRetries, Error, ErrorKindOutOfMemory as NoRoom, Fault, Buffered, Records, RecordError, RecordErrorNoMember as NoMember, CutShort, TooLong, EmptyValue, RecordErrorAmbiguous as Ambiguous, Reader, RecordErrorOutOfMemory as OutOfMemory}
+use Rattle.borsh_values.specs.Membership.{IsFront, HasNoFront, BeginsWith}
+use Rattle.borsh_values.specs.Records.{AreValues, IsFirst, reader_of, held, Lost, IsUnread, ReadsMore, TakesHeld, IsFirstOf, IsRecordError, FaultsAre, Advances, AdvancesHeld, SameRoot, Falls, most_at_once, ahead, limit_of, next_offset, source_of, value_of}
 use Rattle.std.proofs.Math.Seq.{take-append_seam, take-append-add}
-use Rattle.std.specs.Prelude.{◌-◌, ◌^◌, ◌⊎◌, min, Option, IfOk, OnOk, IfErr}
-use Rattle.std.specs.Io.KnownBytes.{Consumes, Keeps, IsAtEnd}
 use Rattle.std.proofs.KnownBytes.{Consumes-nil, Consumes-kept, Consumes-trans}
-use Rattle.borsh_io.specs.Errors.{error_kind}
-use Rattle.borsh_io.specs.Stream.{ReaderState, Consumed, CountedUp, ReadFailedAfterRetries}
-use Rattle.borsh_io.specs.declared.error.Error.{Error}
 use Rattle.borsh_io.specs.declared.error.ErrorKind.{ErrorKind}
-use Rattle.borsh_io.specs.declared.error.ErrorKind.TheVariants.{OutOfMemory as NoRoom}
-use Rattle.borsh_walks.specs.Container.{Shape, Member}
-use Rattle.borsh_values.specs.Faults.{BeginsWith}
-use Rattle.borsh_values.specs.Fronts.{IsFront, HasNoFront}
-use Rattle.borsh_values.specs.Next.{IsFirst}
-use Rattle.borsh_values.specs.declared.faults.Fault.{Fault}
-use Rattle.borsh_values.proofs.NextLaws.{is_first}
-use Rattle.borsh_values.specs.declared.buffered.Buffered.{Buffered}
-use Rattle.borsh_values.specs.Records.{reader_of, held, Lost, IsUnread, ReadsMore, TakesHeld, IsFirstOf, IsRecordError, FaultsAre, Advances, AdvancesHeld, SameRoot, Falls, most_at_once, ahead, limit_of, next_offset, source_of, value_of}
-use Rattle.borsh_values.specs.declared.records.Records.{Records}
-use Rattle.borsh_values.specs.declared.records.RecordError.{RecordError}
-use Rattle.borsh_values.specs.declared.records.RecordError.TheVariants.{NoMember, CutShort, TooLong, EmptyValue, Ambiguous, Reader, OutOfMemory}
 
+-- ---- the first of some values
+no_bytes : (xs ys : List ℕ) → xs ++ ys ≡ [] → length xs ≡ 0
+no_bytes [] ys e = refl
+no_bytes (x ∷ xs) ys e = cc
+
+module _ (C : List ℕ → Option Shape) (root bytes : List ℕ) where
+  positive : (n : ℕ) → (n ≡ 0 → ⊥) → 0 < n
+  positive zero f = absurd (f refl)
+  positive (suc n) f = omega arith
+
+  pub is_first : (n : ℕ) → (n ≡ 0 → ⊥) → IsFront C root bytes n → IsFirst C root (take n bytes) bytes (drop n bytes)
+  is_first n some h =
+      let more = positive n some in
+      let low = h.within in
+      let long = length-take-le n bytes low in
+      let whole : bytes ≡ take n bytes ++ drop n bytes = sym (take-append-drop n bytes) in
+      record {
+        member = h.member;
+        some = omega (arith, long, more);
+        split = whole;
+        only = λ vs a. first vs a;
+      }
+    where
+      first : (vs : List (List ℕ)) → AreValues C root vs bytes → (others : List (List ℕ)) × (vs ≡ take n bytes ∷ others) × AreValues C root others (drop n bytes)
+      first [] a = absurd (let low = h.within in let long = length-take-le n bytes low in let z = no_bytes (take n bytes) (drop n bytes) (take-append-drop n bytes ∙ a) in let more = positive n some in omega (arith, z, long, more))
+      first (v ∷ vs) a =
+          let same : v ≡ take n bytes = h.only v a.0 [] a.1 (sym a.2 ∙ sym (append-nil bytes)) in
+          let left : a.0 ≡ drop n bytes = append_cancel_left v a.0 (drop n bytes) (sym a.2 ∙ sym (take-append-drop n bytes) ∙ ap (λ l. l ++ drop n bytes) (sym same)) in
+          (vs, ap (λ l. l ∷ vs) same, subst (λ l. AreValues C root vs l) left a.3)
+
+-- ---- values one after another, as a reader gives them
 -- ---- reading more
 
 -- what lies behind the bytes that were held, where n bytes of a buffer behind them were read, and no others are kept

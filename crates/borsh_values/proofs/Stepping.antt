@@ -1,40 +1,20 @@
--- Each step of a cursor.
-use Rattle.std.proofs.Common.{◌≡◌, ℕ, suc, ◌+◌, ◌-◌, ◌<◌, ◌≤◌, List, [], ◌∷◌, ◌++◌, length, take, drop, reverse, replicate, set, get_or, Some, None, refl, sym, ◌∙◌, ap, subst, take-append-drop, append-nil, append_assoc}
-use Rattle.std.specs.Prelude.{Option, Vec, slice_get}
-use Rattle.std.specs.Borrow.{Bor}
-use Rattle.std.specs.Global.{Global}
-use Rattle.std.specs.BTreeMap.{btree_map_len, get_by_text}
-use Rattle.borsh_walks.specs.declared.definition.Definition.{Definition}
-use Rattle.borsh_walks.specs.Container.{IsZeroSize, Member, Members}
-use Rattle.borsh_walks.specs.Definitions.{shape_of}
+-- The steps of a cursor, and its folds.
+use Rattle.std.proofs.Common.{◌≡◌, ℕ, suc, ◌+◌, ◌-◌, ◌<◌, ◌≤◌, List, [], ◌∷◌, ◌++◌, length, take, drop, reverse, replicate, set, get_or, Some, None, refl, sym, ◌∙◌, ap, subst, take-append-drop, append-nil, append_assoc, Ok, zero, arith, length-append, ◌⊎◌, inl, inr}
+use Rattle.std.specs.Prelude.{Option, Vec, slice_get, Result}
+use Rattle.borsh_values.specs.Words.{Bor, Global, btree_map_len, get_by_text, Definition, IsZeroSize, Member, Members, Shape, shape_of, Cursor, Event, EventOpen as AtOpen, Pass as AtPass, Close as AtClose, End as AtEnd, EventFault as AtFault, EventUndecided as AtUndecided, Reason, Recursive as IsRecursive, Frame, Rest, Step, Mark, Empty, MarkOpen as Open, Passed, definitions_of, map_of, names_of, root_of, named_definition, name_at, name_of, Front, Value, FrontAmbiguous as Ambiguous, Plan, Node, Preorder}
 use Rattle.borsh_walks.proofs.Laws.{zero_member}
-use Rattle.borsh_values.specs.declared.cursor.Cursor.{Cursor}
-use Rattle.borsh_values.specs.declared.cursor.Event.{Event}
-use Rattle.borsh_values.specs.declared.cursor.Event.TheVariants.{Open as AtOpen, Pass as AtPass, Close as AtClose, End as AtEnd, Fault as AtFault, Undecided as AtUndecided}
-use Rattle.borsh_values.specs.declared.faults.Reason.{Reason}
-use Rattle.borsh_values.specs.declared.faults.Reason.TheVariants.{Recursive as IsRecursive}
-use Rattle.borsh_values.specs.declared.frames.Frame.{Frame}
-use Rattle.borsh_values.specs.declared.frames.Rest.{Rest}
-use Rattle.borsh_values.specs.declared.frames.Step.{Step}
-use Rattle.borsh_values.specs.declared.frames.Mark.{Mark}
-use Rattle.borsh_values.specs.declared.frames.Mark.TheVariants.{Empty, Open}
-use Rattle.borsh_values.specs.declared.frames.Known.TheVariants.{New}
-use Rattle.borsh_values.specs.declared.free.Passed.{Passed}
-use Rattle.borsh_values.specs.Cursor.{Going, Happens, IsBegun, IsCursor, IsOpenable, IsStopped, Moves, OpensFull, PassesCopies, Why, before, name_in, pending_names}
+use Rattle.borsh_values.specs.Cursor.{Going, Happens, IsBegun, IsCursor, IsOpenable, IsStopped, Moves, OpensFull, PassesCopies, Why, before, name_in, pending_names, Begun, IsAnswerOf, Stays, GoesOn, KnownAs, NoneBegins, OnlyEmpty, past_copies, pending, remaining}
 use Rattle.borsh_values.specs.Free.{IsFreeFront}
-use Rattle.borsh_plan.specs.Plan.{definitions_of, map_of, names_of, root_of}
 use Rattle.borsh_plan.proofs.Laws.{looked_up as named}
 use Rattle.borsh_plan.proofs.Places.{name_there}
-use Rattle.borsh_plan.specs.Names.{named_definition}
 use Rattle.borsh_values.specs.Nodes.{Opens}
-use Rattle.borsh_values.specs.Steps.{GoesOn, KnownAs, NoneBegins, OnlyEmpty, past_copies, pending, remaining}
-use Rattle.borsh_values.proofs.Answers.{before_whole, suffix_on}
-use Rattle.borsh_values.proofs.Going.{going_skip, known_empty, less_skip, going_reached, going_next, going_denied, room, going_new, going_on, going_past, going_pass, going_up, going_up_empty, going_back, going_leads, less_new, less_on, less_past, less_pass, next_names}
-use Rattle.borsh_values.proofs.Measure.{left}
-use Rattle.borsh_values.proofs.Places.{passes}
-use Rattle.borsh_values.proofs.Required.{members_head}
-use Rattle.borsh_values.proofs.Walk.{with_rest}
+use Rattle.borsh_values.proofs.Answers.{before_whole, suffix_on, answers_no, is_front}
+use Rattle.borsh_values.proofs.Walk.{going_skip, known_empty, less_skip, going_reached, going_next, going_denied, room, going_new, going_on, going_past, going_pass, going_up, going_up_empty, going_back, going_leads, less_new, less_on, less_past, less_pass, next_names, left, passes, with_rest}
+use Rattle.borsh_values.proofs.MemberLaws.{members_head, no_more}
+use Rattle.borsh_values.specs.Membership.{IsFrontAnswer, StopsAt, IsUndecided}
+use Rattle.borsh_values.specs.Preorder.{AreZero, GivesNode}
 
+-- ---- each step of a cursor
 module _ (c : Cursor) (i : IsCursor c) where
   -- names are passed with their bytes
   pub cursor_pass : (p : Passed) → IsFreeFront (definitions_of c.plan.now) (names_of c.plan.now) c.frame.rest c.left.now p → (a : Bor (List ℕ)) → a.now ≡ drop p.taken c.left.now → IsCursor (record c { frame = with_rest c.frame p.rest; left = a; idle = 0 }) × Moves c (record c { frame = with_rest c.frame p.rest; left = a; idle = 0 })
@@ -121,7 +101,7 @@ module _ (c : Cursor) (i : IsCursor c) (s : Step) (g : GoesOn (names_of c.plan.n
     }
 
     -- without a byte
-    module _ (z : n ≡ 0) (new : KnownAs (get_or c.marks.items s.at None) (length c.left.now) New) (ms : Vec (Option Mark) Global) (em : ms.items ≡ set c.marks.items s.at (Some (Open (length c.left.now)))) (st : Vec Frame Global) (es : reverse st.items ≡ with_rest c.frame s.others ∷ reverse c.stack.items) where
+    module _ (z : n ≡ 0) (new : KnownAs (get_or c.marks.items s.at None) (length c.left.now) None) (ms : Vec (Option Mark) Global) (em : ms.items ≡ set c.marks.items s.at (Some (Open (length c.left.now)))) (st : Vec Frame Global) (es : reverse st.items ≡ with_rest c.frame s.others ∷ reverse c.stack.items) where
       pub few_idle : suc c.idle ≤ btree_map_len (map_of c.plan.now)
       few_idle = room c.plan.now i.going s g (shape_of d) o.shape n r o.opens z new
 
@@ -176,24 +156,15 @@ module _ (c : Cursor) (i : IsCursor c) (s : Step) (g : GoesOn (names_of c.plan.n
 -- a value begins only where a name comes next, and is that name's
 module _ (old new : Cursor) where
   pub none_full : (e : Event) → remaining (names_of old.plan.now) old.frame.rest ≡ [] → Happens old new e → OpensFull old e
-  none_full (AtOpen at d own) none h = (let b = h.0.before in cc)
-  none_full (AtPass at) none h = tt
-  none_full AtClose none h = tt
-  none_full AtEnd none h = tt
-  none_full (AtFault at r) none h = tt
-  none_full (AtUndecided at) none h = tt
+  none_full e none h = λ at d own q z. (let b = (subst (λ e. Happens old new e) q h).0.before in cc)
 
   pub next_full : (s : Step) → GoesOn (names_of old.plan.now) old.frame.rest s → (IsZeroSize (definitions_of old.plan.now) (name_in old s.at) → ⊥) → (e : Event) → Happens old new e → OpensFull old e
-  next_full s g some (AtOpen at d own) h =
-      let b : remaining (names_of old.plan.now) old.frame.rest ≡ name_in old at ∷ h.0.others = h.0.before in
+  next_full s g some e h = λ at d own q z.
+      let k = subst (λ e. Happens old new e) q h in
+      let b : remaining (names_of old.plan.now) old.frame.rest ≡ name_in old at ∷ k.0.others = k.0.before in
       let p : remaining (names_of old.plan.now) old.frame.rest ≡ name_in old s.at ∷ remaining (names_of old.plan.now) s.others = g.parts in
       let same : name_in old at ≡ name_in old s.at = cc in
-      λ z. some (subst (λ x. IsZeroSize (definitions_of old.plan.now) x) same z)
-  next_full s g some (AtPass at) h = tt
-  next_full s g some AtClose h = tt
-  next_full s g some AtEnd h = tt
-  next_full s g some (AtFault at r) h = tt
-  next_full s g some (AtUndecided at) h = tt
+      some (subst (λ x. IsZeroSize (definitions_of old.plan.now) x) same z)
 
 -- the last value ends
 module _ (c : Cursor) (i : IsCursor c) (none : remaining (names_of c.plan.now) c.frame.rest ≡ []) (above : Frame) (st : Vec Frame Global) (es : reverse c.stack.items ≡ above ∷ reverse st.items) where
@@ -208,3 +179,146 @@ module _ (c : Cursor) (i : IsCursor c) (none : remaining (names_of c.plan.now) c
 
   pub up_names : pending (names_of c.plan.now) (above ∷ reverse st.items) ≡ pending_names c
   up_names = ap (λ q. pending (names_of c.plan.now) q) (sym es) ∙ ap (λ q. q ++ pending (names_of c.plan.now) (reverse c.stack.items)) (sym none)
+
+-- ---- what the last step of a walk answers
+-- a step without an answer moves on
+pub moves_on : (old new : Cursor) (e : Event) → IsAnswerOf new e None → Happens old new e → Moves old new
+moves_on old new (AtOpen at d own) a h = h.1
+moves_on old new (AtPass at) a h = (let p : PassesCopies old new (name_in old at) = h.1 in p.moves)
+moves_on old new AtClose a h = h.2
+moves_on old new AtEnd a h = cc
+moves_on old new (AtFault at r) a h = absurd a
+moves_on old new (AtUndecided at) a h = (let e = a.1 in cc)
+
+ended : (old : Cursor) (n : ℕ) → IsCursor old → n ≡ length old.bytes.now - length old.left.now → pending_names old ≡ [] → IsFrontAnswer (definitions_of old.plan.now) (root_of old.plan.now) old.bytes.now (Value n)
+ended old n i e p = is_front (definitions_of old.plan.now) (root_of old.plan.now) old.bytes.now old.left.now n e i.suffix (subst (λ ps. Begun (definitions_of old.plan.now) (root_of old.plan.now) (before old.bytes.now old.left.now) ps) p i.going.state.begun)
+
+value_is : (a b : Front) → ◌≡◌ {A = Option Front} (Some a) (Some b) → a ≡ b
+value_is a b e = cc
+
+-- the answer of the last step is right
+pub last_is : (old new : Cursor) (e : Event) (a : Front) → IsCursor old → Stays old new → Happens old new e → IsAnswerOf new e (Some a) → IsFrontAnswer (definitions_of old.plan.now) (root_of old.plan.now) old.bytes.now a
+last_is old new (AtOpen at d own) a i s h k = cc
+last_is old new (AtPass at) a i s h k = cc
+last_is old new AtClose a i s h k = cc
+last_is old new AtEnd a i s h k =
+    let n = length new.bytes.now - length new.left.now in
+    let same : n ≡ length old.bytes.now - length old.left.now = ap (λ b. length b.now - length new.left.now) s.1 ∙ ap (λ b. length old.bytes.now - length b.now) h.0 in
+    subst (λ z. IsFrontAnswer (definitions_of old.plan.now) (root_of old.plan.now) old.bytes.now z) (sym (value_is a (Value n) k)) (ended old n i same h.1)
+last_is old new (AtFault at r) a i s h k =
+    let t = h.1 in
+    let o : Result Front (Unit {0}) = Ok a in
+    let all = ap (λ b. length b.now) s.1 in
+    let left = ap (λ b. length b.now) h.0 in
+    let name = ap (λ l. name_at (names_of l.now) at) s.0 in
+    answers_no (definitions_of old.plan.now) (root_of old.plan.now) old.bytes.now old.left.now (name_in old at) r i.within i.suffix t.reached t.others t.next t.why t.deny t.no o
+    (subst (λ n. StopsAt n (length old.left.now) (name_in old at) r a) all (subst (λ n. StopsAt (length new.bytes.now) n (name_in old at) r a) left (subst (λ x. StopsAt (length new.bytes.now) (length new.left.now) x r a) name k)))
+last_is old new (AtUndecided at) a i s h k =
+    let q = value_is a (Ambiguous k.0) k.1 in
+    let u = subst (λ x. IsUndecided (definitions_of old.plan.now) (root_of old.plan.now) x) (sym (k.2 ∙ ap (λ l. name_at (names_of l.now) at) s.0)) h.1 in
+    subst (λ z. IsFrontAnswer (definitions_of old.plan.now) (root_of old.plan.now) old.bytes.now z) (sym q) u
+
+-- ---- nodes of a value, one after another
+module _ (C : List ℕ → Option Shape) where
+  zeros_more : (xs ys : List (List ℕ)) → AreZero C xs → AreZero C ys → AreZero C (xs ++ ys)
+  zeros_more [] ys h k = k
+  zeros_more (x ∷ xs) ys h k = (h.0, zeros_more xs ys h.1 k)
+
+  zero_copies : (k : ℕ) (x : List ℕ) → IsZeroSize C x → AreZero C (replicate k x)
+  zero_copies zero x z = tt
+  zero_copies (suc k) x z = (z, zero_copies k x z)
+
+  -- of the names all before these were passed
+  abbrev pub PassedTo : List (List ℕ) → List (List ℕ) → Type 0
+  PassedTo names now = (zeros : List (List ℕ)) × AreZero C zeros × (names ≡ zeros ++ now)
+
+  passed_copies : (names old new : List (List ℕ)) (k : ℕ) (x : List ℕ) → PassedTo names old → IsZeroSize C x → old ≡ replicate k x ++ new → PassedTo names new
+  passed_copies names old new k x h z e = (h.0 ++ replicate k x, zeros_more h.0 (replicate k x) h.1 (zero_copies k x z), h.2 ∙ ap (λ l. h.0 ++ l) e ∙ sym (append_assoc h.0 (replicate k x) new))
+
+-- so far no node is given: names of zero size are passed
+pub record NoneYet (old now : Cursor) : Type 0 where
+  pub cursor : IsCursor now
+  pub member : Member (definitions_of now.plan.now) (root_of now.plan.now) now.bytes.now
+  pub plan : now.plan ≡ old.plan
+  pub bytes : now.bytes ≡ old.bytes
+  pub left : now.left ≡ old.left
+  pub passed : PassedTo (definitions_of old.plan.now) (pending_names old) (pending_names now)
+
+pub none_yet : (c : Cursor) → IsCursor c → Member (definitions_of c.plan.now) (root_of c.plan.now) c.bytes.now → NoneYet c c
+none_yet c i m = record { cursor = i; member = m; plan = refl; bytes = refl; left = refl; passed = ([], tt, refl) }
+
+module _ (old now : Cursor) (h : NoneYet old now) (new : Cursor) (i : IsCursor new) (s : Stays now new) where
+  pub still_member : Member (definitions_of new.plan.now) (root_of new.plan.now) new.bytes.now
+  still_member = subst (λ (l : Bor Plan). Member (definitions_of l.now) (root_of l.now) new.bytes.now) (sym s.0) (subst (λ b. Member (definitions_of now.plan.now) (root_of now.plan.now) b.now) (sym s.1) h.member)
+
+  onward : new.left ≡ now.left → PassedTo (definitions_of old.plan.now) (pending_names old) (pending (names_of now.plan.now) (new.frame ∷ reverse new.stack.items)) → NoneYet old new
+  onward e p = record {
+    cursor = i;
+    member = still_member;
+    plan = s.0 ∙ h.plan;
+    bytes = s.1 ∙ h.bytes;
+    left = e ∙ h.left;
+    passed = subst (λ (l : Bor Plan). PassedTo (definitions_of old.plan.now) (pending_names old) (pending (names_of l.now) (new.frame ∷ reverse new.stack.items))) (sym s.0) p;
+  }
+
+  -- copies of one more are passed
+  pub passed_on : (x : List ℕ) → IsZeroSize (definitions_of now.plan.now) x → PassesCopies now new x → NoneYet old new
+  passed_on x z p =
+      let zero : IsZeroSize (definitions_of old.plan.now) x = subst (λ (l : Bor Plan). IsZeroSize (definitions_of l.now) x) h.plan z in
+      onward p.left (passed_copies (definitions_of old.plan.now) (pending_names old) (pending_names now) (pending (names_of now.plan.now) (new.frame ∷ reverse new.stack.items)) (suc p.others) x h.passed zero p.names)
+
+  -- a value ends
+  pub closed : new.left ≡ now.left → pending (names_of now.plan.now) (new.frame ∷ reverse new.stack.items) ≡ pending_names now → NoneYet old new
+  closed e p = onward e (subst (λ ps. PassedTo (definitions_of old.plan.now) (pending_names old) ps) (sym p) h.passed)
+
+module _ (old now : Cursor) (h : NoneYet old now) where
+  -- all values end
+  pub none_left : pending_names now ≡ [] → old.left.now ≡ []
+  none_left e = ap (λ b. b.now) (sym h.left) ∙ no_more (subst (λ ps. Members (definitions_of now.plan.now) ps now.left.now) e (members_left now h.cursor h.member))
+
+  -- a value of the next name begins in a member
+  pub not_stopped : (x : List ℕ) (r : Reason) → IsStopped (definitions_of now.plan.now) (root_of now.plan.now) (before now.bytes.now now.left.now) now.left.now x r → ⊥
+  not_stopped x r t = t.no [] (λ _. refl) (now.bytes.now, [], h.member, append-nil (before now.bytes.now now.left.now ++ now.left.now) ∙ before_whole now.bytes.now now.left.now h.cursor.suffix ∙ sym (append-nil now.bytes.now))
+
+-- an event of which no node comes
+module _ (old now : Cursor) (h : NoneYet old now) (new : Cursor) (s : Stays now new) (e : Event) (k : Happens now new e) where
+  pub goes_on : IsCursor new → ((x : ℕ) × (e ≡ AtPass x)) ⊎ (e ≡ AtClose) → NoneYet old new
+  goes_on i (inl p) = let q = subst (λ e. Happens now new e) p.1 k in passed_on old now h new i s (name_in now p.0) q.0.1 q.1
+  goes_on i (inr p) = let q = subst (λ e. Happens now new e) p k in closed old now h new i s q.0 q.1
+
+  pub undecided : (at : ℕ) → ((r : Reason) × (e ≡ AtFault at r)) ⊎ (e ≡ AtUndecided at) → (x : List ℕ) → x ≡ name_at (names_of new.plan.now) at → IsUndecided (definitions_of old.plan.now) (root_of old.plan.now) x
+  undecided at (inl p) x n = let q = subst (λ e. Happens now new e) p.1 k in absurd (not_stopped old now h (name_in now at) p.0 q.1)
+  undecided at (inr p) x n =
+      let q = subst (λ e. Happens now new e) p k in
+      let name : x ≡ name_in now at = n ∙ ap (λ l. name_at (names_of l.now) at) s.0 in
+      subst (λ (l : Bor Plan). IsUndecided (definitions_of l.now) (root_of l.now) x) h.plan (subst (λ y. IsUndecided (definitions_of now.plan.now) (root_of now.plan.now) y) (sym name) q.1)
+
+-- the next node
+module _ (old new : Preorder) (now : Cursor) (h : NoneYet old.cursor now) (s : Stays now new.cursor) where
+  pub given : (n : Node) → IsBegun now new.cursor n.at n.definition.now n.bytes.now → n.name.now ≡ name_in now n.at → n.offset ≡ length now.bytes.now - length now.left.now → (IsZeroSize (definitions_of now.plan.now) (name_in now n.at) → ⊥) → GivesNode old new n
+  given n b name offset some =
+      let ns = names_of now.plan.now in
+      let own = n.bytes.now in
+      let others : List (List ℕ) = b.others ++ pending ns (reverse now.stack.items) in
+      let back : IsZeroSize (definitions_of old.cursor.plan.now) n.name.now → IsZeroSize (definitions_of now.plan.now) (name_in now n.at) = λ z. subst (λ x. IsZeroSize (definitions_of now.plan.now) x) name (subst (λ (l : Bor Plan). IsZeroSize (definitions_of l.now) n.name.now) (sym h.plan) z) in
+      let all = ap (λ b. length b.now) h.bytes in
+      let left = ap (λ b. length b.now) h.left in
+      let all_new = ap (λ b. length b.now) s.1 in
+      let split = ap length b.bytes ∙ length-append own new.cursor.left.now in
+      let within = h.cursor.within in
+      let there = name_there ns n.at b.within in
+      record {
+        place = ap (λ (l : Bor Plan). name_of (names_of l.now) n.at) (sym h.plan) ∙ there ∙ ap (λ x. Some x) (sym name);
+        defined = subst (λ (l : Bor Plan). get_by_text (map_of l.now) n.name.now ≡ Some n.definition.now) h.plan (ap (λ x. get_by_text (map_of now.plan.now) x) name ∙ b.defined);
+        bytes = ap (λ b. b.now) (sym h.left) ∙ b.bytes;
+        offset = omega (arith, offset, all, left);
+        next = omega (arith, all, left, all_new, split, within);
+        zeros = h.passed.0;
+        parts = b.parts;
+        others = others;
+        none = h.passed.1;
+        some = λ z. some (back z);
+        before = h.passed.2 ∙ ap (λ l. h.passed.0 ++ (l ++ pending ns (reverse now.stack.items))) b.before ∙ ap (λ x. h.passed.0 ++ (x ∷ others)) (sym name);
+        opens = subst (λ (l : Bor Plan). Opens (definitions_of l.now) (shape_of n.definition.now) own b.parts) h.plan b.opened;
+        after = ap (λ (l : Bor Plan). pending (names_of l.now) (new.cursor.frame ∷ reverse new.cursor.stack.items)) s.0 ∙ b.behind;
+      }

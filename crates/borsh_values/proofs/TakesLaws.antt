@@ -1,27 +1,18 @@
 -- What an opened definition takes.
 use Rattle.std.proofs.Common.{◌≡◌, ℕ, suc, zero, ◌+◌, ◌-◌, ◌*◌, ◌<◌, ◌≤◌, ◌^◌, List, [], ◌∷◌, ◌++◌, length, take, drop, replicate, Some, refl, sym, ◌∙◌, ap, subst, arith, append_assoc, length-append, length-drop, append-nil, take-add, ◌⊎◌, inl, inr}
 use Rattle.std.specs.Prelude.{Option, None, All, ℤ, pos, negsuc, slice_get}
-use Rattle.borsh_walks.specs.Container.{Shape, primitive, sequence, product, choice, IsIn, first, later, IsListedVariant, low_bytes, tag, variant_names, references, Member, of_primitive, of_sequence, of_parts, of_choice, Members, IsZeroSize, zeroed}
+use Rattle.borsh_values.specs.Words.{Shape, primitive, sequence, product, choice, IsIn, first, later, IsListedVariant, low_bytes, tag, variant_names, references, Member, of_primitive, of_sequence, of_parts, of_choice, Members, IsZeroSize, zeroed, Nothing, One, name_at, shape_at, parts_in, IsPlaceOf, Copies, Parts, Named, Opened, OpenedUndecided as Undecided, Refused, Taken, ReasonTooShort as TooShort}
 use Rattle.std.proofs.Math.Nat.{suc-mul}
 use Rattle.std.proofs.lemmas.List.Elements.{All-take, All-drop}
 use Rattle.borsh_walks.proofs.Names.{among_one}
 use Rattle.borsh_walks.proofs.Laws.{length-tag, among-replicate, variant-listed}
 use Rattle.borsh_values.specs.Unambiguous.{DistinctTags}
-use Rattle.borsh_values.specs.declared.tags.Found.TheVariants.{Nothing, One}
-use Rattle.borsh_plan.specs.Names.{name_at, shape_at, parts_in, IsPlaceOf}
-use Rattle.borsh_values.specs.declared.frames.Rest.TheVariants.{Copies, Parts}
-use Rattle.borsh_plan.specs.declared.named.Named.{Named}
-use Rattle.borsh_values.specs.declared.frames.Opened.{Opened}
-use Rattle.borsh_values.specs.declared.frames.Opened.TheVariants.{Undecided, Refused, Taken}
 use Rattle.borsh_values.specs.Nodes.{packed_size, OpensElements, Opens}
-use Rattle.borsh_values.specs.Faults.{BeginsWith, Refuses, HasOtherCount, HasOtherTag}
-use Rattle.borsh_values.specs.Steps.{remaining, required_by, OnlyEmpty, AllOnlyEmpty, OpensOnce, NoneBegins, Takes, FoundAs, TakesElements, OpensAs}
-use Rattle.borsh_values.proofs.FoundLaws.{listed_at, only_name}
-use Rattle.borsh_values.proofs.Packed.{packed_is, copies_are}
-use Rattle.borsh_values.proofs.PrefixFree.{same_front, one_count, member_as}
-use Rattle.borsh_values.proofs.Required.{only_empty_members}
-use Rattle.borsh_values.proofs.FrontLaws.{opens_once, once_variant}
-use Rattle.borsh_values.specs.declared.faults.Reason.TheVariants.{TooShort}
+use Rattle.borsh_values.specs.Membership.{BeginsWith, Refuses, HasOtherCount, HasOtherTag}
+use Rattle.borsh_values.specs.Cursor.{remaining, required_by, OnlyEmpty, AllOnlyEmpty, OpensOnce, NoneBegins, Takes, TakesElements, OpensAs}
+use Rattle.borsh_values.specs.Tags.{FoundAs}
+use Rattle.borsh_values.proofs.TagLaws.{listed_at, only_name}
+use Rattle.borsh_values.proofs.MemberLaws.{packed_is, copies_are, same_front, one_count, member_as, only_empty_members, opens_once, once_variant}
 
 take_drop : (n : ℕ) (xs : List ℕ) → take n xs ++ drop n xs ≡ xs
 take_drop zero xs = refl
@@ -289,6 +280,16 @@ names_at (v ∷ vs) (suc i) k q e = names_at vs i k q e
 pub found_there : (vs : List (ℤ × List ℕ)) (t : List ℕ) (i : ℕ) → FoundAs vs t (One i) → slice_get (variant_names vs) i ≡ None → ⊥
 found_there vs t i f none = let n = names_at vs i f.0 f.1 f.2 in cc
 
+-- a variant that is found by no byte is the only one
+single : (vs : List (ℤ × List ℕ)) (t : List ℕ) (i : ℕ) (f : FoundAs vs t (One i)) → t ≡ [] → vs ≡ (f.0, f.1) ∷ []
+single vs t i f z = go vs i f.2 (λ m j q e. f.4 m j q e (ap (λ b. tag (length b) j) z ∙ no_tag j ∙ sym z))
+  where
+    go : {k : ℤ} {p : List ℕ} (vs : List (ℤ × List ℕ)) (i : ℕ) → slice_get vs i ≡ Some (k, p) → ((m : ℕ) (j : ℤ) (q : List ℕ) → slice_get vs m ≡ Some (j, q) → m ≡ i) → vs ≡ (k, p) ∷ []
+    go [] i e f = cc
+    go {k} {p} (v ∷ []) zero e f = let h : v ≡ (k, p) = cc in ap (λ v. v ∷ []) h
+    go (v ∷ []) (suc i) e f = cc
+    go (v ∷ u ∷ vs) i e f = let a = f 0 v.0 v.1 refl in let b = f 1 u.0 u.1 refl in absurd (omega (arith, a, b))
+
 -- the only variant with a tag
 abbrev OneVariant : List (ℤ × List ℕ) → List ℕ → ℤ → List ℕ → Type 0
 OneVariant vs t k p = IsListedVariant k p vs × (tag (length t) k ≡ t) × ((j : ℤ) (q : List ℕ) → IsListedVariant j q vs → tag (length t) j ≡ t → q ≡ p) × (t ≡ [] → vs ≡ (k, p) ∷ [])
@@ -297,7 +298,7 @@ OneVariant vs t k p = IsListedVariant k p vs × (tag (length t) k ≡ t) × ((j 
 pub found_choice : (C : List ℕ → Option Shape) (w size i : ℕ) (p bytes : List ℕ) (vs : List (ℤ × List ℕ)) → size ≡ w → size ≤ length bytes → FoundAs vs (take size bytes) (One i) → slice_get (variant_names vs) i ≡ Some p → Takes C (choice w vs) bytes size (p ∷ [])
 found_choice C w size i p bytes vs z within g at =
     let same : g.1 ≡ p = (let n = names_at vs i g.0 g.1 g.2 in cc) in
-    let f : OneVariant vs (take size bytes) g.0 p = subst (λ q. OneVariant vs (take size bytes) g.0 q) same (listed_at vs i g.0 g.1 g.2, g.3, only_name vs (take size bytes) i g, g.5) in
+    let f : OneVariant vs (take size bytes) g.0 p = subst (λ q. OneVariant vs (take size bytes) g.0 q) same (listed_at vs i g.0 g.1 g.2, g.3, only_name vs (take size bytes) i g, single vs (take size bytes) i g) in
     let k0 = g.0 in
     let l : length (take size bytes) ≡ w = length_take size bytes within ∙ z in
     let t : take size bytes ≡ take w bytes = ap (λ i. take i bytes) z in
@@ -313,12 +314,12 @@ found_none_choice w size bytes vs z within f C x c more m =
     let l : length (take size bytes) ≡ w = length_take size bytes within ∙ z in
     let t : take size bytes ≡ take w bytes = ap (λ i. take i bytes) z in
     let long = length-append bytes more in
-    no_variant C (omega (arith, long, z, within)) (λ j q a b. f.0 j q a (ap (λ i. tag i j) l ∙ b ∙ take_front w bytes more (omega (arith, z, within)) ∙ sym t)) c m
+    no_variant C (omega (arith, long, z, within)) (λ j q a b. f j q a (ap (λ i. tag i j) l ∙ b ∙ take_front w bytes more (omega (arith, z, within)) ∙ sym t)) c m
 
 pub other_tag : (w size : ℕ) (bytes : List ℕ) (vs : List (ℤ × List ℕ)) → size ≡ w → size ≤ length bytes → FoundAs vs (take size bytes) Nothing → HasOtherTag (choice w vs) bytes
 other_tag w size bytes vs z within f =
     let l : length (take size bytes) ≡ w = length_take size bytes within ∙ z in
-    (omega (arith, z, within), λ k p a b. f.0 k p a (ap (λ i. tag i k) l ∙ b ∙ sym (ap (λ i. take i bytes) z)))
+    (omega (arith, z, within), λ k p a b. f k p a (ap (λ i. tag i k) l ∙ b ∙ sym (ap (λ i. take i bytes) z)))
 
 pub several_ambiguous : (w size : ℕ) (bytes : List ℕ) (vs : List (ℤ × List ℕ)) → size ≡ w → size ≤ length bytes → (DistinctTags (length (take size bytes)) vs → ⊥) → DistinctTags w vs → ⊥
 several_ambiguous w size bytes vs z within f t = f (subst (λ i. DistinctTags i vs) (sym (length_take size bytes within ∙ z)) t)

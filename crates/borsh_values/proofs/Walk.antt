@@ -1,24 +1,138 @@
--- What the loop keeps, and each of its steps.
-use Rattle.std.proofs.Common.{◌≡◌, ℕ, suc, ◌<◌, List, [], ◌∷◌, ◌++◌, length, take, drop, replicate, Some, None, sym, ◌∙◌, ap, subst, arith, append_assoc, append-nil, length-drop, ◌⊎◌, inl, inr}
-use Rattle.std.specs.Prelude.{Option}
-use Rattle.borsh_walks.specs.Container.{Shape, IsIn, first, later, Member, of_primitive, of_sequence, of_parts, of_choice, references, Reached, Reaches, IsOnCycle, stays, onward}
-use Rattle.borsh_walks.specs.SizeAnswer.{distinct_none, distinct_more}
-use Rattle.borsh_values.specs.Faults.{BeginsWith, LeadsTo}
-use Rattle.borsh_values.specs.Nodes.{Opens, Reads, reads_none}
-use Rattle.borsh_values.specs.Steps.{remaining, pending, required_by, OnlyEmpty, AllOnlyEmpty, Takes}
-use Rattle.borsh_plan.specs.Names.{name_at}
-use Rattle.borsh_plan.specs.declared.named.Named.{Named}
-use Rattle.borsh_values.specs.declared.frames.Frame.{Frame}
-use Rattle.borsh_values.specs.declared.frames.Rest.{Rest}
-use Rattle.borsh_values.specs.declared.frames.Mark.{Mark}
-use Rattle.borsh_values.specs.declared.frames.Mark.TheVariants.{Empty, Open}
-use Rattle.borsh_walks.proofs.Names.{name_cases, also_defined, among_one, among_append}
+-- A walk over the bytes of a value: its state, and what each step makes of it.
+use Rattle.std.proofs.Common.{◌++◌, replicate, subst, ◌≡◌, ℕ, suc, zero, ◌+◌, ◌<◌, List, [], ◌∷◌, drop, length, Some, None, refl, sym, ◌∙◌, ap, arith, get_or, set, ◌*◌, ◌≤◌, true, false, Bool, take, append_assoc, append-nil, length-drop, ◌⊎◌, inl, inr, add-one}
+use Rattle.std.specs.Prelude.{Option, String, option_map, string_bytes, cond}
+use Rattle.std.proofs.lemmas.List.{get_or-set_same, get_or-set_other, length-replicate, length-set}
 use Rattle.borsh_walks.proofs.Tables.{Updated}
-use Rattle.borsh_values.specs.Cursor.{Begun, On, Top, Link, Chain, Walk}
-use Rattle.borsh_values.proofs.FrontLaws.{begun_start, begun_skip, begun_on, begun_denied}
-use Rattle.borsh_values.proofs.ReadsLaws.{reads_on, reads_member, reads_skip, leads_on}
-use Rattle.borsh_values.proofs.Required.{only_empty_copies}
+use Rattle.borsh_values.specs.Words.{name_at, shape_at, parts_in, IsPlaceOf, Named, Rest, Copies, Parts, Step, Mark, lookup, nat_cmp, is_eq, definitions_in, shape_of, BTreeMap, btree_map_len, get_by_text, Definition, Shape, references, IsIn, first, later, Member, of_primitive, of_sequence, of_parts, of_choice, Reached, Reaches, IsOnCycle, stays, onward, Frame, distinct_none, distinct_more, Empty, MarkOpen as Open, Reason, definitions_of, map_of, names_of, root_of, Plan, Taken, Passed}
+use Rattle.borsh_values.specs.Cursor.{HasPlaces, opens, parts_of_all, steps_of, Begun, On, Top, Link, Chain, Walk, Going, remaining, step_count, GoesOn, Fits, past_copies, mark_at, pending, required_by, OnlyEmpty, AllOnlyEmpty, Takes, NoneBegins, OpensAs, KnownAs}
+use Rattle.borsh_plan.proofs.Places.{drop_end, drop_next, name_is, name_there}
+use Rattle.borsh_walks.proofs.Names.{shape_some, name_cases, also_defined, among_one, among_append, among_right, names_within}
+use Rattle.std.specs.Cmp.Lexicographic.{slice_cmp}
+use Rattle.std.proofs.Math.Nat.{mul-le-mul_left}
+use Rattle.borsh_values.specs.Membership.{BeginsWith, LeadsTo}
+use Rattle.borsh_values.specs.Nodes.{Opens, Reads, reads_none}
+use Rattle.borsh_values.proofs.MemberLaws.{begun_start, begun_skip, begun_on, begun_denied, begun_first, reads_on, reads_member, reads_skip, leads_on, only_empty_copies, not_required}
+use Rattle.borsh_values.specs.Free.{AreFirst, IsFreeFront}
+use Rattle.borsh_plan.proofs.Laws.{back, defined_at, place, root_there, sound}
 
+-- ---- the parts and the marks at places
+-- ---- the next name
+pub parts_on : (ns : List Named) (at next k : ℕ) → at < length ns → IsPlaceOf ns at next (Some k) → GoesOn ns (Parts at next) (record { at = k; others = Parts at (next + 1) })
+parts_on ns at next k low h =
+    let refs = parts_in (shape_at ns at) in
+    let d : drop next refs ≡ name_at ns k ∷ drop (next + 1) refs = drop_next refs next h.1 in
+    let l = ap (λ z. length z) d in
+    record { within = h.0; fits = low; parts = d; moves = omega (arith, l); steps = omega (arith, l) }
+
+pub parts_end : (ns : List Named) (at next : ℕ) → IsPlaceOf ns at next None → remaining ns (Parts at next) ≡ []
+parts_end ns at next h = drop_end (parts_in (shape_at ns at)) next h
+
+pub fits_parts : (ns : List Named) (r : Rest) (at i : ℕ) → r ≡ Parts at i → Fits ns r → at < length ns
+fits_parts ns r at i e f = subst (λ s. Fits ns s) e f
+
+pub fits_copies : (ns : List Named) (r : Rest) (at k : ℕ) → r ≡ Copies at k → Fits ns r → at < length ns
+fits_copies ns r at k e f = subst (λ s. Fits ns s) e f
+
+-- all copies of it are passed
+abbrev pub Passes : List Named → Rest → Step → Rest → Type 0
+Passes ns r s t = (k : ℕ) × (remaining ns r ≡ replicate (suc k) (name_at ns s.at) ++ remaining ns t) × (step_count ns t < step_count ns r) × Fits ns t
+
+pub passes : (ns : List Named) (r : Rest) (s : Step) → GoesOn ns r s → Passes ns r s (past_copies r s)
+passes ns (Copies at zero) s g = (let p = g.parts in cc)
+passes ns (Copies at (suc k)) s g =
+    let p = g.parts in
+    let q : name_at ns at ≡ name_at ns s.at = cc in
+    (k, ap (λ x. replicate (suc k) x) q ∙ sym (end (replicate (suc k) (name_at ns s.at))), omega arith, g.within)
+  where
+    end : (xs : List (List ℕ)) → xs ++ [] ≡ xs
+    end [] = refl
+    end (x ∷ xs) = ap (λ l. x ∷ l) (end xs)
+passes ns (Parts at i) s g = (0, g.parts, g.moves, g.fits)
+
+-- ---- marks
+module _ (ns : List Named) (h : HasPlaces ns) where
+  -- a mark is set at the place of a name: it is that of the name, and no other changes
+  pub marked : (ms : List (Option Mark)) (i : ℕ) (k : Mark) → length ms ≡ length ns → i < length ns → Updated (λ x. mark_at ms (h.place x)) (λ x. mark_at (set ms i (Some k)) (h.place x)) (name_at ns i) k
+  marked ms i k long low =
+      let b = h.back (name_at ns i) i (name_there ns i low) in
+      record {
+        here = ap (λ o. mark_at (set ms i (Some k)) o) b ∙ get_or-set_same ms i (Some k) None (omega (arith, long, low));
+        others = λ x f. other x f (h.place x) refl;
+      }
+    where
+      other : (x : List ℕ) → (x ≡ name_at ns i → ⊥) → (o : Option ℕ) → h.place x ≡ o → mark_at (set ms i (Some k)) o ≡ mark_at ms o
+      other x f None e = refl
+      other x f (Some j) e =
+          let n = name_is ns j x (h.sound x j e) in
+          let apart : j ≡ i → ⊥ = λ q. f (sym n.1 ∙ ap (λ z. name_at ns z) q) in
+          get_or-set_other ms i j (Some k) None apart
+
+  pub mark_here : (ms : List (Option Mark)) (i : ℕ) → i < length ns → mark_at ms (h.place (name_at ns i)) ≡ get_or ms i None
+  mark_here ms i low = ap (λ o. mark_at ms o) (h.back (name_at ns i) i (name_there ns i low))
+
+-- ---- no marks
+none_at : (n i : ℕ) → ◌≡◌ {A = Option Mark} (get_or (replicate n None) i None) None
+none_at zero i = refl
+none_at (suc n) zero = refl
+none_at (suc n) (suc i) = none_at n i
+
+pub none_marked : (n : ℕ) (o : Option ℕ) → mark_at (replicate n None) o ≡ None
+none_marked n None = refl
+none_marked n (Some i) = none_at n i
+
+-- ---- how far the loop has to go
+one_of : (w : ℕ) (e d : Definition) (others : Option Definition) (b : Bool) → cond b (Some e) others ≡ Some d → (others ≡ Some d → length (references (shape_of d)) ≤ w) → length (references (shape_of d)) ≤ length (references (shape_of e)) + w
+one_of w e d others true h f = let q : e ≡ d = cc in let r = ap (λ c. length (references (shape_of c))) q in omega (arith, r)
+one_of w e d others false h f = let r = f h in omega (arith, r)
+
+pub parts_found : {A : Type 0} (x : List ℕ) (es : List (String A × Definition)) (d : Definition) → lookup (λ k. is_eq (slice_cmp nat_cmp x (string_bytes k))) es ≡ Some d → length (references (shape_of d)) ≤ parts_of_all es
+parts_found x [] d h = cc
+parts_found x (e ∷ es) d h = one_of (parts_of_all es) e.1 d (lookup (λ k. is_eq (slice_cmp nat_cmp x (string_bytes k))) es) (is_eq (slice_cmp nat_cmp x (string_bytes e.0))) h (λ k. parts_found x es d k)
+
+abbrev pub left : {A : Type 0} → BTreeMap (String A) Definition → List Named → ℕ → ℕ → List Frame → ℕ
+left m ns len idle fs = (3 + parts_of_all m.entries) * opens (btree_map_len m) len idle + steps_of ns fs
+
+less : (w a b s t : ℕ) → a < b → s < w + t → w * a + s < w * b + t
+less w a b s t h k = let g : suc a ≤ b = omega arith in let p = mul-le-mul_left w g in omega (arith, p, k)
+
+opens_still : (D len idle : ℕ) → suc idle ≤ D → opens D len (suc idle) < opens D len idle
+opens_still D len idle h = omega arith
+
+opens_on : (D a b idle : ℕ) → a < b → opens D a 0 < opens D b idle
+opens_on D a b idle h = let g : suc a ≤ b = omega arith in let p = mul-le-mul_left (suc D) g in omega (arith, p)
+
+-- the last frame goes on
+pub left_moved : {A : Type 0} (m : BTreeMap (String A) Definition) (ns : List Named) (len idle : ℕ) (f g : Frame) (fs : List Frame) → step_count ns g.rest < step_count ns f.rest → left m ns len idle (g ∷ fs) < left m ns len idle (f ∷ fs)
+left_moved m ns len idle f g fs h = omega (arith, h)
+
+-- a new one comes, without a byte
+pub left_still : {A : Type 0} (m : BTreeMap (String A) Definition) (ns : List Named) (len idle : ℕ) (f h g : Frame) (fs : List Frame) → suc idle ≤ btree_map_len m → step_count ns h.rest ≤ step_count ns f.rest → step_count ns g.rest ≤ 2 + parts_of_all m.entries → left m ns len (suc idle) (g ∷ h ∷ fs) < left m ns len idle (f ∷ fs)
+left_still m ns len idle f h g fs room low small = less (3 + parts_of_all m.entries) _ _ _ _ (opens_still (btree_map_len m) len idle room) (omega (arith, low, small))
+
+-- or with some
+pub left_on : {A : Type 0} (m : BTreeMap (String A) Definition) (ns : List Named) (a b idle : ℕ) (f h g : Frame) (fs : List Frame) → a < b → step_count ns h.rest ≤ step_count ns f.rest → step_count ns g.rest ≤ 2 + parts_of_all m.entries → left m ns a 0 (g ∷ h ∷ fs) < left m ns b idle (f ∷ fs)
+left_on m ns a b idle f h g fs room low small = less (3 + parts_of_all m.entries) _ _ _ _ (opens_on (btree_map_len m) a b idle room) (omega (arith, low, small))
+
+-- or one that has no parts was read with some bytes
+pub left_past : {A : Type 0} (m : BTreeMap (String A) Definition) (ns : List Named) (a b idle : ℕ) (f h : Frame) (fs : List Frame) → a < b → step_count ns h.rest ≤ step_count ns f.rest → left m ns a 0 (h ∷ fs) < left m ns b idle (f ∷ fs)
+left_past m ns a b idle f h fs room low = less (3 + parts_of_all m.entries) _ _ _ _ (opens_on (btree_map_len m) a b idle room) (omega (arith, low))
+
+-- a frame has a step left
+pub some_step : (ns : List Named) (r : Rest) → 0 < step_count ns r
+some_step ns (Copies at zero) = omega arith
+some_step ns (Copies at (suc k)) = omega arith
+some_step ns (Parts at n) = omega arith
+
+-- the parts of a definition are not more than those of all
+pub parts_within : {A : Type 0} (m : BTreeMap (String A) Definition) (x : List ℕ) (s : Shape) → definitions_in m x ≡ Some s → length (references s) ≤ parts_of_all m.entries
+parts_within m x s e =
+    let d = shape_some (get_by_text m x) s e in
+    let w = parts_found x m.entries d.0 d.1 in
+    let q : shape_of d.0 ≡ s = (let f = ap (λ o. option_map shape_of o) (sym d.1) ∙ e in cc) in
+    let r = ap (λ s. length (references s)) q in
+    omega (arith, w, r)
+
+-- ---- what the loop keeps, and each of its steps
 abbrev pub with_rest : Frame → Rest → Frame
 with_rest f r = record { at = f.at; start = f.start; rest = r }
 
@@ -241,3 +355,172 @@ module _ (C : List ℕ → Option Shape) (ns : List Named) where
             let l = on_leads o fs g c.1 h in
             let n = c.0.needs l.0 in
             (c.0.same l.0, onward n.0 l.1 n.1 n.2, inr (leads_on C n.0 l.2 n.1 n.5 n.6))
+
+-- ---- names are passed at once
+module _ (C : List ℕ → Option Shape) (ns : List Named) where
+  -- the next names are passed with bytes that are their only members
+  pub walk_free : {root done rest : List ℕ} {T : List ℕ → Option Mark} {fs : List Frame} {f : Frame} {L : List (List ℕ)} (qs : List (List ℕ)) (n : ℕ) (r : Rest) → Walk C ns root done T fs f rest L → AreFirst C qs rest n → remaining ns f.rest ≡ qs ++ remaining ns r → 0 < n → Walk C ns root (done ++ take n rest) T fs (with_rest f r) (drop n rest) []
+  walk_free {root} {done} {rest} {T} {fs} {f} {L} qs n r w free e more =
+      let same : pending ns (f ∷ fs) ≡ qs ++ (remaining ns r ++ pending ns fs) = ap (λ l. l ++ pending ns fs) e ∙ append_assoc qs (remaining ns r) (pending ns fs) in
+      let less : length (drop n rest) < length rest = (let k = length-drop n rest in omega (arith, k, free.0, more)) in
+      record {
+        begun = begun_first C (take n rest) qs (remaining ns r ++ pending ns fs) free.1 (subst (λ l. Begun C root done l) same w.begun);
+        reached = λ x a. w.reached x (subst (λ l. IsIn x l) (sym same) (among_right qs (remaining ns r ++ pending ns fs) a));
+        empty = w.empty;
+        here = λ x h. let k = w.past x (length (drop n rest)) h in absurd (omega (arith, k, less));
+        past = λ x k h. let i = w.past x k h in omega (arith, i, less);
+        top = start_top C ns (length (drop n rest)) (with_rest f r) (let k = w.top.low in omega (arith, k, less));
+        chain = far_chain C ns fs (name_at ns f.at) f.start less w.chain;
+        distinct = distinct_none;
+        defined = λ x a. elim a [ ];
+        marked = λ x a. elim a [ ];
+      }
+
+-- ---- the walk over the bytes, by the places of a plan
+module _ (l : Plan) where
+  pub going_start : (bytes : List ℕ) (ms : List (Option Mark)) → ms ≡ replicate (length (names_of l)) None → Going l [] ms [] (record { at = 0; start = length bytes + 1; rest = Copies 0 1 }) bytes 0
+  going_start bytes ms z =
+      let r = root_there l in
+      let f : Frame = record { at = 0; start = length bytes + 1; rest = Copies 0 1 } in
+      record {
+        places = record { place = place l; sound = sound l; back = back l };
+        names = [];
+        state = walk_start (definitions_of l) (names_of l) f (λ x. ap (λ k. mark_at k (place l x)) z ∙ none_marked (length (names_of l)) (place l x)) (omega arith) (ap (λ x. x ∷ []) r.1);
+        count = refl;
+        long = ap (λ k. length k) z ∙ length-replicate (length (names_of l)) None;
+        fits = (r.0, r.0, tt);
+      }
+
+  module _ {done rest : List ℕ} {ms : List (Option Mark)} {fs : List Frame} {f : Frame} {idle : ℕ} (w : Going l done ms fs f rest idle) (s : Step) (g : GoesOn (names_of l) f.rest s) where
+    mark_is : mark_at ms (w.places.place (name_at (names_of l) s.at)) ≡ get_or ms s.at None
+    mark_is = mark_here (names_of l) w.places ms s.at g.within
+
+    pub next_names : pending (names_of l) (f ∷ fs) ≡ name_at (names_of l) s.at ∷ (remaining (names_of l) s.others ++ pending (names_of l) fs)
+    next_names = ap (λ ps. ps ++ pending (names_of l) fs) g.parts
+
+    pub going_skip : OnlyEmpty (definitions_of l) (name_at (names_of l) s.at) → Going l done ms fs (with_rest f (past_copies f.rest s)) rest idle
+    going_skip h =
+        let p = passes (names_of l) f.rest s g in
+        record {
+          places = w.places;
+          names = w.names;
+          state = walk_skip (definitions_of l) (names_of l) p.0 (past_copies f.rest s) w.state h p.1;
+          count = w.count;
+          long = w.long;
+          fits = (w.fits.0, p.3, w.fits.2);
+        }
+
+    pub known_empty : get_or ms s.at None ≡ Some Empty → OnlyEmpty (definitions_of l) (name_at (names_of l) s.at)
+    known_empty k = w.state.empty (name_at (names_of l) s.at) (mark_is ∙ k)
+
+    pub less_skip : left (map_of l) (names_of l) (length rest) idle (with_rest f (past_copies f.rest s) ∷ fs) < left (map_of l) (names_of l) (length rest) idle (f ∷ fs)
+    less_skip = let p = passes (names_of l) f.rest s g in left_moved (map_of l) (names_of l) (length rest) idle f (with_rest f (past_copies f.rest s)) fs p.2
+
+    pub going_reached : Reached (definitions_of l) (root_of l) (name_at (names_of l) s.at)
+    going_reached = part_reached (definitions_of l) (names_of l) w.state s.others g.parts
+
+    pub going_back : {r : Reason} → get_or ms s.at None ≡ Some (Open (length rest)) → NoneBegins (definitions_of l) r (name_at (names_of l) s.at) rest
+    going_back k more f m = not_required (definitions_of l) m.2 (leads_back (definitions_of l) (names_of l) w.state s.others g.parts (mark_is ∙ k)).0
+
+    pub going_leads : get_or ms s.at None ≡ Some (Open (length rest)) → LeadsTo (definitions_of l) (name_at (names_of l) s.at) (name_at (names_of l) s.at)
+    going_leads k = (leads_back (definitions_of l) (names_of l) w.state s.others g.parts (mark_is ∙ k)).1
+
+    -- the name is the next to be read
+    pub going_next : Reads (definitions_of l) ((root_of l) ∷ []) done (name_at (names_of l) s.at ∷ (remaining (names_of l) s.others ++ pending (names_of l) fs))
+    going_next = subst (λ ps. Reads (definitions_of l) ((root_of l) ∷ []) done ps) next_names w.state.begun.reads
+
+    pub going_denied : (r : Reason) → NoneBegins (definitions_of l) r (name_at (names_of l) s.at) rest → NoneBegins (definitions_of l) r (root_of l) (done ++ rest)
+    going_denied r deny more f m = denied (definitions_of l) (names_of l) w.state s.others g.parts (deny more f) (subst (λ b. BeginsWith (definitions_of l) (root_of l) b) (append_assoc done rest more) m)
+
+    pub going_missing : {r : Reason} → shape_at (names_of l) s.at ≡ None → NoneBegins (definitions_of l) r (name_at (names_of l) s.at) rest
+    going_missing e more f m = undefined_none (definitions_of l) (names_of l) (defined_at l s.at g.within ∙ e) m.2
+
+    module _ (d : Shape) (c : shape_at (names_of l) s.at ≡ Some d) (n : ℕ) (r : Rest) (o : OpensAs (definitions_of l) (names_of l) d rest (Taken n r)) where
+      pub name_defined : (definitions_of l) (name_at (names_of l) s.at) ≡ Some d
+      name_defined = defined_at l s.at g.within ∙ c
+
+      still : n ≡ 0 → KnownAs (get_or ms s.at None) (length rest) None → Walk (definitions_of l) (names_of l) (root_of l) done (λ x. mark_at (set ms s.at (Some (Open (length rest)))) (w.places.place x)) (with_rest f s.others ∷ fs) (record { at = s.at; start = length rest; rest = r }) rest (name_at (names_of l) s.at ∷ w.names)
+      still z k = walk_still (definitions_of l) (names_of l) w.state s.others g.parts (record { at = s.at; start = length rest; rest = r }) z name_defined o.0 (λ e. k.0 (sym mark_is ∙ e)) (λ e. k.1 (sym mark_is ∙ e)) (marked (names_of l) w.places ms s.at (Open (length rest)) w.long g.within) refl refl
+
+      pub room : n ≡ 0 → KnownAs (get_or ms s.at None) (length rest) None → suc idle ≤ btree_map_len (map_of l)
+      room z k = let t = still z k in let few = names_within (map_of l) (name_at (names_of l) s.at ∷ w.names) t.distinct t.defined in let c = w.count in omega (arith, few, c)
+
+      pub going_new : n ≡ 0 → KnownAs (get_or ms s.at None) (length rest) None → Going l done (set ms s.at (Some (Open (length rest)))) (with_rest f s.others ∷ fs) (record { at = s.at; start = length rest; rest = r }) rest (idle + 1)
+      going_new z k = record {
+        places = w.places;
+        names = name_at (names_of l) s.at ∷ w.names;
+        state = still z k;
+        count = ap suc w.count ∙ sym (add-one idle);
+        long = length-set ms s.at (Some (Open (length rest))) ∙ w.long;
+        fits = (g.within, o.2, (w.fits.0, g.fits, w.fits.2));
+      }
+
+      pub going_on : 0 < n → Going l (done ++ take n rest) ms (with_rest f s.others ∷ fs) (record { at = s.at; start = length rest; rest = r }) (drop n rest) 0
+      going_on more = record {
+        places = w.places;
+        names = [];
+        state = walk_on (definitions_of l) (names_of l) w.state s.others g.parts (record { at = s.at; start = length rest; rest = r }) more name_defined o.0 refl refl;
+        count = refl;
+        long = w.long;
+        fits = (g.within, o.2, (w.fits.0, g.fits, w.fits.2));
+      }
+
+      fewer : 0 < n → length (drop n rest) < length rest
+      fewer more = let t = o.0 in let i = t.within in let d = length-drop n rest in omega (arith, i, d, more)
+
+      -- a name without parts
+      pub going_past : 0 < n → remaining (names_of l) r ≡ [] → Going l (done ++ take n rest) ms fs (with_rest f s.others) (drop n rest) 0
+      unfolding going_on
+      going_past more none =
+          let v = going_on more in
+          record {
+            places = w.places;
+            names = [];
+            state = walk_up (definitions_of l) (names_of l) v.state none (λ q. (let k = fewer more in absurd (omega (arith, q, k))));
+            count = refl;
+            long = w.long;
+            fits = v.fits.2;
+          }
+
+      small_frame : step_count (names_of l) r ≤ 2 + parts_of_all (map_of l).entries
+      small_frame = let k = parts_within (map_of l) (name_at (names_of l) s.at) d name_defined in let i = o.1 in omega (arith, k, i)
+
+      pub less_new : n ≡ 0 → KnownAs (get_or ms s.at None) (length rest) None → left (map_of l) (names_of l) (length rest) (idle + 1) (record { at = s.at; start = length rest; rest = r } ∷ with_rest f s.others ∷ fs) < left (map_of l) (names_of l) (length rest) idle (f ∷ fs)
+      less_new z k = subst (λ i. left (map_of l) (names_of l) (length rest) i (record { at = s.at; start = length rest; rest = r } ∷ with_rest f s.others ∷ fs) < left (map_of l) (names_of l) (length rest) idle (f ∷ fs)) (sym (add-one idle)) (left_still (map_of l) (names_of l) (length rest) idle f (with_rest f s.others) (record { at = s.at; start = length rest; rest = r }) fs (room z k) g.steps small_frame)
+
+      pub less_on : 0 < n → left (map_of l) (names_of l) (length (drop n rest)) 0 (record { at = s.at; start = length rest; rest = r } ∷ with_rest f s.others ∷ fs) < left (map_of l) (names_of l) (length rest) idle (f ∷ fs)
+      less_on more = left_on (map_of l) (names_of l) (length (drop n rest)) (length rest) idle f (with_rest f s.others) (record { at = s.at; start = length rest; rest = r }) fs (fewer more) g.steps small_frame
+
+      pub less_past : 0 < n → left (map_of l) (names_of l) (length (drop n rest)) 0 (with_rest f s.others ∷ fs) < left (map_of l) (names_of l) (length rest) idle (f ∷ fs)
+      less_past more = left_past (map_of l) (names_of l) (length (drop n rest)) (length rest) idle f (with_rest f s.others) fs (fewer more) g.steps
+
+  -- names are passed
+  module _ {done rest : List ℕ} {ms : List (Option Mark)} {fs : List Frame} {f : Frame} {idle : ℕ} (w : Going l done ms fs f rest idle) (p : Passed) (g : IsFreeFront (definitions_of l) (names_of l) f.rest rest p) where
+    pub going_pass : Going l (done ++ take p.taken rest) ms fs (with_rest f p.rest) (drop p.taken rest) 0
+    going_pass = record {
+      places = w.places;
+      names = [];
+      state = walk_free (definitions_of l) (names_of l) g.names p.taken p.rest w.state g.first g.parts g.some;
+      count = refl;
+      long = w.long;
+      fits = (w.fits.0, g.fits, w.fits.2);
+    }
+
+    pub fewer_pass : length (drop p.taken rest) < length rest
+    fewer_pass = let d = length-drop p.taken rest in let a = g.some in let b = g.first.0 in omega (arith, d, a, b)
+
+    pub less_pass : left (map_of l) (names_of l) (length (drop p.taken rest)) 0 (with_rest f p.rest ∷ fs) < left (map_of l) (names_of l) (length rest) idle (f ∷ fs)
+    less_pass = left_past (map_of l) (names_of l) (length (drop p.taken rest)) (length rest) idle f (with_rest f p.rest) fs fewer_pass g.steps
+
+  pub going_up : {done rest : List ℕ} {ms : List (Option Mark)} {fs : List Frame} {f h : Frame} {idle : ℕ} → Going l done ms (h ∷ fs) f rest idle → remaining (names_of l) f.rest ≡ [] → (f.start ≡ length rest → ⊥) → Going l done ms fs h rest idle
+  going_up w e far = record { places = w.places; names = w.names; state = walk_up (definitions_of l) (names_of l) w.state e far; count = w.count; long = w.long; fits = w.fits.2 }
+
+  pub going_up_empty : {done rest : List ℕ} {ms : List (Option Mark)} {fs : List Frame} {f h : Frame} {idle : ℕ} → Going l done ms (h ∷ fs) f rest idle → remaining (names_of l) f.rest ≡ [] → f.start ≡ length rest → Going l done (set ms f.at (Some Empty)) fs h rest idle
+  going_up_empty {ms = ms} {f = f} w e at = record {
+    places = w.places;
+    names = w.names;
+    state = walk_up_empty (definitions_of l) (names_of l) w.state e at (marked (names_of l) w.places ms f.at Empty w.long w.fits.0);
+    count = w.count;
+    long = length-set ms f.at (Some Empty) ∙ w.long;
+    fits = w.fits.2;
+  }

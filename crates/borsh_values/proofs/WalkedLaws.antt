@@ -2,22 +2,14 @@
 use Rattle.std.proofs.Common.{◌≡◌, ℕ, suc, zero, ◌≤◌, ◌<◌, ◌^◌, inl, inr, List, [], ◌∷◌, ◌++◌, drop, take, length, length-append, Some, None, refl, sym, ◌∙◌, ap, subst, arith, append_assoc, append-nil}
 use Rattle.std.specs.Prelude.{Option, ℤ, pos, slice_get}
 use Rattle.std.proofs.Math.Seq.{take-append_seam, drop-append_seam}
-use Rattle.borsh_walks.specs.Container.{Shape, sequence, product, choice, tag, Member, Members, IsZeroSize}
+use Rattle.borsh_values.specs.Words.{Shape, sequence, product, choice, tag, Member, Members, IsZeroSize, Opened, OpenedUndecided as Undecided, Refused, Taken}
 use Rattle.borsh_walks.proofs.Laws.{length-tag, zero_member}
-use Rattle.borsh_values.specs.declared.frames.Opened.{Opened}
-use Rattle.borsh_values.specs.declared.frames.Opened.TheVariants.{Undecided, Refused, Taken}
 use Rattle.borsh_values.specs.Nodes.{packed_size, Opens, OpensElements, IsCountOf, IsVariantOf, Reads, reads_none}
-use Rattle.borsh_values.specs.Numbers.{value_of}
-use Rattle.borsh_values.specs.Steps.{OpensOnce}
-use Rattle.borsh_values.specs.Tags.{IsVariantIndex}
+use Rattle.borsh_values.specs.Tags.{value_of, IsVariantIndex}
+use Rattle.borsh_values.specs.Cursor.{OpensOnce}
 use Rattle.borsh_values.specs.Walks.{IsReadTo, IsCounted, CountsIfTaken}
-use Rattle.borsh_values.proofs.FoundLaws.{listed_at}
-use Rattle.borsh_values.proofs.FrontLaws.{member_opens}
-use Rattle.borsh_values.proofs.KeyLaws.{value_low}
-use Rattle.borsh_values.proofs.Packed.{no_more}
-use Rattle.borsh_values.proofs.PrefixFree.{member_as}
-use Rattle.borsh_values.proofs.ReadsLaws.{reads_on, reads_one, reads_skip}
-use Rattle.borsh_values.proofs.Required.{members_head, pass_one, whole, joined}
+use Rattle.borsh_values.proofs.TagLaws.{listed_at, value_low}
+use Rattle.borsh_values.proofs.MemberLaws.{member_opens, no_more, member_as, reads_on, reads_one, reads_skip, members_head, pass_one, whole, joined}
 
 -- the first bytes behind which others are
 first_of : (w : ℕ) (xs ys own : List ℕ) → own ≡ xs ++ ys → length xs ≡ w → (take w own ≡ xs) × (drop w own ≡ ys)

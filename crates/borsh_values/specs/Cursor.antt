@@ -1,33 +1,120 @@
 -- Where a walk over the bytes of a value is, and what its steps find.
-use Rattle.std.specs.Prelude.{◌≡◌, ◌⊎◌, ⊤, ℕ, suc, ◌+◌, ◌-◌, ◌*◌, ◌<◌, ◌≤◌, List, [], ◌∷◌, ◌++◌, length, take, drop, replicate, reverse, Option, Some, None, String}
-use Rattle.std.specs.Borrow.{Bor}
-use Rattle.std.specs.BTreeMap.{btree_map_len, get_by_text}
-use Rattle.borsh_walks.specs.declared.definition.Definition.{Definition}
-use Rattle.borsh_walks.specs.Container.{Shape, IsIn, IsDefined, IsZeroSize, Member, Members, Reached, references}
-use Rattle.borsh_walks.specs.Definitions.{shape_of}
-use Rattle.borsh_walks.specs.SizeAnswer.{Distinct}
-use Rattle.borsh_plan.specs.declared.plan.Plan.{Plan}
-use Rattle.borsh_plan.specs.declared.named.Named.{Named}
-use Rattle.borsh_plan.specs.Names.{name_at, name_of, shape_at}
-use Rattle.borsh_plan.specs.Plan.{definitions_of, map_of, names_of, root_of}
-use Rattle.borsh_values.specs.Faults.{IsRefused, LeadsTo}
-use Rattle.borsh_values.specs.Fronts.{StopsAt}
-use Rattle.borsh_values.specs.Membership.{IsUndecided}
+use Rattle.std.specs.Prelude.{◌≡◌, ℕ, Bool, true, false, suc, zero, ◌+◌, ◌*◌, ◌≤◌, ◌<◌, ◌^◌, List, [], ◌∷◌, ◌++◌, length, take, drop, replicate, ℤ, Option, Some, None, get_or, slice_get, ⊤, ◌⊎◌, ◌-◌, reverse, String}
+use Rattle.borsh_values.specs.Words.{Shape, primitive, sequence, product, choice, IsIn, IsListedVariant, tag, Member, references, IsZeroSize, IsDefined, Members, Reached, KeepsWidths, IsWidth, Reason, ReasonTooShort as TooShort, BytesLeft, Count, Tag, MissingDefinition, Recursive, name_at, shape_at, parts_in, name_of, Named, Step, Rest, Copies, Parts, Frame, Opened, OpenedUndecided as Unopened, Refused, Taken, Mark, Empty, MarkOpen as IsOpen, Bor, btree_map_len, get_by_text, Definition, shape_of, Distinct, Plan, definitions_of, map_of, names_of, root_of, Front, Value, FrontAmbiguous as Ambiguous, Cursor, Event, EventOpen as Open, Pass, Close, End, EventFault as Fault, EventUndecided as Undecided}
+use Rattle.borsh_values.specs.Unambiguous.{DistinctTags, UnambiguousShape}
 use Rattle.borsh_values.specs.Nodes.{Opens, Reads}
-use Rattle.borsh_values.specs.Steps.{AllFit, NoneBegins, OpensAs, mark_at, pending, remaining, required_by, step_count, OnlyEmpty, AllOnlyEmpty}
-use Rattle.borsh_values.specs.TagTables.{AreTagTables}
-use Rattle.borsh_values.specs.declared.faults.Reason.{Reason}
-use Rattle.borsh_values.specs.declared.faults.Reason.TheVariants.{BytesLeft, TooShort, Count, Tag, MissingDefinition, Recursive}
-use Rattle.borsh_values.specs.declared.frames.Frame.{Frame}
-use Rattle.borsh_values.specs.declared.frames.Rest.{Rest}
-use Rattle.borsh_values.specs.declared.frames.Mark.{Mark}
-use Rattle.borsh_values.specs.declared.frames.Mark.TheVariants.{Empty, Open as IsOpen}
-use Rattle.borsh_values.specs.declared.frames.Opened.TheVariants.{Taken}
-use Rattle.borsh_values.specs.declared.fronts.Front.{Front}
-use Rattle.borsh_values.specs.declared.fronts.Front.TheVariants.{Value, Ambiguous}
-use Rattle.borsh_values.specs.declared.cursor.Cursor.{Cursor}
-use Rattle.borsh_values.specs.declared.cursor.Event.{Event}
-use Rattle.borsh_values.specs.declared.cursor.Event.TheVariants.{Open, Pass, Close, End, Fault, Undecided}
+use Rattle.borsh_values.specs.Membership.{BeginsWith, Refuses, IsRefused, LeadsTo, StopsAt, IsUndecided}
+use Rattle.borsh_values.specs.Tags.{AreTagTables}
+
+-- the names that are still to be read, of those of a plan
+abbrev pub remaining : List Named → Rest → List (List ℕ)
+remaining ns (Copies at k) = replicate k (name_at ns at)
+remaining ns (Parts at i) = drop i (parts_in (shape_at ns at))
+
+-- at most how many steps of the loop are left at the frame without opening a name
+abbrev pub step_count : List Named → Rest → ℕ
+step_count ns (Copies at zero) = 1
+step_count ns (Copies at (suc k)) = 2
+step_count ns (Parts at i) = suc (length (drop i (parts_in (shape_at ns at))))
+
+-- after one part of a definition fewer steps are left
+abbrev pub StepsOn : List Named → Rest → Rest → Type 0
+StepsOn ns (Copies at k) r = ⊤
+StepsOn ns (Parts at i) r = step_count ns r < step_count ns (Parts at i)
+
+-- the place is one of the plan
+abbrev pub Fits : List Named → Rest → Type 0
+Fits ns (Copies at k) = at < length ns
+Fits ns (Parts at i) = at < length ns
+
+-- the next name, and what follows it
+pub record GoesOn (ns : List Named) (r : Rest) (s : Step) : Type 0 where
+  pub within : s.at < length ns
+  pub fits : Fits ns s.others
+  pub parts : remaining ns r ≡ name_at ns s.at ∷ remaining ns s.others
+  pub moves : StepsOn ns r s.others
+  pub steps : step_count ns s.others ≤ step_count ns r
+
+-- what follows all copies of the next name
+abbrev pub past_copies : Rest → Step → Rest
+past_copies (Copies at k) s = Copies s.at 0
+past_copies (Parts at i) s = s.others
+
+-- the names that are still to be read, those of the last frame first
+abbrev pub pending : List Named → List Frame → List (List ℕ)
+pending ns [] = []
+pending ns (f ∷ fs) = remaining ns f.rest ++ pending ns fs
+
+-- each frame has places of the plan
+abbrev pub AllFit : List Named → List Frame → Type 0
+AllFit ns [] = ⊤
+AllFit ns (f ∷ fs) = (f.at < length ns) × Fits ns f.rest × AllFit ns fs
+
+-- the mark at a place, if there is one
+abbrev pub mark_at : List (Option Mark) → Option ℕ → Option Mark
+mark_at ms None = None
+mark_at ms (Some i) = get_or ms i None
+
+-- names without which a definition that takes no byte has no member
+abbrev pub required_by : Shape → List (List ℕ)
+required_by (sequence zero (suc lo) hi e) = e ∷ []
+required_by (product ps) = ps
+required_by (choice zero (v ∷ [])) = v.1 ∷ []
+required_by d = []
+
+-- the empty list is a member of the name, and none else is, since the name is of zero size
+abbrev pub OnlyEmpty : (List ℕ → Option Shape) → List ℕ → Type 0
+OnlyEmpty C x = Member C x [] × IsZeroSize C x
+
+abbrev pub AllOnlyEmpty : (List ℕ → Option Shape) → List (List ℕ) → Type 0
+AllOnlyEmpty C [] = ⊤
+AllOnlyEmpty C (p ∷ ps) = OnlyEmpty C p × AllOnlyEmpty C ps
+
+-- bytes that begin with own begin with no other own bytes of the definition, and with no other parts
+abbrev pub OpensOnce : (List ℕ → Option Shape) → Shape → List ℕ → List (List ℕ) → Type 0
+OpensOnce C d own ns = (b : List ℕ) (ms : List (List ℕ)) (r s : List ℕ) → Opens C d b ms → b ++ r ≡ own ++ s → (b ≡ own) × (r ≡ s) × (ms ≡ ns)
+
+-- no member of the name begins with the bytes, nor with these and more, unless the reason is that they are too few
+abbrev pub NoneBegins : (List ℕ → Option Shape) → Reason → List ℕ → List ℕ → Type 0
+NoneBegins C r x bytes = (more : List ℕ) → (r ≡ TooShort → more ≡ []) → BeginsWith C x (bytes ++ more) → ⊥
+
+-- a name with the definition d is read from bytes as n bytes and then the names ns
+pub record Takes (C : List ℕ → Option Shape) (d : Shape) (bytes : List ℕ) (n : ℕ) (ns : List (List ℕ)) : Type 0 where
+  -- there are n bytes
+  pub within : n ≤ length bytes
+  -- where no byte is taken and none is in ns, the name has the empty member alone
+  pub only_empty : n ≡ 0 → (x : List ℕ) → C x ≡ Some d → AllOnlyEmpty C ns → OnlyEmpty C x
+  -- the n bytes are those that the definition encodes before its parts ns, and no other bytes are
+  pub opens : Opens C d (take n bytes) ns
+  pub once : OpensOnce C d (take n bytes) ns
+  -- the names are written in the definition
+  pub mentioned : (p : List ℕ) → IsIn p ns → IsIn p (references d)
+  -- where no byte is taken, they are required
+  pub needs : n ≡ 0 → (p : List ℕ) → IsIn p ns → IsIn p (required_by d)
+
+-- what an opened definition takes from the bytes, or that no member begins here, or that the definition is ambiguous or breaks a rule of widths
+abbrev pub OpensAs : (List ℕ → Option Shape) → List Named → Shape → List ℕ → Opened → Type 0
+OpensAs C ns d bytes Unopened = UnambiguousShape d → KeepsWidths d → ⊥
+OpensAs C ns d bytes (Refused r) = ((x : List ℕ) → C x ≡ Some d → NoneBegins C r x bytes) × Refuses C r d bytes
+OpensAs C ns d bytes (Taken n r) = Takes C d bytes n (remaining ns r) × (step_count ns r ≤ 2 + length (references d)) × Fits ns r
+
+-- what k elements at a place of the plan take behind w bytes of all, where each has m bytes that are listed with their sequence
+abbrev pub TakesElements : List Named → ℕ → ℕ → ℕ → ℕ → ℕ → Opened → Type 0
+TakesElements ns m e k w all Unopened = ⊥
+TakesElements ns m e k w all (Refused r) = (r ≡ TooShort) × (all < w + k * m)
+TakesElements ns zero e k w all (Taken n r) = (n ≡ w) × (remaining ns r ≡ replicate k (name_at ns e)) × (step_count ns r ≤ 3) × Fits ns r
+TakesElements ns (suc m) e k w all (Taken n r) = (n ≡ w + k * suc m) × (n ≤ all) × (remaining ns r ≡ []) × (step_count ns r ≤ 3) × Fits ns r
+
+-- what the mark of a name says where n bytes are left
+abbrev pub KnownAs : Option Mark → ℕ → Option Mark → Type 0
+KnownAs o n None = (o ≡ Some Empty → ⊥) × (o ≡ Some (IsOpen n) → ⊥)
+KnownAs o n (Some Empty) = o ≡ Some Empty
+KnownAs o n (Some (IsOpen m)) = o ≡ Some (IsOpen n)
+
+-- whether a count of w bytes, up to hi, keeps the rules of widths; where it does, hi is below 256 ^ w
+abbrev pub FitsWidth : ℕ → ℕ → Bool → Type 0
+FitsWidth w hi true = (w ≤ 8) × (0 < w) × (hi < 256 ^ w)
+FitsWidth w hi false = IsWidth w hi → w ≡ 0
 
 -- the name is open since o bytes were left
 abbrev pub On : List Named → List ℕ → ℕ → List Frame → Type 0
@@ -183,12 +270,7 @@ Happens old new (Undecided at) = (new.left ≡ old.left) × IsUndecided (definit
 
 -- a value that begins isn't one of a name of zero size
 abbrev pub OpensFull : Cursor → Event → Type 0
-OpensFull c (Open at d own) = IsZeroSize (definitions_of c.plan.now) (name_in c at) → ⊥
-OpensFull c (Pass at) = ⊤
-OpensFull c Close = ⊤
-OpensFull c End = ⊤
-OpensFull c (Fault at r) = ⊤
-OpensFull c (Undecided at) = ⊤
+OpensFull c e = (at : ℕ) (d : Bor Definition) (own : Bor (List ℕ)) → e ≡ Open at d own → IsZeroSize (definitions_of c.plan.now) (name_in c at) → ⊥
 
 -- ---- the answer of an event, if it is the last
 abbrev pub IsLastFault : ℕ → ℕ → List ℕ → Reason → Option Front → Type 0
@@ -196,9 +278,7 @@ IsLastFault all left x r None = ⊥
 IsLastFault all left x r (Some a) = StopsAt all left x r a
 
 abbrev pub IsAnswerOf : Cursor → Event → Option Front → Type 0
-IsAnswerOf c (Open at d own) o = o ≡ None
-IsAnswerOf c (Pass at) o = o ≡ None
-IsAnswerOf c Close o = o ≡ None
 IsAnswerOf c End o = o ≡ Some (Value (length c.bytes.now - length c.left.now))
 IsAnswerOf c (Fault at r) o = IsLastFault (length c.bytes.now) (length c.left.now) (name_in c at) r o
 IsAnswerOf c (Undecided at) o = (x : Bor (List ℕ)) × (o ≡ Some (Ambiguous x)) × (x.now ≡ name_in c at)
+IsAnswerOf c e o = o ≡ None

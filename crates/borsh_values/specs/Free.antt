@@ -1,13 +1,8 @@
 -- Names whose members are all bytes of one length.
 use Rattle.std.specs.Prelude.{◌≡◌, ◌<◌, ◌≤◌, ◌-◌, ℕ, suc, List, [], ◌∷◌, ◌++◌, length, take, replicate, All, IfSome, Option}
-use Rattle.borsh_walks.specs.Container.{Shape, Member, Members}
-use Rattle.borsh_plan.specs.declared.named.Named.{Named}
-use Rattle.borsh_values.specs.declared.frames.Rest.{Rest}
-use Rattle.borsh_values.specs.declared.frames.Rest.TheVariants.{Copies}
-use Rattle.borsh_values.specs.declared.runs.Run.{Run}
+use Rattle.borsh_values.specs.Words.{Shape, Member, Members, Named, Rest, Copies, Run, Passed}
 use Rattle.borsh_values.specs.declared.runs.TagLength.{TagLength}
-use Rattle.borsh_values.specs.declared.free.Passed.{Passed}
-use Rattle.borsh_values.specs.Steps.{remaining, step_count, Fits}
+use Rattle.borsh_values.specs.Cursor.{remaining, step_count, Fits}
 
 module _ (C : List ℕ → Option Shape) where
   -- each n bytes are a member of the name, and it has no others

@@ -1,21 +1,20 @@
 -- Values one after another, as a reader gives them.
-use Rattle.std.specs.Prelude.{◌≡◌, ⊤, ℕ, ◌+◌, ◌*◌, ◌-◌, ◌^◌, ◌<◌, ◌≤◌, ◌⊎◌, Bool, true, false, List, [], ◌++◌, length, take, drop, min, Option, Result, Ok, Err, IfOk, OnOk, IfErr}
-use Rattle.std.specs.Io.KnownBytes.{Consumes, IsAtEnd}
-use Rattle.borsh_io.specs.Errors.{error_kind}
-use Rattle.borsh_io.specs.Stream.{ReaderState, CountedUp}
-use Rattle.borsh_io.specs.declared.error.Error.{Error}
-use Rattle.borsh_io.specs.declared.error.ErrorKind.TheVariants.{OutOfMemory as NoRoom}
-use Rattle.borsh_walks.specs.Container.{Shape, Member}
-use Rattle.borsh_values.specs.Faults.{BeginsWith}
-use Rattle.borsh_values.specs.Fronts.{HasNoFront}
-use Rattle.borsh_values.specs.Membership.{IsUndecided}
-use Rattle.borsh_values.specs.Next.{IsFirst}
-use Rattle.borsh_values.specs.declared.buffered.Buffered.{Buffered}
-use Rattle.std.specs.Borrow.{Bor}
-use Rattle.borsh_plan.specs.declared.plan.Plan.{Plan}
-use Rattle.borsh_values.specs.declared.records.Records.{Records}
-use Rattle.borsh_values.specs.declared.records.RecordError.{RecordError}
-use Rattle.borsh_values.specs.declared.records.RecordError.TheVariants.{NoMember, CutShort, TooLong, EmptyValue, Ambiguous, Reader, OutOfMemory}
+use Rattle.std.specs.Prelude.{◌≡◌, ℕ, ◌<◌, List, [], ◌∷◌, ◌++◌, length, Option, ⊤, ◌+◌, ◌*◌, ◌-◌, ◌^◌, ◌≤◌, ◌⊎◌, Bool, true, false, take, drop, min, Result, Ok, Err, IfOk, OnOk, IfErr}
+use Rattle.borsh_values.specs.Words.{Shape, Member, Consumes, IsAtEnd, error_kind, ReaderState, CountedUp, Error, ErrorKindOutOfMemory as NoRoom, Buffered, Bor, Plan, Records, RecordError, RecordErrorNoMember as NoMember, CutShort, TooLong, EmptyValue, RecordErrorAmbiguous as Ambiguous, Reader, RecordErrorOutOfMemory as OutOfMemory}
+use Rattle.borsh_values.specs.Membership.{BeginsWith, HasNoFront, IsUndecided}
+
+module _ (C : List ℕ → Option Shape) (root : List ℕ) where
+  -- the bytes are these values of the root, one after another
+  abbrev pub AreValues : List (List ℕ) → List ℕ → Type 0
+  AreValues [] bytes = bytes ≡ []
+  AreValues (v ∷ vs) bytes = (left : List ℕ) × Member C root v × (bytes ≡ v ++ left) × AreValues vs left
+
+  -- the bytes begin with the value v, and others are left: whatever values they are, v is the first
+  pub record IsFirst (v bytes left : List ℕ) : Type 0 where
+    pub member : Member C root v
+    pub some : 0 < length v
+    pub split : bytes ≡ v ++ left
+    pub only : (vs : List (List ℕ)) → AreValues vs bytes → (others : List (List ℕ)) × (vs ≡ v ∷ others) × AreValues others left
 
 -- ---- a reader, and bytes that are held
 
@@ -105,13 +104,10 @@ pub record IsFirstOf (C : List ℕ → Option Shape) (root : List ℕ) (n : ℕ)
 
 -- why a root is refused: it has the empty value, or is undecided
 abbrev pub IsRootError : (List ℕ → Option Shape) → List ℕ → RecordError → Type 0
-IsRootError C root (NoMember o f) = ⊥
-IsRootError C root (CutShort o f) = ⊥
-IsRootError C root (TooLong o) = ⊥
 IsRootError C root EmptyValue = Member C root []
 IsRootError C root (Ambiguous x) = IsUndecided C root x.now
-IsRootError C root (Reader e) = ⊥
 IsRootError C root OutOfMemory = ⊤
+IsRootError C root e = ⊥
 
 module _ (C : List ℕ → Option Shape) (root bytes : List ℕ) (at limit : ℕ) where
   -- the error is true of the bytes, which begin at that offset; `ended` holds where no others follow, and `unread` where none could be read

@@ -1,20 +1,11 @@
 -- Values that are walked part by part.
-use Rattle.std.specs.Prelude.{◌≡◌, ◌⊎◌, ⊤, ℕ, ◌+◌, ◌^◌, ◌<◌, ◌≤◌, List, [], ◌∷◌, ◌++◌, length, Option, Some, MatchOption, IfSome, option_map, String}
-use Rattle.std.specs.BTreeMap.{BTreeMap, get_by_text}
-use Rattle.borsh_walks.specs.declared.definition.Definition.{Definition}
-use Rattle.borsh_walks.specs.Container.{Shape, primitive, sequence, product, choice, Members}
-use Rattle.borsh_walks.specs.Definitions.{definitions_in, shape_of}
-use Rattle.borsh_plan.specs.Plan.{definitions_of, map_of, names_of, root_of}
-use Rattle.borsh_values.specs.declared.frames.Opened.{Opened}
-use Rattle.borsh_values.specs.declared.frames.Opened.TheVariants.{Undecided, Refused, Taken}
-use Rattle.borsh_values.specs.declared.frames.Rest.{Rest}
-use Rattle.borsh_values.specs.declared.nodes.Node.{Node}
+use Rattle.std.specs.Prelude.{◌≡◌, ◌⊎◌, ⊤, ℕ, ◌+◌, ◌^◌, ◌<◌, ◌≤◌, List, [], ◌∷◌, ◌++◌, length, Option, Some, MatchOption, String}
+use Rattle.borsh_values.specs.Words.{BTreeMap, get_by_text, Definition, Shape, primitive, sequence, product, choice, Members, definitions_in, shape_of, definitions_of, map_of, names_of, root_of, Opened, OpenedUndecided as Undecided, Refused, Taken, Node, name_of}
 use Rattle.borsh_values.specs.declared.walker.Walker.{Walker}
-use Rattle.borsh_plan.specs.Names.{name_of}
 use Rattle.borsh_values.specs.Membership.{IsUndecided}
 use Rattle.borsh_values.specs.Nodes.{Opens, Reads}
-use Rattle.borsh_values.specs.Steps.{Fits, OpensOnce, remaining}
-use Rattle.borsh_values.specs.TagTables.{AreTagTables}
+use Rattle.borsh_values.specs.Cursor.{OpensOnce}
+use Rattle.borsh_values.specs.Tags.{AreTagTables}
 
 -- of a member of the root the bytes `done` are read, these names come next, and the bytes `left` are members of them
 abbrev pub IsReadTo : (List ℕ → Option Shape) → List ℕ → List ℕ → List (List ℕ) → List ℕ → Type 0
@@ -22,16 +13,13 @@ IsReadTo C root done names left = Reads C (root ∷ []) done names × Members C 
 
 -- the count of a sequence is the one that its definition allows, or a number of at most eight bytes
 abbrev pub IsCounted : Shape → Type 0
-IsCounted (primitive n) = ⊤
 IsCounted (sequence w lo hi e) = ((w ≡ 0) × (lo ≡ hi)) ⊎ ((w ≤ 8) × (hi < 256 ^ w))
-IsCounted (product ps) = ⊤
-IsCounted (choice w vs) = ⊤
+IsCounted d = ⊤
 
 -- so it is of a definition that takes bytes
 abbrev pub CountsIfTaken : Shape → Opened → Type 0
-CountsIfTaken d Undecided = ⊤
-CountsIfTaken d (Refused r) = ⊤
 CountsIfTaken d (Taken n r) = IsCounted d
+CountsIfTaken d o = ⊤
 
 -- the plan is one, the tables are those of its enums, and the offset of each byte that is left is a `usize`
 pub record IsWalker (w : Walker) : Type 0 where
@@ -64,7 +52,3 @@ module _ {A : Type 0} (m : BTreeMap (String A) Definition) where
 -- so it is of the name at the place
 abbrev pub FindsAt : ℕ → Walker → Walker → Option Node → Type 0
 FindsAt at old new found = (x : List ℕ) → name_of (names_of old.plan.now) at ≡ Some x → FindsNode (map_of old.plan.now) (root_of old.plan.now) x old new found
-
--- and with the names that are to be read of its value
-abbrev pub TakesAt : ℕ → Walker → Walker → Option (Node × Rest) → Type 0
-TakesAt at old new found = FindsAt at old new (option_map (λ t. t.0) found) × IfSome found (λ t. Fits (names_of old.plan.now) t.1 × Opens (definitions_of old.plan.now) (shape_of t.0.definition.now) t.0.bytes.now (remaining (names_of old.plan.now) t.1))

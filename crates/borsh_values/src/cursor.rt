@@ -1,15 +1,13 @@
 // The one walk over the bytes of a value.
-ghost use Rattle.borsh_plan.specs.Plan.{definitions_of, names_of, root_of};
-ghost use Rattle.borsh_values.specs.Cursor.{Happens, IsCursor, IsOpenable, Moves, OpensFull, Stays, pending_names};
-ghost use Rattle.borsh_values.specs.Steps.{GoesOn, KnownAs, remaining};
-ghost use Rattle.borsh_walks.specs.Container.{Member};
+ghost use Rattle.borsh_values.specs.Words.{definitions_of, names_of, root_of, Member};
+ghost use Rattle.borsh_values.specs.Cursor.{Happens, IsCursor, IsOpenable, Moves, OpensFull, Stays, pending_names, GoesOn, KnownAs, remaining};
 ghost use Rattle.std.specs.Prelude.{IfOk, OnOk, None, Some, [], false, true, ◌∷◌, ◌-◌, ◌<◌, ◌≤◌, ◌≡◌, drop, get_or, length, replicate, slice_set, take};
 
 use crate::faults::{Path, Reason, path_to};
-use crate::frames::{Frame, Known, Mark, Opened, Rest, Step, after_copies, has_parts, next_part};
-use crate::free::free_front;
+use crate::frames::{Frame, Mark, Opened, Rest, Step, after_copies, next_part};
 use crate::opening::open_definition;
-use crate::tag_tables::AtKey;
+use crate::runs::free_front;
+use crate::tags::Found;
 use borsh_plan::Plan;
 use borsh_walks::Definition;
 use std::alloc::{AllocError, Global};
@@ -24,7 +22,7 @@ pub struct Cursor<'a, 'p, 'b> {
     pub bytes: &'b [u8],
     pub left: &'b [u8],
     marks: Vec<Option<Mark>>,
-    tables: BTreeMap<&'a str, BTreeMap<u64, AtKey>>,
+    tables: BTreeMap<&'a str, BTreeMap<u64, Found>>,
     stack: Vec<Frame>,
     frame: Frame,
     // How many names were begun since the last byte was taken.
@@ -48,20 +46,14 @@ pub enum Event<'a, 'b> {
     Undecided(usize),
 }
 
-fn look_up(marks: &Vec<Option<Mark>>, at: usize, left: usize) -> Known
+// The mark of a name, unless it was opened where other bytes were left.
+fn look_up(marks: &Vec<Option<Mark>>, at: usize, left: usize) -> Option<Mark>
     requires { at < length marks.now.items }
     ensures { KnownAs (get_or marks.now.items at None) left result }
 {
     match marks[at] {
-        Some(Mark::Empty) => Known::Empty,
-        Some(Mark::Open(start)) => {
-            if start == left {
-                Known::Recursive
-            } else {
-                Known::New
-            }
-        }
-        None => Known::New,
+        Some(Mark::Open(start)) if start != left => None,
+        mark => mark,
     }
 }
 
@@ -271,12 +263,12 @@ impl<'a, 'p, 'b> Cursor<'a, 'p, 'b> {
         // For the prover: no more names are begun without a byte than there are definitions.
         let _definitions = self.plan.map().len();
         match look_up(&self.marks, step.at, self.left.len()) {
-            Known::Empty => {
+            Some(Mark::Empty) => {
                 self.frame.rest = after_copies(self.frame.rest, step);
                 Ok(Event::Pass(step.at))
             }
-            Known::Recursive => Ok(Event::Fault(step.at, Reason::Recursive)),
-            Known::New => {
+            Some(Mark::Open(_)) => Ok(Event::Fault(step.at, Reason::Recursive)),
+            None => {
                 self.frame.rest = step.others;
                 self.stack.push(self.frame)?;
                 self.frame = Frame {
@@ -312,7 +304,7 @@ impl<'a, 'p, 'b> Cursor<'a, 'p, 'b> {
         self.frame.rest = step.others;
         self.idle = 0;
         self.left = after(self.left, own);
-        if has_parts(self.plan, parts) {
+        if next_part(self.plan, parts).is_some() {
             self.stack.push(self.frame)?;
             self.frame = Frame {
                 at: step.at,

@@ -2,8 +2,7 @@
 
 use crate::frames::{Frame, Rest};
 use crate::names::Name;
-use crate::numbers::number;
-use crate::tags::variant_at;
+use crate::tags::{number, variant_at};
 use borsh_plan::Plan;
 use borsh_walks::{Definition, Fields};
 use std::alloc::{AllocError, Global};

@@ -1,7 +1,6 @@
 // What is still to be read of a value.
-ghost use Rattle.borsh_plan.specs.Names.{IsPlaceOf, name_at, places_in};
-ghost use Rattle.borsh_plan.specs.Plan.{names_of};
-ghost use Rattle.borsh_values.specs.Steps.{Fits, GoesOn, past_copies, remaining};
+ghost use Rattle.borsh_values.specs.Words.{IsPlaceOf, name_at, places_in, names_of};
+ghost use Rattle.borsh_values.specs.Cursor.{Fits, GoesOn, past_copies, remaining};
 ghost use Rattle.std.specs.Prelude.{false, length, true, ◌≡◌, ◌<◌, [], MatchOption, OnSome, slice_get};
 
 use crate::faults::Reason;
@@ -29,17 +28,6 @@ pub enum Mark {
     Empty,
     /// It is being read since so many bytes were left, or no member of it begins there any more.
     Open(usize),
-}
-
-/// What the marks say of a name that is next.
-#[derive(Clone, Copy)]
-pub enum Known {
-    /// Its only member is the empty one.
-    Empty,
-    /// It is being read, and no byte was taken since it was begun.
-    Recursive,
-    /// It has to be read.
-    New,
 }
 
 /// What a definition takes from the bytes.
@@ -95,13 +83,4 @@ pub fn after_copies(rest: Rest, step: Step) -> Rest
         Rest::Copies(_, _) => Rest::Copies(step.at, 0),
         Rest::Parts(_, _) => step.others,
     }
-}
-
-/// Whether names are still to be read.
-pub fn has_parts(plan: &Plan<'_>, rest: Rest) -> bool
-    requires fits { Fits (names_of plan.now) rest }
-    ensures none { result ≡ false → remaining (names_of plan.now) rest ≡ [] }
-    ensures some { result ≡ true → 0 < length (remaining (names_of plan.now) rest) }
-{
-    next_part(plan, rest).is_some()
 }

@@ -1,8 +1,6 @@
 // Whether bytes are a member of a name.
-ghost use Rattle.borsh_plan.specs.Plan.{definitions_of, root_of};
-ghost use Rattle.borsh_values.specs.Membership.{AnswersMembership, IsAnswer};
-ghost use Rattle.borsh_values.specs.Fronts.{IsFrontAnswer};
-ghost use Rattle.borsh_walks.specs.Definitions.{definitions_in};
+ghost use Rattle.borsh_values.specs.Words.{definitions_of, root_of, definitions_in};
+ghost use Rattle.borsh_values.specs.Membership.{AnswersMembership, IsAnswer, IsFrontAnswer};
 
 use crate::faults::{Fault, Path, Reason};
 use crate::fronts::{Front, front_of};

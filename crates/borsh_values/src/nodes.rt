@@ -1,10 +1,9 @@
 // The nodes of a value.
 ghost use Rattle.borsh_values.specs.Nodes.{AreElementsOf, IsCountOf, IsVariantOf};
-ghost use Rattle.borsh_walks.specs.Definitions.{shape_of};
+ghost use Rattle.borsh_values.specs.Words.{shape_of};
 ghost use Rattle.std.specs.Prelude.{◌≡◌, take};
 
-use crate::numbers::number;
-use crate::tags::variant_at;
+use crate::tags::{number, variant_at};
 use borsh_walks::Definition;
 
 /// A part of a value, or the value itself, with the bytes that it encodes before its own parts: a primitive all
@@ -51,11 +50,7 @@ pub fn variant_of(node: &Node<'_, '_>) -> Option<usize>
 fn tag_in(bytes: &[u8], width: usize) -> &[u8]
     ensures { result.now ≡ take width bytes.now }
 {
-    if width < bytes.len() {
-        &bytes[..width]
-    } else {
-        bytes
-    }
+    &bytes[..width.min(bytes.len())]
 }
 
 /// How many elements the sequence has whose node this is; none for a node of another kind, and where the count has more
@@ -99,11 +94,7 @@ pub fn elements_of<'b>(node: &Node<'_, 'b>) -> &'b [u8]
     match node.definition {
         Definition::Sequence { length_width, .. } => {
             let width = usize::from(*length_width);
-            if width <= node.bytes.len() {
-                &node.bytes[width..]
-            } else {
-                &node.bytes[..0]
-            }
+            &node.bytes[width.min(node.bytes.len())..]
         }
         _ => node.bytes,
     }

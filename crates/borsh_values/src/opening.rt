@@ -1,20 +1,14 @@
 // What the definition of a name takes from the bytes.
-ghost use Rattle.borsh_plan.specs.Names.{name_at, named_definition, shape_at};
-ghost use Rattle.borsh_plan.specs.Plan.{definitions_of, names_of};
+ghost use Rattle.borsh_values.specs.Words.{name_at, named_definition, shape_at, definitions_of, names_of, choice, sequence, shape_of, mark_of};
 ghost use Rattle.borsh_values.specs.Nodes.{packed_size};
-ghost use Rattle.borsh_values.specs.Steps.{FitsWidth, OpensAs, TakesElements};
-ghost use Rattle.borsh_values.specs.TagTables.{AreTagTables, KeepsTables, TableFits};
+ghost use Rattle.borsh_values.specs.Cursor.{FitsWidth, OpensAs, TakesElements};
+ghost use Rattle.borsh_values.specs.Tags.{AreTagTables, KeepsTables, TableFits};
 ghost use Rattle.borsh_values.specs.Walks.{CountsIfTaken};
-ghost use Rattle.borsh_walks.specs.Container.{choice, sequence};
-ghost use Rattle.borsh_walks.specs.Definitions.{shape_of};
-ghost use Rattle.borsh_walks.specs.Tables.{mark_of};
 ghost use Rattle.std.specs.Prelude.{◌≡◌, ◌≤◌, ◌<◌, IfOk, OnOk, Some, length, map, option_map, slice_get, string_bytes};
 
 use crate::faults::Reason;
 use crate::frames::{Opened, Rest};
-use crate::numbers::number;
-use crate::tag_tables::{AtKey, find_variant_of};
-use crate::tags::Found;
+use crate::tags::{Found, find_variant_of, number};
 use borsh_plan::Plan;
 use borsh_walks::{Declaration, Definition, DiscriminantValue, VariantName};
 use std::alloc::{AllocError, Global};
@@ -107,7 +101,7 @@ pub fn open_sequence(
 fn open_enum<'a>(
     alloc: Global,
     plan: &Plan<'a>,
-    tables: &mut BTreeMap<&'a str, BTreeMap<u64, AtKey>>,
+    tables: &mut BTreeMap<&'a str, BTreeMap<u64, Found>>,
     name: &'a str,
     at: usize,
     width: u8,
@@ -144,7 +138,7 @@ fn open_enum<'a>(
 pub fn open_definition<'a>(
     alloc: Global,
     plan: &Plan<'a>,
-    tables: &mut BTreeMap<&'a str, BTreeMap<u64, AtKey>>,
+    tables: &mut BTreeMap<&'a str, BTreeMap<u64, Found>>,
     name: &'a str,
     at: usize,
     definition: &Definition,

@@ -1,15 +1,13 @@
 // The nodes of a value, one after another, from its bytes.
-ghost use Rattle.borsh_plan.specs.Plan.{definitions_of, root_of};
+ghost use Rattle.borsh_values.specs.Words.{definitions_of, root_of, PreorderErrorOutOfMemory as OutOfMemory, Member};
 ghost use Rattle.borsh_values.specs.Preorder.{GivesNext, IsInValue, IsNotGiven, bytes_left, names_left, next_offset, plan_of};
-ghost use Rattle.borsh_values.specs.declared.preorder.PreorderError.TheVariants.{OutOfMemory};
-ghost use Rattle.borsh_walks.specs.Container.{Member};
 ghost use Rattle.std.specs.Prelude.{IfErr, IfOk, OnOk, [], ◌∷◌, ◌≡◌};
 
 use crate::cursor::{Cursor, Event};
 use crate::faults::{Path, PathStep, next_step};
 use crate::nodes::Node;
 use borsh_plan::Plan;
-use std::alloc::{AllocError, AllocFailed, Global};
+use std::alloc::{AllocError, Global};
 
 /// Why a node isn't given.
 #[derive(Debug, Drop)]
@@ -24,14 +22,6 @@ impl<'a> From<AllocError> for PreorderError<'a> {
     ghost from_gives = { λ _ e. e ≡ OutOfMemory };
 
     fn from(_: AllocError) -> PreorderError<'a> {
-        PreorderError::OutOfMemory
-    }
-}
-
-impl<'a, T: Drop> From<AllocFailed<T>> for PreorderError<'a> {
-    ghost from_gives = { λ _ e. e ≡ OutOfMemory };
-
-    fn from(_: AllocFailed<T>) -> PreorderError<'a> {
         PreorderError::OutOfMemory
     }
 }

@@ -1,8 +1,6 @@
 // Values of a root, one after another, from a reader.
-ghost use Rattle.borsh_plan.specs.Plan.{definitions_of, root_of};
+ghost use Rattle.borsh_values.specs.Words.{definitions_of, root_of, RecordErrorOutOfMemory as OutOfMemory, Member};
 ghost use Rattle.borsh_values.specs.Records.{Advances, AdvancesHeld, Falls, IsFirstOf, IsRecordError, IsRootError, SameRoot, ahead, plan_of, limit_of, next_offset, source_of, value_of};
-ghost use Rattle.borsh_values.specs.declared.records.RecordError.TheVariants.{OutOfMemory};
-ghost use Rattle.borsh_walks.specs.Container.{Member};
 ghost use Rattle.std.specs.Prelude.{IfErr, IfOk, IfSome, None, OnOk, [], ⊤, ◌-◌, ◌≡◌, ◌≤◌, length, take, true};
 
 use crate::buffered::Buffered;

@@ -1,21 +1,24 @@
-// Values one after another that are passed without a frame for each.
-ghost use Rattle.borsh_plan.specs.Plan.{definitions_of, names_of};
+// Values that are passed without a frame for each: those of names of free size, and runs of values of one name.
+ghost use Rattle.borsh_values.specs.Words.{definitions_of, names_of, name_at, parts_in, shape_at, Copies, choice, product, shape_of};
+ghost use Rattle.borsh_values.specs.Cursor.{Fits};
 ghost use Rattle.borsh_values.specs.Free.{AreFirst, FreeSize, IsFreeFront, IsRight, IsRun, IsTagLength, Passes};
-ghost use Rattle.borsh_plan.specs.Names.{name_at, parts_in, shape_at};
-ghost use Rattle.borsh_values.specs.declared.frames.Rest.TheVariants.{Copies};
-ghost use Rattle.borsh_walks.specs.Container.{choice, product};
-ghost use Rattle.borsh_walks.specs.Definitions.{shape_of};
 ghost use Rattle.std.specs.Prelude.{IfSome, MatchOption, Some, [], ◌∷◌, ◌≡◌, ◌<◌, ◌≤◌, ◌⊎◌, length, map, string_bytes};
 
 use crate::cursor::after;
 use crate::frames::{Opened, Rest};
-use crate::free::Passed;
 use crate::opening::open_sequence;
 use crate::tags::{Found, find_variant};
 use borsh_plan::Plan;
 use borsh_walks::{Declaration, Definition, DiscriminantValue, VariantName};
 
 type Variants = Vec<(DiscriminantValue, VariantName, Declaration)>;
+
+/// So many bytes that are passed, and the names that follow.
+#[derive(Clone, Copy)]
+pub struct Passed {
+    pub taken: usize,
+    pub rest: Rest,
+}
 
 /// How long each value of an enum is whose tag is this byte, where that is known.
 #[derive(Clone, Copy)]
@@ -139,7 +142,7 @@ fn run_of_enums(plan: &Plan<'_>, at: usize, variants: &Variants, count: u64, lef
     Run { taken, values }
 }
 
-// How many of the first bytes are a value of the name at a place, where its size or count tells that.
+// How many of the first bytes are a value of the name at a place, where its size tells that, or a count of primitives or of nothing.
 fn value_length(plan: &Plan<'_>, at: usize, left: &[u8]) -> Option<usize>
     requires within { at < length (names_of plan.now) }
     ensures { let name = name_at (names_of plan.now) at in
@@ -153,36 +156,20 @@ fn value_length(plan: &Plan<'_>, at: usize, left: &[u8]) -> Option<usize>
         return None;
     }
     let definition = plan.definition(at)?;
-    own_length(plan, at, definition, left)
-}
-
-// The same where its definition tells that: a primitive, or a list of primitives or of nothing.
-fn own_length(plan: &Plan<'_>, at: usize, definition: &Definition, left: &[u8]) -> Option<usize>
-    requires within { at < length (names_of plan.now) }
-    requires shape { shape_at (names_of plan.now) at ≡ Some (shape_of definition.now) }
-    ensures { let name = name_at (names_of plan.now) at in
-        IfSome result (λ n. AreFirst (definitions_of plan.now) (name ∷ []) left.now n) }
-{
     match definition {
-        Definition::Primitive(size) => {
-            let size = usize::from(*size);
-            if size <= left.len() { Some(size) } else { None }
-        }
         Definition::Sequence {
             length_width,
             length_range,
             ..
-        } => match plan.part(at, 0) {
-            Some(element) => {
-                let start = length_range.start;
-                let end = length_range.end;
-                match open_sequence(plan, *length_width, start, end, element, left) {
-                    Opened::Taken(taken, Rest::Copies(_, 0)) => Some(taken),
-                    _ => None,
-                }
+        } => {
+            let element = plan.part(at, 0)?;
+            let start = length_range.start;
+            let end = length_range.end;
+            match open_sequence(plan, *length_width, start, end, element, left) {
+                Opened::Taken(taken, Rest::Copies(_, 0)) => Some(taken),
+                _ => None,
             }
-            None => None,
-        },
+        }
         _ => None,
     }
 }
@@ -235,30 +222,27 @@ fn has_short_parts(plan: &Plan<'_>, at: usize, in_enum: bool) -> bool {
     })
 }
 
-/// The next of so many values of the name at a place, as many as are passed. Runs of enums pay in bench row `Vec<Option<u64>>`, those
-/// of structs and tuples in the row of records.
-pub fn pass_run(plan: &Plan<'_>, at: usize, count: u64, left: &[u8]) -> Option<Passed>
+// The next of so many values of the name at a place, as many as are passed. Runs of enums pay in bench row `Vec<Option<u64>>`, those
+// of structs and tuples in the row of records.
+fn pass_run(plan: &Plan<'_>, at: usize, count: u64, left: &[u8]) -> Option<Passed>
     requires within { at < length (names_of plan.now) }
     ensures { let C = definitions_of plan.now in
         IfSome result (λ p. IsFreeFront C (names_of plan.now) (Copies at count) left.now p) }
 {
-    let Some(definition) = plan.definition(at) else {
-        return None;
-    };
-    match definition {
+    match plan.definition(at)? {
         Definition::Enum {
             tag_width,
             variants,
         } => {
             if *tag_width == 1 && has_short_parts(plan, at, true) {
-                passed(at, count, run_of_enums(plan, at, variants, count, left))
+                pass_some(at, count, run_of_enums(plan, at, variants, count, left))
             } else {
                 None
             }
         }
         Definition::Struct { .. } | Definition::Tuple { .. } => {
             if has_short_parts(plan, at, false) {
-                passed(at, count, run_of_products(plan, at, count, left))
+                pass_some(at, count, run_of_products(plan, at, count, left))
             } else {
                 None
             }
@@ -268,7 +252,7 @@ pub fn pass_run(plan: &Plan<'_>, at: usize, count: u64, left: &[u8]) -> Option<P
 }
 
 // What is passed of so many values, if there are any.
-fn passed(at: usize, count: u64, run: Run) -> Option<Passed>
+fn pass_some(at: usize, count: u64, run: Run) -> Option<Passed>
     requires { run.values ≤ count }
     ensures { MatchOption result (run.taken ≡ 0) (λ p. Passes at count run p) }
 {
@@ -279,4 +263,38 @@ fn passed(at: usize, count: u64, run: Run) -> Option<Passed>
         taken: run.taken,
         rest: Rest::Copies(at, count - run.values),
     })
+}
+
+/// The next names, as many as are passed at once: those of a free size, which pays in bench row `Vec<(u64, u64, u64)>`, or a run of
+/// values.
+pub fn free_front(plan: &Plan<'_>, rest: Rest, left: &[u8]) -> Option<Passed>
+    requires fits { Fits (names_of plan.now) rest }
+    ensures { let C = definitions_of plan.now in
+        IfSome result (λ p. IsFreeFront C (names_of plan.now) rest left.now p) }
+{
+    match rest {
+        Rest::Copies(at, count) => {
+            let all = count.checked_mul(plan.size(at)).unwrap_or(0);
+            if all > 0 && all <= left.len() as u64 {
+                Some(Passed {
+                    taken: all as usize,
+                    rest: Rest::Copies(at, 0),
+                })
+            } else {
+                pass_run(plan, at, count, left)
+            }
+        }
+        Rest::Parts(at, next) => {
+            let part = plan.part(at, next)?;
+            let size = plan.size(part);
+            if size > 0 && size <= left.len() as u64 {
+                Some(Passed {
+                    taken: size as usize,
+                    rest: Rest::Parts(at, next + 1),
+                })
+            } else {
+                None
+            }
+        }
+    }
 }

@@ -1,14 +1,14 @@
 // Whether bytes say which value was encoded, by the definitions alone.
 ghost use Rattle.borsh_values.specs.Unambiguous.{DistinctTags, IsUnambiguous, UnambiguousShape};
 ghost use Rattle.borsh_values.specs.Membership.{IsAmbiguousName};
-ghost use Rattle.borsh_walks.specs.Definitions.{definitions_in, shape_of};
+ghost use Rattle.borsh_values.specs.Words.{definitions_in, shape_of};
 ghost use Rattle.std.specs.Prelude.{Decides, IfOk, MatchOption, ◌+◌, ◌^◌, ◌<◌, map, string_bytes};
 
-use crate::keys::{numbers_in, tag_key};
+use crate::tags::{Found, numbers_in, tag_key};
 use borsh_plan::Plan;
 use borsh_walks::{Declaration, Definition, DiscriminantValue, VariantName};
 use std::alloc::{AllocError, Global};
-use std::collections::{BTreeMap, BTreeSet};
+use std::collections::BTreeMap;
 
 // Whether no two counts of the range are encoded alike.
 fn has_distinct_counts(width: u8, start: u64, end: u64) -> bool
@@ -29,11 +29,11 @@ fn has_distinct_tags(
     ensures { IfOk result
         (λ b. Decides b (DistinctTags width (map (λ v. (v.0, string_bytes v.2)) variants.now.items))) }
 {
-    let mut keys: BTreeSet<u64> = BTreeSet::new(alloc);
+    let mut keys: BTreeMap<u64, Found> = BTreeMap::new(alloc);
     let mut index: usize = 0;
     while let Some((discriminant, _, _)) = variants.get(index) {
         let key = tag_key(width, discriminant);
-        if !keys.insert(key)? {
+        if keys.insert(key, Found::One(index))?.is_some() {
             return Ok(false);
         }
         index += 1;

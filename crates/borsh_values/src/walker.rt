@@ -1,12 +1,12 @@
 // A value that is walked part by part.
-ghost use Rattle.borsh_values.specs.Walks.{FindsAt, IsWalker, TakesAt};
+ghost use Rattle.borsh_values.specs.Walks.{FindsAt, IsWalker};
 ghost use Rattle.std.specs.Prelude.{IfOk, IfSome, OnOk, ◌≡◌};
 
 use crate::cursor::{after, front};
-use crate::frames::{Opened, Rest};
+use crate::frames::Opened;
 use crate::nodes::Node;
 use crate::opening::open_definition;
-use crate::tag_tables::AtKey;
+use crate::tags::Found;
 use borsh_plan::Plan;
 use std::alloc::{AllocError, Global};
 use std::collections::BTreeMap;
@@ -25,7 +25,7 @@ use std::collections::BTreeMap;
 pub struct Walker<'a, 'l, 'b> {
     alloc: Global,
     pub plan: &'l Plan<'a>,
-    tables: BTreeMap<&'a str, BTreeMap<u64, AtKey>>,
+    tables: BTreeMap<&'a str, BTreeMap<u64, Found>>,
     /// The bytes that are left.
     pub left: &'b [u8],
     /// How many bytes of the value come before these.
@@ -67,25 +67,6 @@ impl<'a, 'l, 'b> Walker<'a, 'l, 'b> {
         ensures plan { self.new.plan ≡ self.old.plan }
         ensures depth { IfOk result (λ found. IfSome found (λ n. n.depth ≡ depth)) }
     {
-        match self.take(at, depth)? {
-            Some((node, _)) => Ok(Some(node)),
-            None => Ok(None),
-        }
-    }
-
-    /// As [`Walker::open`], with the names that are to be read of the value.
-    pub(crate) fn take(
-        &mut self,
-        at: usize,
-        depth: usize,
-    ) -> Result<Option<(Node<'a, 'b>, Rest)>, AllocError>
-        requires { IsWalker self.old }
-        ensures finds { IfOk result (λ found. TakesAt at self.old self.new found) }
-        ensures walk { OnOk result (IsWalker self.new) }
-        ensures plan { self.new.plan ≡ self.old.plan }
-        ensures at { IfOk result (λ found. IfSome found (λ t. t.0.at ≡ at)) }
-        ensures depth { IfOk result (λ found. IfSome found (λ t. t.0.depth ≡ depth)) }
-    {
         let plan = self.plan;
         let Some(definition) = plan.definition(at) else {
             return Ok(None);
@@ -100,7 +81,7 @@ impl<'a, 'l, 'b> Walker<'a, 'l, 'b> {
             definition,
             self.left,
         )? {
-            Opened::Taken(taken, rest) => {
+            Opened::Taken(taken, _parts) => {
                 let node = Node {
                     at,
                     name,
@@ -111,7 +92,7 @@ impl<'a, 'l, 'b> Walker<'a, 'l, 'b> {
                 };
                 self.left = after(self.left, taken);
                 self.offset += taken;
-                Ok(Some((node, rest)))
+                Ok(Some(node))
             }
             Opened::Undecided | Opened::Refused(_) => Ok(None),
         }

@@ -1,6 +1,6 @@
 use Rattle.std.proofs.Common.{◌∙◌, arith, subst, length-set}
 use Rattle.borsh_plan.specs.Plan.{definitions_of, root_of}
-use Rattle.borsh_values.specs.Fronts.{IsFrontAnswer}
+use Rattle.borsh_values.specs.Membership.{IsFrontAnswer}
 use Rattle.borsh_c.proofs.Records.{measured}
 use Rattle.borsh_c.proofs.many.measure.Goals as goal
 

@@ -2,7 +2,7 @@ use Rattle.std.proofs.Common.{ℕ, List, length, ap, arith, refl}
 use Rattle.std.specs.Prelude.{ℤ, string_bytes}
 use Rattle.std.proofs.lemmas.List.{length-map}
 use Rattle.borsh_plan.specs.Plan.{names_of}
-use Rattle.borsh_values.proofs.FoundLaws.{got}
+use Rattle.borsh_values.proofs.TagLaws.{got}
 use Rattle.borsh_compare.specs.Together.{unnamed}
 use Rattle.borsh_compare.specs.Walks.{Paired}
 use Rattle.borsh_compare.proofs.Parts.{variants_step}

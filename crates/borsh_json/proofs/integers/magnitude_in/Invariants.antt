@@ -1,5 +1,5 @@
 use Rattle.std.proofs.Common.{◌≡◌, ◌≤◌, length, map, drop}
-use Rattle.borsh_values.specs.Numbers.{value_of}
+use Rattle.borsh_values.specs.Tags.{value_of}
 use Rattle.borsh_json.specs.Integers.{turned}
 use Rattle.borsh_json.proofs.integers.magnitude_in.Given as goal
 

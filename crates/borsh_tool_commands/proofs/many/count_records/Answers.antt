@@ -1,7 +1,6 @@
 use Rattle.std.proofs.Common.{rules, ◌≡◌, inr, [], Ok, Err, IfErr, true, false, ap, ◌∙◌, subst, sym}
 use Rattle.borsh_plan.specs.Plan.{definitions_of, root_of}
-use Rattle.borsh_values.specs.Records.{Advances, ahead, source_of}
-use Rattle.borsh_values.specs.Next.{IsFirst}
+use Rattle.borsh_values.specs.Records.{Advances, ahead, source_of, IsFirst}
 use Rattle.borsh_tool_commands.specs.Many.{FailsBy, StopsCounting, rest_of}
 use Rattle.borsh_tool_commands.proofs.StopLaws.{stop-led}
 use Rattle.borsh_tool_commands.proofs.ManyLaws.{ahead-begins, left-of, count-begins, count-ended, count-ends, count-fails, count-more}

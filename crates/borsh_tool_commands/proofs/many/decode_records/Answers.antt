@@ -1,7 +1,6 @@
 use Rattle.std.proofs.Common.{rules, inl, inr, ℕ, List, ◌≡◌, ◌++◌, Ok, Err, true, false, refl, sym, ap, ◌∙◌, subst}
 use Rattle.borsh_plan.specs.Plan.{definitions_of, map_of, root_of}
-use Rattle.borsh_values.specs.Next.{IsFirst}
-use Rattle.borsh_values.specs.Records.{Advances, ahead, source_of, value_of}
+use Rattle.borsh_values.specs.Records.{IsFirst, Advances, ahead, source_of, value_of}
 use Rattle.borsh_values.proofs.RecordLaws.{falls-on}
 use Rattle.borsh_tool_commands.specs.declared.failure.Failure.{Failure}
 use Rattle.borsh_tool_commands.specs.declared.failure.Failure.TheVariants.{OutOfMemory}

@@ -2,8 +2,7 @@
 use Rattle.std.proofs.Common.{◌≡◌}
 use Rattle.borsh_walks.specs.Definitions.{definitions_in}
 use Rattle.borsh_plan.specs.Plan.{map_of, root_of}
-use Rattle.borsh_values.specs.Next.{IsFirst}
-use Rattle.borsh_values.specs.Records.{ahead, limit_of, plan_of, source_of, turns_left}
+use Rattle.borsh_values.specs.Records.{IsFirst, ahead, limit_of, plan_of, source_of, turns_left}
 use Rattle.borsh_json.specs.declared.output.Layout.TheVariants.{Compact}
 use Rattle.borsh_tool_commands.specs.Json.{IsJsonLine}
 use Rattle.borsh_tool_commands.specs.Many.{most_bytes}

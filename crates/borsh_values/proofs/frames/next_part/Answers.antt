@@ -1,9 +1,7 @@
 use Rattle.std.proofs.Common.{◌≡◌, ◌+◌, [], sym, subst}
-use Rattle.borsh_plan.specs.Plan.{names_of}
-use Rattle.borsh_values.specs.Steps.{GoesOn, remaining}
-use Rattle.borsh_values.specs.declared.frames.Rest.TheVariants.{Parts}
-use Rattle.borsh_values.specs.declared.frames.Step.{Step}
-use Rattle.borsh_values.proofs.Places.{parts_on, parts_end, fits_parts}
+use Rattle.borsh_values.specs.Words.{names_of, Parts, Step}
+use Rattle.borsh_values.specs.Cursor.{GoesOn, remaining}
+use Rattle.borsh_values.proofs.Walk.{parts_on, parts_end, fits_parts}
 use Rattle.borsh_values.proofs.frames.next_part.Goals as goal
 
 pub returns-in-Some : goal.returns-in-Some

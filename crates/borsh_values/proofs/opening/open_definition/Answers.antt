@@ -1,12 +1,10 @@
 use Rattle.std.proofs.Common.{arith, subst, ◌∙◌, ap, sym, inl, inr, Some}
 use Rattle.std.proofs.lemmas.Result.{on_ok_weaker}
-use Rattle.borsh_walks.specs.Definitions.{shape_of}
-use Rattle.borsh_plan.specs.Names.{IsPlaceOf}
+use Rattle.borsh_values.specs.Words.{shape_of, IsPlaceOf, definitions_of, names_of}
 use Rattle.borsh_plan.proofs.Laws.{defined_at}
-use Rattle.borsh_plan.specs.Plan.{definitions_of, names_of}
 use Rattle.borsh_values.proofs.Bytes.{small_bytes}
 use Rattle.borsh_values.proofs.TakesLaws.{opens_primitive, opens_product, opens_sequence, no_element}
-use Rattle.borsh_values.proofs.TableLaws.{tables_kept}
+use Rattle.borsh_values.proofs.TagLaws.{tables_kept}
 use Rattle.borsh_values.proofs.opening.open_definition.Goals as goal
 
 pub returns-else-bytes-size-clause-opened : goal.returns-else-bytes-size-clause-opened

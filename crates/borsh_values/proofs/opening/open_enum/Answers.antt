@@ -1,11 +1,9 @@
 use Rattle.std.proofs.Common.{◌∙◌, arith, ap, subst, sym, take}
 use Rattle.std.specs.Prelude.{slice_get}
-use Rattle.borsh_plan.specs.Names.{IsPlaceOf, parts_in}
-use Rattle.borsh_plan.specs.Plan.{definitions_of, names_of}
-use Rattle.borsh_values.specs.Steps.{FoundAs}
-use Rattle.borsh_values.proofs.FoundLaws.{unnamed}
+use Rattle.borsh_values.specs.Words.{IsPlaceOf, parts_in, definitions_of, names_of}
+use Rattle.borsh_values.specs.Tags.{FoundAs}
+use Rattle.borsh_values.proofs.TagLaws.{unnamed, keeps_same}
 use Rattle.borsh_values.proofs.TakesLaws.{found_choice, found_none_choice, found_there, other_tag, short_choice, several_ambiguous, too_short}
-use Rattle.borsh_values.proofs.TableLaws.{keeps_same}
 use Rattle.borsh_values.proofs.opening.open_enum.Goals as goal
 
 pub returns-then-bytes-size-clause-opened : goal.returns-then-bytes-size-clause-opened

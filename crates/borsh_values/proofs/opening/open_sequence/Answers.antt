@@ -1,10 +1,8 @@
 use Rattle.std.proofs.Common.{◌≡◌, ℕ, suc, zero, ◌+◌, ◌^◌, ◌<◌, ◌⊎◌, arith, inl, inr, length, subst, sym}
-use Rattle.borsh_walks.specs.Container.{sequence}
-use Rattle.borsh_plan.specs.Names.{name_at}
+use Rattle.borsh_values.specs.Words.{sequence, name_at, definitions_of, names_of}
 use Rattle.borsh_plan.proofs.Laws.{defined_at}
-use Rattle.borsh_plan.specs.Plan.{definitions_of, names_of}
 use Rattle.borsh_values.specs.Nodes.{packed_size}
-use Rattle.borsh_values.specs.Steps.{TakesElements}
+use Rattle.borsh_values.specs.Cursor.{TakesElements}
 use Rattle.borsh_values.proofs.Bytes.{small_bytes}
 use Rattle.borsh_values.proofs.TakesLaws.{array_opened, list_opened, count_off, other_count, short_sequence, too_short}
 use Rattle.borsh_values.proofs.WalkedLaws.{counts_if}

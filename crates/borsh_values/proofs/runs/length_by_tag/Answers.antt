@@ -1,13 +1,11 @@
 use Rattle.std.proofs.Common.{◌+◌, ◌∙◌, ap, subst, sym, arith}
 use Rattle.std.specs.Prelude.{slice_get}
 use Rattle.borsh_plan.proofs.Laws.{defined_at}
-use Rattle.borsh_plan.specs.Plan.{definitions_of, names_of}
-use Rattle.borsh_values.specs.declared.tags.Found.TheVariants.{One}
-use Rattle.borsh_plan.specs.Names.{name_at, parts_in}
-use Rattle.borsh_values.specs.Steps.{FoundAs}
+use Rattle.borsh_values.specs.Words.{definitions_of, names_of, One, name_at, parts_in}
+use Rattle.borsh_values.specs.Tags.{FoundAs}
 use Rattle.borsh_values.specs.Free.{IsTagLength}
-use Rattle.borsh_values.proofs.FoundLaws.{unnamed}
-use Rattle.borsh_values.proofs.OnlyLaws.{tag_length}
+use Rattle.borsh_values.proofs.TagLaws.{unnamed}
+use Rattle.borsh_values.proofs.FreeLaws.{tag_length}
 use Rattle.borsh_values.proofs.runs.length_by_tag.Goals as goal
 
 pub returns : goal.returns

@@ -1,11 +1,10 @@
 use Rattle.std.proofs.Common.{◌≡◌, ◌<◌, ◌∷◌, [], subst, sym, arith, Some, inl, inr}
 use Rattle.std.specs.Prelude.{All, IfSome, slice_get}
 use Rattle.std.proofs.lemmas.List.Elements.{All-drop}
-use Rattle.borsh_plan.specs.Names.{name_at}
-use Rattle.borsh_plan.specs.Plan.{definitions_of, names_of}
+use Rattle.borsh_values.specs.Words.{name_at, definitions_of, names_of}
 use Rattle.borsh_values.specs.Free.{AreFirst, IsRight, IsTagLength}
 use Rattle.borsh_values.proofs.Bytes.{small_bytes}
-use Rattle.borsh_values.proofs.OnlyLaws.{first_none, first_by_tag, first_copy}
+use Rattle.borsh_values.proofs.FreeLaws.{first_none, first_by_tag, first_copy}
 use Rattle.borsh_values.proofs.runs.run_of_enums.Goals as goal
 
 pub loop-values-init : goal.loop-values-init

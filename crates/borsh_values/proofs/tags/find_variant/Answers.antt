@@ -1,8 +1,9 @@
 use Rattle.std.proofs.Common.{◌≡◌, ◌+◌, ℕ, ℤ, List, length, length-take-le, take, refl, sym, ◌∙◌, subst, arith, ◌∷◌, [], ◌++◌, true, false}
 use Rattle.std.specs.Prelude.{string_bytes}
 use Rattle.std.proofs.lemmas.List.{length-map}
-use Rattle.borsh_values.specs.Steps.{FoundAs}
-use Rattle.borsh_values.proofs.FoundLaws.{unnamed, got, got_none, found_more, found_same}
+use Rattle.borsh_values.specs.Words.{tag}
+use Rattle.borsh_values.specs.Tags.{FoundAs}
+use Rattle.borsh_values.proofs.TagLaws.{unnamed, got, got_none, found_more, found_same}
 use Rattle.borsh_values.proofs.tags.find_variant.Goals as goal
 use Rattle.borsh_values.proofs.tags.find_variant.Goals.{then-is_tag, else-is_tag}
 
@@ -21,10 +22,11 @@ loop-discriminant-preserved c =
         | then-is_tag w ↦
             (let k = length-map {B = ℤ × List ℕ} items (λ v. (v.0, string_bytes v.2)) in
             let long : length (take n vs) ≡ n = length-take-le n vs (omega (arith, v.within, k)) in
-            let r = found_more (take n vs) bytes c.loop-discriminant.found n f.0 (string_bytes f.2) long c.loop-discriminant.invariant.found (w.if-is_tag.ensures.0 refl) in
+            let is = w.if-is_tag.ensures.0 refl in
+            let r = found_more (length bytes) (λ j. tag (length bytes) j ≡ bytes) (take n vs) f.0 (string_bytes f.2) (λ j q a b. b ∙ sym is) c.loop-discriminant.found n long c.loop-discriminant.invariant.found is in
             subst (λ l. FoundAs l bytes c.if-is_tag.found) (sym v.next) (subst (λ o. FoundAs (take n vs ++ (f.0, string_bytes f.2) ∷ []) bytes o) (sym (w.found-is ∙ w.add-found.ensures)) r))
         | else-is_tag w ↦
-            (let r = found_same (take n vs) bytes c.loop-discriminant.found f.0 (string_bytes f.2) c.loop-discriminant.invariant.found (λ q. no_true (w.if-is_tag.ensures.1 q)) in
+            (let r = found_same (length bytes) (λ j. tag (length bytes) j ≡ bytes) (take n vs) f.0 (string_bytes f.2) c.loop-discriminant.found c.loop-discriminant.invariant.found (λ q. no_true (w.if-is_tag.ensures.1 q)) in
             subst (λ l. FoundAs l bytes c.if-is_tag.found) (sym v.next) (subst (λ o. FoundAs (take n vs ++ (f.0, string_bytes f.2) ∷ []) bytes o) (sym w.found-is) r))
       ];
     }

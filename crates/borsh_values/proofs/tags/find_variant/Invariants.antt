@@ -1,6 +1,6 @@
 use Rattle.std.proofs.Common.{◌-◌, ◌≤◌, length, take, map}
 use Rattle.std.specs.Prelude.{string_bytes}
-use Rattle.borsh_values.specs.Steps.{FoundAs}
+use Rattle.borsh_values.specs.Tags.{FoundAs}
 use Rattle.borsh_values.proofs.tags.find_variant.Given as goal
 
 abbrev pub invariant-loop-discriminant : goal.invariant-loop-discriminant

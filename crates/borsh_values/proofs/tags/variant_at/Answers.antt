@@ -1,15 +1,11 @@
 use Rattle.std.proofs.Common.{◌≡◌, ℕ, length, take, List, refl, sym, subst, arith, ◌∷◌, [], ℤ, true, false, inl, inr}
 use Rattle.std.specs.Prelude.{string_bytes}
-use Rattle.borsh_walks.specs.Container.{IsListedVariant, first_variant, later_variant, tag}
-use Rattle.borsh_values.proofs.FoundLaws.{unnamed, got, got_none, listed_append}
+use Rattle.borsh_values.specs.Words.{IsListedVariant, tag}
+use Rattle.borsh_values.proofs.TagLaws.{unnamed, got, got_none, listed_append, listed_one}
 use Rattle.borsh_values.proofs.tags.variant_at.Goals as goal
 
 no_true : false ≡ true → ⊥
 no_true e = cc
-
-last_off : {j k : ℤ} {q p t : List ℕ} → IsListedVariant j q ((k, p) ∷ []) → (tag (length t) k ≡ t → ⊥) → tag (length t) j ≡ t → ⊥
-last_off first_variant f e = f e
-last_off (later_variant a) f e = elim a [ ]
 
 pub loop-discriminant-preserved : goal.loop-discriminant-preserved
 loop-discriminant-preserved c =
@@ -22,7 +18,7 @@ loop-discriminant-preserved c =
       within = omega (arith, v.within);
       none = λ k p a b. elim (listed_append (take n vs) ((f.0, string_bytes f.2) ∷ []) (subst (λ l. IsListedVariant k p l) v.next a)) [
         | inl i ↦ c.loop-discriminant.invariant.none k p i b
-        | inr i ↦ last_off {p = string_bytes f.2} i (λ q. no_true (c.if-is_tag.ensures.1 q)) b
+        | inr i ↦ no_true (c.if-is_tag.ensures.1 (listed_one (λ j. tag (length c.args.bytes.now) j ≡ c.args.bytes.now) i b))
       ];
     }
 

@@ -1,15 +1,11 @@
 use Rattle.std.proofs.Common.{◌∙◌, ◌∷◌, ◌+◌, [], ap, arith, length, replicate, reverse, subst, sym, None}
 use Rattle.borsh_walks.proofs.Tables.{marks_none}
-use Rattle.borsh_values.specs.Cursor.{Going}
-use Rattle.borsh_plan.specs.Names.{name_at}
-use Rattle.borsh_values.specs.Steps.{pending}
-use Rattle.borsh_values.specs.declared.frames.Frame.{Frame}
-use Rattle.borsh_values.specs.declared.frames.Rest.TheVariants.{Copies}
+use Rattle.borsh_values.specs.Cursor.{Going, pending}
+use Rattle.borsh_values.specs.Words.{name_at, Frame, Copies, definitions_of, names_of}
 use Rattle.borsh_values.proofs.Answers.{before_start, suffix_start}
-use Rattle.borsh_values.proofs.Going.{going_start}
-use Rattle.borsh_plan.specs.Plan.{definitions_of, names_of}
+use Rattle.borsh_values.proofs.Walk.{going_start}
 use Rattle.borsh_plan.proofs.Laws.{root_there}
-use Rattle.borsh_values.proofs.TableLaws.{tables_none}
+use Rattle.borsh_values.proofs.TagLaws.{tables_none}
 use Rattle.borsh_values.proofs.cursor.Cursor.new.Goals as goal
 
 pub returns-clause-cursor : goal.returns-clause-cursor

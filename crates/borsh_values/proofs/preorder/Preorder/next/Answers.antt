@@ -1,8 +1,7 @@
 use Rattle.std.proofs.Common.{◌∙◌, ap, subst}
-use Rattle.borsh_plan.specs.Names.{name_at}
-use Rattle.borsh_plan.specs.Plan.{names_of}
-use Rattle.borsh_values.specs.Cursor.{Happens, OpensFull}
-use Rattle.borsh_values.proofs.PreorderLaws.{given, goes_on, none_left, undecided}
+use Rattle.borsh_values.specs.Words.{name_at, names_of}
+use Rattle.borsh_values.specs.Cursor.{Happens}
+use Rattle.borsh_values.proofs.Stepping.{given, goes_on, none_left, undecided}
 use Rattle.borsh_values.proofs.preorder.Preorder.next.Goals as goal
 use Rattle.borsh_values.proofs.preorder.Preorder.next.Goals.{in-Fault, in-Fault-2}
 
@@ -13,7 +12,7 @@ returns-in-Open-clause-gives c =
     let at = c.in-Open.at in
     let e = c.in_ok-at.ensures in
     let b = subst (λ e. Happens now new e) c.in-Open.is e.happens in
-    let full = subst (λ e. OpensFull now e) c.in-Open.is e.full in
+    let full = e.full _ _ _ c.in-Open.is in
     given c.args.self.now (record { cursor = new; path = c.lead_on.new.path }) now c.loop-at.invariant e.stays (record { at = at; name = c.name.result; definition = c.in-Open.definition; bytes = c.in-Open.bytes; offset = c.offset-offset.result; depth = c.depth-depth.result }) b.0 (c.name.ensures ∙ ap (λ l. name_at (names_of l.now) at) e.stays.0) c.offset-offset.ensures full
 
 pub loop-at-preserved : goal.loop-at-preserved

@@ -1,5 +1,5 @@
 use Rattle.borsh_values.specs.Cursor.{steps_left}
-use Rattle.borsh_values.proofs.PreorderLaws.{NoneYet}
+use Rattle.borsh_values.proofs.Stepping.{NoneYet}
 use Rattle.borsh_values.proofs.preorder.Preorder.next.Given as goal
 
 abbrev pub invariant-loop-at : goal.invariant-loop-at

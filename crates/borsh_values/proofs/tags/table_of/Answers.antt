@@ -1,18 +1,14 @@
-use Rattle.std.proofs.Common.{◌≡◌, ℕ, length, take, List, sym, ap, subst, arith, [], length-take-le, false, ℤ}
-use Rattle.std.specs.Prelude.{string_bytes, None}
-use Rattle.std.specs.Ordering.{nat_cmp, is_eq}
-use Rattle.std.specs.Map.{lookup}
-use Rattle.std.specs.BTreeMap.{BTreeMap, is_at}
+use Rattle.std.proofs.Common.{◌≡◌, ◌∙◌, ℕ, length, take, List, sym, ap, subst, arith, [], length-take-le, false, ℤ}
+use Rattle.std.specs.Prelude.{string_bytes, unwrap_or}
+use Rattle.borsh_values.specs.Words.{nat_cmp, is_eq, lookup, BTreeMap, is_at, Found, Nothing}
 use Rattle.std.proofs.lemmas.Bool.Decides.{nat_tests}
 use Rattle.std.proofs.lemmas.List.{length-map}
-use Rattle.borsh_values.specs.TagTables.{IsTagTable, at_key}
-use Rattle.borsh_values.specs.declared.tag_tables.AtKey.{AtKey}
-use Rattle.borsh_values.proofs.FoundLaws.{unnamed, got, got_none}
-use Rattle.borsh_values.proofs.TableLaws.{table_none, table_more}
-use Rattle.borsh_values.proofs.tag_tables.table_of.Goals as goal
+use Rattle.borsh_values.specs.Tags.{IsTagTable, at_key, more_found}
+use Rattle.borsh_values.proofs.TagLaws.{unnamed, got, got_none, table_none, table_more}
+use Rattle.borsh_values.proofs.tags.table_of.Goals as goal
 
-none_at : (t : BTreeMap ℕ AtKey) (n : ℕ) → t.entries ≡ [] → at_key t n ≡ None
-none_at t n e = ap (λ l. lookup (is_at (nat_cmp n)) l) e
+none_at : (t : BTreeMap ℕ Found) (n : ℕ) → t.entries ≡ [] → at_key t n ≡ Nothing
+none_at t n e = ap (λ l. unwrap_or (lookup (is_at (nat_cmp n)) l) Nothing) e
 
 pub loop-discriminant-init : goal.loop-discriminant-init
 loop-discriminant-init c = record { within = omega arith; table = table_none c.args.width (at_key c.new-table.result) (λ n. none_at c.new-table.result n c.new-table.ensures.empty) }
@@ -34,7 +30,9 @@ loop-discriminant-preserved c =
     let u = c.in_ok-insert.ensures.updates in
     record {
       within = omega (arith, v.within);
-      table = subst (λ l. IsTagTable c.args.width l (at_key new)) (sym v.next) (table_more c.loop-discriminant.invariant.table f.0 (string_bytes f.2) key c.tag_key-key.ensures n c.entry_for-entry.result long c.entry_for-entry.ensures u.1 (λ m g. u.2 m (other_key m key g)));
+      table = subst (λ l. IsTagTable c.args.width l (at_key new)) (sym v.next) (table_more c.loop-discriminant.invariant.table f.0 (string_bytes f.2) key c.tag_key-key.ensures n long
+          (ap (λ o. unwrap_or o Nothing) u.1 ∙ c.add-found.ensures ∙ ap (λ f. more_found f n) c.found_at.ensures)
+          (λ m g. ap (λ o. unwrap_or o Nothing) (u.2 m (other_key m key g))));
     }
 
 pub returns : goal.returns

@@ -1,6 +1,6 @@
 use Rattle.borsh_walks.proofs.Tables.{updated_by}
-use Rattle.borsh_values.proofs.TableLaws.{keeps_more}
-use Rattle.borsh_values.proofs.tag_tables.find_variant_of.Goals as goal
+use Rattle.borsh_values.proofs.TagLaws.{keeps_more}
+use Rattle.borsh_values.proofs.tags.find_variant_of.Goals as goal
 
 pub returns-clause-kept : goal.returns-clause-kept
 returns-clause-kept c =

@@ -1,8 +1,8 @@
 use Rattle.std.proofs.Common.{◌≡◌, ℕ, suc, zero, ◌^◌, ◌<◌, ◌≤◌, length, drop, List, refl, sym, ◌∙◌, ap, subst, arith, length-drop}
-use Rattle.borsh_walks.specs.Container.{low_bytes}
-use Rattle.borsh_values.specs.Numbers.{value_of}
-use Rattle.borsh_values.proofs.NumberLaws.{value_written, value_small, value_under, drop_bytes}
-use Rattle.borsh_values.proofs.numbers.number.Goals as goal
+use Rattle.borsh_values.specs.Words.{low_bytes}
+use Rattle.borsh_values.specs.Tags.{value_of}
+use Rattle.borsh_values.proofs.TagLaws.{value_written, value_small, value_under, drop_bytes}
+use Rattle.borsh_values.proofs.tags.number.Goals as goal
 
 pub overflow_mul-value : goal.overflow_mul-value
 overflow_mul-value c =

@@ -1,7 +1,7 @@
 use Rattle.std.proofs.Common.{◌-◌, ◌≤◌, length, take, map}
 use Rattle.std.specs.Prelude.{string_bytes}
-use Rattle.borsh_values.specs.TagTables.{IsTagTable, at_key}
-use Rattle.borsh_values.proofs.tag_tables.table_of.Given as goal
+use Rattle.borsh_values.specs.Tags.{IsTagTable, at_key}
+use Rattle.borsh_values.proofs.tags.table_of.Given as goal
 
 abbrev pub invariant-loop-discriminant : goal.invariant-loop-discriminant
 invariant-loop-discriminant l = record { within : l.index ≤ length l.variants.items; table : IsTagTable l.width (take l.index (map (λ v. (v.0, string_bytes v.2)) l.variants.items)) (at_key l.table) }
