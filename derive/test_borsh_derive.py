@@ -504,7 +504,7 @@ class Taken(Cases):
         shutil.move(crate.folder, os.path.join(top, 'crates'))
         crate.folder = os.path.join(top, 'crates', 'sample')
         with open(os.path.join(top, 'crates.txt'), 'w', encoding='utf-8') as file:
-            file.write('sample: borsh borsh_variants borsh_schema borsh_walks borsh_io\n')
+            file.write('sample: borsh borsh_schema borsh_walks borsh_io\n')
         self.assertEqual(crate.run()[0], 0)
         before = crate.texts()
         subprocess.run(['rt', 'fmt'], cwd=crate.folder, stdout=subprocess.PIPE, stderr=subprocess.STDOUT, check=True)

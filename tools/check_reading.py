@@ -11,7 +11,7 @@ import sys
 
 CRATES = (
     "borsh_io borsh_codec borsh_de borsh_arrays borsh_enums borsh_walks borsh_plan borsh_values borsh_json borsh_compare borsh_definitions "
-    "borsh_source borsh_schema borsh_variants borsh borsh_check_lines borsh_tool_commands borsh_c"
+    "borsh_source borsh_schema borsh borsh_check_lines borsh_tool_commands borsh_c"
 ).split()
 
 FIRST = re.compile(r"^\| `(\w+/[\w/]+)` \| (\d+) \|", re.M)

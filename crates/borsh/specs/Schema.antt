@@ -12,5 +12,5 @@ pub use Rattle.borsh_definitions.proofs.Laws
 pub use Rattle.borsh_schema.specs.Containers
 pub use Rattle.borsh_schema.specs.Questions
 pub use Rattle.borsh_schema.specs.Sized
-pub use Rattle.borsh_variants.specs.Variants
-pub use Rattle.borsh_variants.proofs.DescribedCases as Cases
+pub use Rattle.borsh_schema.specs.Variants
+pub use Rattle.borsh_schema.proofs.DescribedCases as Cases

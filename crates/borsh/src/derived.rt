@@ -4,8 +4,9 @@ pub use borsh_de::{BorshDeserialize, EnumExt, FromParts, read_parts};
 pub use borsh_enums::{Case, Cases, Fork, FromCases, Tag, read_enum, read_variant};
 pub use borsh_io::{Read, Result, Write};
 pub use borsh_schema::{
-    BorshSchema, DefinitionMap, FieldTypes, SchemaResult, add_named, add_unit, add_unnamed,
-    declared,
+    BorshSchema, CaseWith, DefinitionMap, FieldTypes, SchemaResult, VariantTypes, add_enum,
+    add_enum_with, add_named, add_named_with, add_unit, add_unnamed, add_unnamed_with, declared,
+    declared_with,
 };
 pub use borsh_ser::{
     BorshSerialize, bytes_length, joined_length, put_bytes, put_eight, put_eleven, put_five,
@@ -14,10 +15,6 @@ pub use borsh_ser::{
     write_ten, write_three, write_twelve, write_two,
 };
 pub use borsh_types::{BorshKey, BorshType};
-pub use borsh_variants::{
-    CaseWith, VariantTypes, add_enum, add_enum_with, add_named_with, add_unnamed_with,
-    declared_with,
-};
 pub use borsh_walks::Declaration;
 pub use std::alloc::Global;
 

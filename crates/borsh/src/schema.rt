@@ -1,12 +1,9 @@
 // Schemas: which bytes a type has, as a map from names to definitions.
 pub use borsh_schema::{
-    BorshSchema, BorshSchemaContainer, Both, DefinitionMap, Definitions, FieldTypes,
-    SchemaBuildError, SchemaParts, SchemaResult, add_definition, add_named, add_tagged_enum,
-    add_unit, add_unnamed, add_with_parts, declared, field, named_variant, variant,
-};
-pub use borsh_variants::{
-    CaseWith, VariantTypes, add_enum, add_enum_with, add_named_with, add_unnamed_with,
-    declared_with,
+    BorshSchema, BorshSchemaContainer, CaseWith, DefinitionMap, Definitions, FieldTypes,
+    SchemaBuildError, SchemaResult, VariantTypes, add_definition, add_enum, add_enum_with,
+    add_named, add_named_with, add_unit, add_unnamed, add_unnamed_with, add_with_parts, declared,
+    declared_with, field, variant,
 };
 pub use borsh_walks::{
     Counted, Declaration, Definition, DiscriminantValue, Expansions, FieldName, Fields,

@@ -1,5 +1,5 @@
 -- The names of types that are made of other types.
-use Rattle.std.specs.Prelude.{◌≡◌, ℕ, ℤ, pos, List, [], ◌∷◌, ◌++◌, map, codes, decimal, String, string_bytes}
+use Rattle.std.specs.Prelude.{◌≡◌, ℕ, List, [], ◌∷◌, ◌++◌, map, codes, decimal, String, string_bytes}
 use Rattle.std.specs.Global.{Global}
 use Rattle.std.specs.Borrow.{Bor}
 
@@ -49,10 +49,3 @@ abbrev pub beside : {A B : Type 0} → List A → List B → List (A × B)
 beside xs [] = []
 beside [] (y ∷ ys) = []
 beside (x ∷ xs) (y ∷ ys) = (x, y) ∷ beside xs ys
-
--- tag, name and type of each variant
-abbrev pub listed_variants : List ℕ → List (List ℕ) → List (List ℕ) → List (ℤ × List ℕ × List ℕ)
-listed_variants [] ns ds = []
-listed_variants (t ∷ ts) [] ds = []
-listed_variants (t ∷ ts) (n ∷ ns) [] = []
-listed_variants (t ∷ ts) (n ∷ ns) (d ∷ ds) = (pos t, n, d) ∷ listed_variants ts ns ds

@@ -1,7 +1,7 @@
 -- What the types of the standard library bring: their names and definitions.
 use Rattle.std.specs.Prelude.{ℕ, pos, List, [], ◌∷◌, codes}
 use Rattle.borsh_definitions.specs.Described.{NamedDefinition, bytes, list, tuple, variants, named, unnamed, no_fields, DefinitionTree, none, defined, both}
-use Rattle.borsh_definitions.specs.Names.{applied, applied_to_two, tuple_name, beside, listed_variants}
+use Rattle.borsh_definitions.specs.Names.{applied, applied_to_two, tuple_name, beside}
 
 -- a name for so many bytes
 abbrev pub primitive_definitions : List ℕ → ℕ → DefinitionTree
@@ -64,7 +64,3 @@ unnamed_struct name types parts = defined name (unnamed types) parts
 
 abbrev pub unit_struct : List ℕ → DefinitionTree
 unit_struct name = defined name no_fields none
-
--- an enum: its name, the tag, the name and the type of each variant, and the definitions of the types
-abbrev pub tagged_enum : List ℕ → List ℕ → List (List ℕ) → List (List ℕ) → DefinitionTree → DefinitionTree
-tagged_enum name tags names types parts = defined name (variants 1 (listed_variants tags names types)) parts

@@ -4,14 +4,14 @@ ghost use Rattle.borsh.specs.Schema.Container.{first_variant, later_variant};
 ghost use Rattle.borsh.specs.Schema.Laws.Members.{describes_contramap, describes_number, describes_elements, describes_unit, describes_parts, describes_choice, all_none, all_one, choice_more, choice_none};
 ghost use Rattle.borsh.specs.Schema.Laws.Quoted.{struct_described, struct_parts};
 ghost use Rattle.borsh_samples.specs.MyEnum.{my_enum, my_enum_view};
-ghost use Rattle.borsh_samples.specs.Schemas.{zero_definitions, one_definitions, many_definitions, my_enum_definitions};
+ghost use Rattle.borsh_samples.specs.Schemas.{my_enum_definitions};
 
 use super::my_enum::MyEnum;
 use super::readme::A;
 use borsh::BorshSchema;
+use borsh::derived::{Case, Fork};
 use borsh::schema::{
-    Both, Declaration, DefinitionMap, FieldTypes, SchemaParts, SchemaResult, add_named,
-    add_tagged_enum, add_unit, add_unnamed, declared,
+    Declaration, DefinitionMap, FieldTypes, SchemaResult, add_enum, add_named, declared,
 };
 use std::alloc::Global;
 
@@ -33,39 +33,6 @@ impl BorshSchema for A {
     }
 
     ghost describes = { Self.described.describes };
-}
-
-/// The definitions of the part of `MyEnum::Zero`, which has a name of its own.
-struct ZeroPart;
-
-impl SchemaParts for ZeroPart {
-    ghost all_parts = { zero_definitions };
-
-    fn add_all(alloc: Global, definitions: &mut DefinitionMap) -> SchemaResult<()> {
-        add_unit(alloc, "MyEnum__Zero", definitions)
-    }
-}
-
-/// The fields of `MyEnum::One`.
-struct OnePart;
-
-impl SchemaParts for OnePart {
-    ghost all_parts = { one_definitions };
-
-    fn add_all(alloc: Global, definitions: &mut DefinitionMap) -> SchemaResult<()> {
-        add_unnamed::<(u8, ())>(alloc, "MyEnum__One", definitions)
-    }
-}
-
-/// The fields of `MyEnum::Many`.
-struct ManyPart;
-
-impl SchemaParts for ManyPart {
-    ghost all_parts = { many_definitions };
-
-    fn add_all(alloc: Global, definitions: &mut DefinitionMap) -> SchemaResult<()> {
-        add_unnamed::<(Vec<u8>, ())>(alloc, "MyEnum__Many", definitions)
-    }
 }
 
 impl BorshSchema for MyEnum {
@@ -97,12 +64,10 @@ impl BorshSchema for MyEnum {
     }
 
     fn add_definitions_recursively(alloc: Global, map: &mut DefinitionMap) -> SchemaResult<()> {
-        add_tagged_enum::<Both<ZeroPart, Both<OnePart, ManyPart>>>(
+        add_enum::<Fork<Case<0, ()>, Fork<Case<1, (u8, ())>, Case<2, (Vec<u8>, ())>>>>(
             alloc,
             "MyEnum",
-            &[0, 1, 2],
-            &["Zero", "One", "Many"],
-            &["MyEnum__Zero", "MyEnum__One", "MyEnum__Many"],
+            &[("Zero", &[]), ("One", &[]), ("Many", &[])],
             map,
         )
     }

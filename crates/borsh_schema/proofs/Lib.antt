@@ -5,3 +5,6 @@ pub mod Containing
 pub mod Built
 pub mod Outcomes
 mod Counted
+pub mod DescribedCases
+pub mod DescribedGroups
+mod Steps

@@ -6,3 +6,4 @@ pub mod Questions
 pub mod Errors
 pub mod Sized
 pub use Rattle.borsh_walks.specs.Container
+pub mod Variants

@@ -3,14 +3,16 @@ ghost use Rattle.std.specs.Prelude.{codes, refl};
 ghost use Rattle.std.specs.Net.Addr.{ipv4_octets, ipv6_octets};
 ghost use Rattle.borsh_codec.specs.Types.Addresses.{ip, ip_view};
 ghost use Rattle.borsh_walks.specs.Container.{first_variant, later_variant};
-ghost use Rattle.borsh_definitions.specs.Addresses.{ipv4_definitions, ipv6_definitions, v4_variant, v6_variant, ip_address_definitions};
+ghost use Rattle.borsh_definitions.specs.Addresses.{ipv4_definitions, ipv6_definitions, ip_address_definitions};
 ghost use Rattle.borsh_definitions.proofs.Laws.Members.{describes_contramap, describes_choice, describes_number, describes_parts, describes_row, all_one, choice_more, choice_none};
 ghost use Rattle.borsh_definitions.proofs.Laws.Quoted.{struct_described};
 
 use super::definitions::{DefinitionMap, SchemaResult};
-use super::fields::{FieldTypes, add_named, add_tagged_enum, add_unnamed};
-use super::parts::{Both, SchemaParts, declared};
+use super::fields::{FieldTypes, add_named};
+use super::parts::declared;
 use super::schema::BorshSchema;
+use super::variants::add_enum;
+use borsh_enums::{Case, Fork};
 use borsh_walks::Declaration;
 use std::alloc::Global;
 use std::net::{IpAddr, Ipv4Addr, Ipv6Addr};
@@ -53,28 +55,6 @@ impl BorshSchema for Ipv6Addr {
     ghost describes = { Self.described.describes };
 }
 
-// The part of `IpAddr::V4`.
-struct V4Variant;
-
-impl SchemaParts for V4Variant {
-    ghost all_parts = { v4_variant };
-
-    fn add_all(alloc: Global, definitions: &mut DefinitionMap) -> SchemaResult<()> {
-        add_unnamed::<(Ipv4Addr, ())>(alloc, "IpAddr__V4", definitions)
-    }
-}
-
-// The part of `IpAddr::V6`.
-struct V6Variant;
-
-impl SchemaParts for V6Variant {
-    ghost all_parts = { v6_variant };
-
-    fn add_all(alloc: Global, definitions: &mut DefinitionMap) -> SchemaResult<()> {
-        add_unnamed::<(Ipv6Addr, ())>(alloc, "IpAddr__V6", definitions)
-    }
-}
-
 impl BorshSchema for IpAddr {
     ghost name = { codes "IpAddr" };
 
@@ -104,12 +84,10 @@ impl BorshSchema for IpAddr {
     }
 
     fn add_definitions_recursively(alloc: Global, map: &mut DefinitionMap) -> SchemaResult<()> {
-        add_tagged_enum::<Both<V4Variant, V6Variant>>(
+        add_enum::<Fork<Case<0, (Ipv4Addr, ())>, Case<1, (Ipv6Addr, ())>>>(
             alloc,
             "IpAddr",
-            &[0, 1],
-            &["V4", "V6"],
-            &["IpAddr__V4", "IpAddr__V6"],
+            &[("V4", &[]), ("V6", &[])],
             map,
         )
     }

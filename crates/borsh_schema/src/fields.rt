@@ -2,17 +2,17 @@
 // [`BorshSchema::add_definitions_recursively`].
 ghost use Rattle.std.specs.Prelude.{◌≡◌, ◌++◌, IfErr, OnOk, map, string_bytes};
 ghost use Rattle.borsh_schema.specs.declared.definitions.SchemaBuildError.TheVariants.{OutOfMemory};
-ghost use Rattle.borsh_definitions.specs.Described.{field_bytes, variant_bytes};
+ghost use Rattle.borsh_definitions.specs.Described.{field_bytes};
 ghost use Rattle.borsh_schema.specs.Joined.{AddsDefinitions};
 ghost use Rattle.borsh_definitions.specs.Language.{DescribedFields};
 ghost use Rattle.borsh_definitions.proofs.Laws.Quoted.{fields_described, no_fields_described};
-ghost use Rattle.borsh_definitions.specs.Names.{AppendsNames, AppendsFollowing, texts, beside, listed_variants};
-ghost use Rattle.borsh_definitions.specs.Types.{named_struct, unnamed_struct, unit_struct, tagged_enum};
+ghost use Rattle.borsh_definitions.specs.Names.{AppendsNames, AppendsFollowing, texts, beside};
+ghost use Rattle.borsh_definitions.specs.Types.{named_struct, unnamed_struct, unit_struct};
 
 use super::definitions::{DefinitionMap, SchemaResult};
-use super::parts::{SchemaParts, add_with_parts, declared};
+use super::parts::{add_with_parts, declared};
 use super::schema::BorshSchema;
-use borsh_walks::{Declaration, Definition, DiscriminantValue, FieldName, Fields, VariantName};
+use borsh_walks::{Declaration, Definition, FieldName, Fields};
 use std::alloc::Global;
 
 /// The types of fields, one after another, as `(A, (B, ()))`.
@@ -179,58 +179,4 @@ pub fn add_unit(alloc: Global, name: &str, definitions: &mut DefinitionMap) -> S
     let fields = Fields::Empty;
     let definition = Definition::Struct { fields };
     add_with_parts::<()>(alloc, declaration, definition, definitions)
-}
-
-// Puts variants of these tags, names and types at the end of the list.
-fn push_variants(
-    alloc: Global,
-    tags: &[u8],
-    names: &[&str],
-    types: &[&str],
-    list: &mut Vec<(DiscriminantValue, VariantName, Declaration)>,
-) -> SchemaResult<()>
-    ensures ok { OnOk result (map variant_bytes list.new.items
-        ≡ map variant_bytes list.old.items
-        ++ listed_variants tags.now (texts names.now) (texts types.now)) }
-    ensures err { IfErr result (λ e. e ≡ OutOfMemory) }
-{
-    if let [tag, tags @ ..] = tags {
-        if let [name, names @ ..] = names {
-            if let [variant, types @ ..] = types {
-                let name = declared(alloc, name)?;
-                let variant = declared(alloc, variant)?;
-                list.push((i64::from(*tag), name, variant))?;
-                return push_variants(alloc, tags, names, types, list);
-            }
-        }
-    }
-    Ok(())
-}
-
-/// Adds an enum whose variants have these tags, names and types, and the definitions of the types, `P`.
-/// The answers are those of [`BorshSchema::add_definitions_recursively`].
-///
-/// ```
-/// let types = &["u64", "String"];
-/// add_tagged_enum::<(u64, String)>(alloc, "Event", &[0, 7], &["Paid", "Named"], types, definitions)?;
-/// ```
-pub fn add_tagged_enum<P: SchemaParts>(
-    alloc: Global,
-    name: &str,
-    tags: &[u8],
-    names: &[&str],
-    types: &[&str],
-    definitions: &mut DefinitionMap,
-) -> SchemaResult<()>
-    ensures { AddsDefinitions definitions.old definitions.new
-        (tagged_enum name.now tags.now (texts names.now) (texts types.now) P.all_parts) result }
-{
-    let mut variants = Vec::with_capacity(alloc, tags.len())?;
-    push_variants(alloc, tags, names, types, &mut variants)?;
-    let declaration = declared(alloc, name)?;
-    let definition = Definition::Enum {
-        tag_width: 1,
-        variants,
-    };
-    add_with_parts::<P>(alloc, declaration, definition, definitions)
 }

@@ -4,13 +4,15 @@ ghost use Rattle.borsh_walks.specs.Codecs.{length_range, fields, definition};
 ghost use Rattle.borsh_schema.specs.Codecs.{container, container_pair};
 ghost use Rattle.borsh_definitions.proofs.Laws.Members.{describes_contramap};
 ghost use Rattle.borsh_definitions.proofs.Laws.Own.{length_range_described, fields_described, definition_described, container_described};
-ghost use Rattle.borsh_definitions.specs.Own.{length_range_name, length_range_definitions, fields_definitions, named_fields_variant, unnamed_fields_variant, empty_variant, definition_definitions, primitive_variant, sequence_variant, tuple_variant, enum_variant, struct_variant, container_definitions};
+ghost use Rattle.borsh_definitions.specs.Own.{length_range_name, length_range_definitions, fields_definitions, definition_definitions, container_definitions};
 
 use super::container::BorshSchemaContainer;
 use super::definitions::{DefinitionMap, SchemaResult};
-use super::fields::{add_named, add_tagged_enum, add_unit, add_unnamed};
-use super::parts::{Both, SchemaParts, add_with_parts, declared, field};
+use super::fields::add_named;
+use super::parts::{add_with_parts, declared, field};
 use super::schema::BorshSchema;
+use super::variants::add_enum;
+use borsh_enums::{Case, Fork};
 use borsh_walks::{
     Declaration, Definition, DiscriminantValue, FieldName, Fields, LengthRange, VariantName,
 };
@@ -39,43 +41,6 @@ impl BorshSchema for LengthRange {
     ghost describes = { Self.described.describes };
 }
 
-// The part of `Fields::NamedFields`.
-struct NamedFieldsVariant;
-
-impl SchemaParts for NamedFieldsVariant {
-    ghost all_parts = { named_fields_variant };
-
-    fn add_all(alloc: Global, definitions: &mut DefinitionMap) -> SchemaResult<()> {
-        add_unnamed::<(Vec<(FieldName, Declaration)>, ())>(
-            alloc,
-            "Fields__NamedFields",
-            definitions,
-        )
-    }
-}
-
-// The part of `Fields::UnnamedFields`.
-struct UnnamedFieldsVariant;
-
-impl SchemaParts for UnnamedFieldsVariant {
-    ghost all_parts = { unnamed_fields_variant };
-
-    fn add_all(alloc: Global, definitions: &mut DefinitionMap) -> SchemaResult<()> {
-        add_unnamed::<(Vec<Declaration>, ())>(alloc, "Fields__UnnamedFields", definitions)
-    }
-}
-
-// The part of `Fields::Empty`.
-struct EmptyVariant;
-
-impl SchemaParts for EmptyVariant {
-    ghost all_parts = { empty_variant };
-
-    fn add_all(alloc: Global, definitions: &mut DefinitionMap) -> SchemaResult<()> {
-        add_unit(alloc, "Fields__Empty", definitions)
-    }
-}
-
 impl BorshSchema for Fields {
     ghost name = { codes "Fields" };
 
@@ -88,86 +53,20 @@ impl BorshSchema for Fields {
     }
 
     fn add_definitions_recursively(alloc: Global, map: &mut DefinitionMap) -> SchemaResult<()> {
-        add_tagged_enum::<Both<NamedFieldsVariant, Both<UnnamedFieldsVariant, EmptyVariant>>>(
+        add_enum::<
+            Fork<
+                Case<0, (Vec<(FieldName, Declaration)>, ())>,
+                Fork<Case<1, (Vec<Declaration>, ())>, Case<2, ()>>,
+            >,
+        >(
             alloc,
             "Fields",
-            &[0, 1, 2],
-            &["NamedFields", "UnnamedFields", "Empty"],
-            &[
-                "Fields__NamedFields",
-                "Fields__UnnamedFields",
-                "Fields__Empty",
-            ],
+            &[("NamedFields", &[]), ("UnnamedFields", &[]), ("Empty", &[])],
             map,
         )
     }
 
     ghost describes = { Self.described.describes };
-}
-
-// The part of `Definition::Primitive`.
-struct PrimitiveVariant;
-
-impl SchemaParts for PrimitiveVariant {
-    ghost all_parts = { primitive_variant };
-
-    fn add_all(alloc: Global, definitions: &mut DefinitionMap) -> SchemaResult<()> {
-        add_unnamed::<(u8, ())>(alloc, "Definition__Primitive", definitions)
-    }
-}
-
-// The parts of `Definition::Sequence`.
-struct SequenceVariant;
-
-impl SchemaParts for SequenceVariant {
-    ghost all_parts = { sequence_variant };
-
-    fn add_all(alloc: Global, definitions: &mut DefinitionMap) -> SchemaResult<()> {
-        add_named::<(u8, (LengthRange, (Declaration, ())))>(
-            alloc,
-            "Definition__Sequence",
-            &["length_width", "length_range", "elements"],
-            definitions,
-        )
-    }
-}
-
-// The part of `Definition::Tuple`.
-struct TupleVariant;
-
-impl SchemaParts for TupleVariant {
-    ghost all_parts = { tuple_variant };
-
-    fn add_all(alloc: Global, definitions: &mut DefinitionMap) -> SchemaResult<()> {
-        add_named::<(Vec<Declaration>, ())>(alloc, "Definition__Tuple", &["elements"], definitions)
-    }
-}
-
-// The parts of `Definition::Enum`.
-struct EnumVariant;
-
-impl SchemaParts for EnumVariant {
-    ghost all_parts = { enum_variant };
-
-    fn add_all(alloc: Global, definitions: &mut DefinitionMap) -> SchemaResult<()> {
-        add_named::<(u8, (Vec<(DiscriminantValue, VariantName, Declaration)>, ()))>(
-            alloc,
-            "Definition__Enum",
-            &["tag_width", "variants"],
-            definitions,
-        )
-    }
-}
-
-// The part of `Definition::Struct`.
-struct StructVariant;
-
-impl SchemaParts for StructVariant {
-    ghost all_parts = { struct_variant };
-
-    fn add_all(alloc: Global, definitions: &mut DefinitionMap) -> SchemaResult<()> {
-        add_named::<(Fields, ())>(alloc, "Definition__Struct", &["fields"], definitions)
-    }
 }
 
 impl BorshSchema for Definition {
@@ -182,22 +81,29 @@ impl BorshSchema for Definition {
     }
 
     fn add_definitions_recursively(alloc: Global, map: &mut DefinitionMap) -> SchemaResult<()> {
-        add_tagged_enum::<
-            Both<
-                PrimitiveVariant,
-                Both<SequenceVariant, Both<TupleVariant, Both<EnumVariant, StructVariant>>>,
+        add_enum::<
+            Fork<
+                Case<0, (u8, ())>,
+                Fork<
+                    Case<1, (u8, (LengthRange, (Declaration, ())))>,
+                    Fork<
+                        Case<2, (Vec<Declaration>, ())>,
+                        Fork<
+                            Case<3, (u8, (Vec<(DiscriminantValue, VariantName, Declaration)>, ()))>,
+                            Case<4, (Fields, ())>,
+                        >,
+                    >,
+                >,
             >,
         >(
             alloc,
             "Definition",
-            &[0, 1, 2, 3, 4],
-            &["Primitive", "Sequence", "Tuple", "Enum", "Struct"],
             &[
-                "Definition__Primitive",
-                "Definition__Sequence",
-                "Definition__Tuple",
-                "Definition__Enum",
-                "Definition__Struct",
+                ("Primitive", &[]),
+                ("Sequence", &["length_width", "length_range", "elements"]),
+                ("Tuple", &["elements"]),
+                ("Enum", &["tag_width", "variants"]),
+                ("Struct", &["fields"]),
             ],
             map,
         )

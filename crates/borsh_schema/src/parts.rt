@@ -1,7 +1,7 @@
 // The definitions of a type and of its parts, one after another. Left open of each call: memory.
 ghost use Rattle.std.specs.Prelude.{◌≡◌, IfOk, IfErr, string_bytes};
 ghost use Rattle.borsh_schema.specs.declared.definitions.SchemaBuildError.TheVariants.{OutOfMemory};
-ghost use Rattle.borsh_definitions.specs.Described.{DefinitionTree, none, both, defined};
+ghost use Rattle.borsh_definitions.specs.Described.{none, both, defined};
 ghost use Rattle.borsh_schema.specs.Joined.{AddsDefinitions, definition_with};
 ghost use Rattle.borsh_definitions.specs.Types.{primitive_definitions, list_of};
 
@@ -10,47 +10,6 @@ use super::fields::FieldTypes;
 use super::schema::BorshSchema;
 use borsh_walks::{Declaration, Definition, DiscriminantValue, FieldName, VariantName};
 use std::alloc::Global;
-use std::marker::PhantomData;
-
-/// Several types whose definitions are added to a map: `(A, (B, (C, ())))` are `A`, `B` and `C`
-/// ([`FieldTypes`]), and [`Both`] joins two of them.
-pub trait SchemaParts {
-    ghost all_parts: { DefinitionTree };
-
-    /// Adds the definitions of all of them, with the errors of
-    /// [`BorshSchema::add_definitions_recursively`]. Left open: as there.
-    ///
-    /// ```
-    /// <(u8, (String, ()))>::add_all(alloc, &mut definitions)?;
-    /// ```
-    fn add_all(alloc: Global, definitions: &mut DefinitionMap) -> SchemaResult<()>
-        ensures { AddsDefinitions definitions.old definitions.new all_parts result };
-}
-
-impl<P: FieldTypes> SchemaParts for P {
-    ghost all_parts = { P.described.parts };
-
-    #[inline]
-    fn add_all(alloc: Global, definitions: &mut DefinitionMap) -> SchemaResult<()> {
-        P::add_types(alloc, definitions)
-    }
-}
-
-/// The types of `P`, and then those of `Q`.
-#[derive(Drop)]
-pub struct Both<P, Q> {
-    _lists: PhantomData<(P, Q)>,
-}
-
-impl<P: SchemaParts, Q: SchemaParts> SchemaParts for Both<P, Q> {
-    ghost all_parts = { both P.all_parts Q.all_parts };
-
-    #[inline]
-    fn add_all(alloc: Global, definitions: &mut DefinitionMap) -> SchemaResult<()> {
-        P::add_all(alloc, definitions)?;
-        Q::add_all(alloc, definitions)
-    }
-}
 
 /// Adds a type's definition and those of its parts, which are given as `(A, (B, ()))`. The errors are
 /// those of [`BorshSchema::add_definitions_recursively`]. Left open: as there.
@@ -58,17 +17,17 @@ impl<P: SchemaParts, Q: SchemaParts> SchemaParts for Both<P, Q> {
 /// ```
 /// add_with_parts::<(u64, (String, ()))>(alloc, name, Definition::Struct { fields }, definitions)?;
 /// ```
-pub fn add_with_parts<P: SchemaParts>(
+pub fn add_with_parts<P: FieldTypes>(
     alloc: Global,
     declaration: Declaration,
     definition: Definition,
     definitions: &mut DefinitionMap,
 ) -> SchemaResult<()>
     ensures { AddsDefinitions definitions.old definitions.new
-        (definition_with declaration definition P.all_parts) result }
+        (definition_with declaration definition P.described.parts) result }
 {
     add_definition(declaration, definition, definitions)?;
-    P::add_all(alloc, definitions)
+    P::add_types(alloc, definitions)
 }
 
 /// A name as a `String`. The error is always `OutOfMemory`.
@@ -112,30 +71,6 @@ pub fn variant<T: BorshSchema>(
     ensures err { IfErr result (λ e. e ≡ OutOfMemory) }
 {
     Ok((discriminant, declared(alloc, name)?, T::declaration(alloc)?))
-}
-
-/// A variant whose fields have a definition under this name, and no type. The error is always
-/// `OutOfMemory`.
-///
-/// ```
-/// let paid = named_variant(alloc, 1, "Paid", "Event__Paid")?;
-/// ```
-pub fn named_variant(
-    alloc: Global,
-    discriminant: DiscriminantValue,
-    name: &str,
-    declaration: &str,
-) -> SchemaResult<(DiscriminantValue, VariantName, Declaration)>
-    ensures discriminant { IfOk result (λ v. v.0 ≡ discriminant) }
-    ensures name { IfOk result (λ v. string_bytes v.1 ≡ name.now) }
-    ensures declaration { IfOk result (λ v. string_bytes v.2 ≡ declaration.now) }
-    ensures err { IfErr result (λ e. e ≡ OutOfMemory) }
-{
-    Ok((
-        discriminant,
-        declared(alloc, name)?,
-        declared(alloc, declaration)?,
-    ))
 }
 
 // Adds a name for so many bytes.

@@ -2,11 +2,11 @@ use Rattle.std.proofs.Common.{◌++◌, ◌∙◌, ap, refl}
 use Rattle.std.specs.Prelude.{map}
 use Rattle.std.specs.Slice.Iter.{iter_rest}
 use Rattle.borsh_definitions.specs.Described.{variant_bytes, variants}
-use Rattle.borsh_variants.specs.Variants.{variant_names}
+use Rattle.borsh_schema.specs.Variants.{variant_names}
 use Rattle.borsh_schema.proofs.Outcomes.{adds_defined}
-use Rattle.borsh_variants.proofs.Steps.{adds_then_left}
+use Rattle.borsh_schema.proofs.Steps.{adds_then_left}
 use Rattle.borsh_schema.proofs.Built.{adds_as}
-use Rattle.borsh_variants.proofs.variants.add_enum_as.Goals as goal
+use Rattle.borsh_schema.proofs.variants.add_enum_as.Goals as goal
 
 pub returns : goal.returns
 returns g c =

@@ -1,6 +1,6 @@
 use Rattle.std.proofs.Common.{refl, ◌∙◌}
 use Rattle.borsh_schema.proofs.Built.{adds_as}
-use Rattle.borsh_variants.proofs.parameters.add_unnamed_with.Goals as goal
+use Rattle.borsh_schema.proofs.parameters.add_unnamed_with.Goals as goal
 
 pub returns : goal.returns
 returns g c = adds_as (c.as_str.ensures.value ∙ c.in_ok-declaration.ensures.ok) refl c.add_unnamed.ensures

@@ -5,13 +5,14 @@ ghost use Rattle.borsh_schema.specs.declared.definitions.SchemaBuildError.TheVar
 ghost use Rattle.borsh_definitions.specs.Described.{defined, named_fields, variant_bytes};
 ghost use Rattle.borsh_schema.specs.Joined.{AddsDefinitions};
 ghost use Rattle.borsh_definitions.specs.Names.{texts};
-ghost use Rattle.borsh_variants.specs.Variants.{ReadsVariants, enum_definitions, enum_definitions_as, name_with, read_case, read_case_with, read_fork, variant_fields, variant_names, variant_type};
+ghost use Rattle.borsh_schema.specs.Variants.{ReadsVariants, enum_definitions, enum_definitions_as, name_with, read_case, read_case_with, read_fork, variant_fields, variant_names, variant_type};
 
+use super::definitions::{DefinitionMap, SchemaResult, add_definition};
+use super::fields::FieldTypes;
 use super::parameters::declared_with;
+use super::parts::{add_with_parts, declared};
+use super::schema::BorshSchema;
 use borsh_enums::{Case, Fork, TagOf};
-use borsh_schema::{
-    BorshSchema, DefinitionMap, FieldTypes, SchemaResult, add_definition, add_with_parts, declared,
-};
 use borsh_walks::{Declaration, Definition, DiscriminantValue, Fields, VariantName};
 use std::alloc::Global;
 use std::slice::Iter;
@@ -38,7 +39,7 @@ pub trait VariantTypes {
 
     /// Adds the definition of each variant's fields, under the name of the enum, two underscores and the
     /// variant's name, and those of their types. The answers are those of
-    /// [`BorshSchema::add_definitions_recursively`](borsh_schema::BorshSchema::add_definitions_recursively).
+    /// [`BorshSchema::add_definitions_recursively`].
     /// Left open: as there; what `names` has left after an error.
     fn add_variants(
         alloc: Global,
@@ -251,7 +252,7 @@ fn add_enum_as<V: VariantTypes>(
 
 /// Adds an enum with the variants `V`, whose names and names of fields are given, and the definitions of
 /// their fields. The answers are those of
-/// [`BorshSchema::add_definitions_recursively`](borsh_schema::BorshSchema::add_definitions_recursively).
+/// [`BorshSchema::add_definitions_recursively`].
 /// Left open: as there.
 ///
 /// ```

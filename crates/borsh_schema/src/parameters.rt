@@ -4,9 +4,11 @@ ghost use Rattle.borsh_schema.specs.declared.definitions.SchemaBuildError.TheVar
 ghost use Rattle.borsh_schema.specs.Joined.{AddsDefinitions};
 ghost use Rattle.borsh_definitions.specs.Names.{texts};
 ghost use Rattle.borsh_definitions.specs.Types.{named_struct, unnamed_struct};
-ghost use Rattle.borsh_variants.specs.Variants.{name_with};
+ghost use Rattle.borsh_schema.specs.Variants.{name_with};
 
-use borsh_schema::{BorshSchema, DefinitionMap, FieldTypes, SchemaResult, add_named, add_unnamed};
+use super::definitions::{DefinitionMap, SchemaResult};
+use super::fields::{FieldTypes, add_named, add_unnamed};
+use super::schema::BorshSchema;
 use borsh_walks::Declaration;
 use std::alloc::Global;
 
@@ -32,7 +34,7 @@ pub fn declared_with<T: BorshSchema, R: FieldTypes>(
 
 /// Adds a struct whose parameters are `T` and those of `R`, with these names of fields, and the definitions of
 /// their types, `P`. The answers are those of
-/// [`BorshSchema::add_definitions_recursively`](borsh_schema::BorshSchema::add_definitions_recursively).
+/// [`BorshSchema::add_definitions_recursively`].
 /// Left open: as there.
 ///
 /// ```

@@ -1,6 +1,6 @@
 use Rattle.borsh_schema.proofs.Outcomes.{adds_exit_first}
-use Rattle.borsh_variants.proofs.Steps.{adds_then_left}
-use Rattle.borsh_variants.proofs.variants.ForkVariantTypes.add_variants.Goals as goal
+use Rattle.borsh_schema.proofs.Steps.{adds_then_left}
+use Rattle.borsh_schema.proofs.variants.ForkVariantTypes.add_variants.Goals as goal
 
 pub returns-in_err-add_variants-clause-outcome : goal.returns-in_err-add_variants-clause-outcome
 returns-in_err-add_variants-clause-outcome g c = adds_exit_first _ _ c.from_residual.ensures.1 c.in_err-add_variants.ensures.outcome

@@ -1,3 +1,0 @@
-pub mod DescribedCases
-pub mod DescribedGroups
-mod Steps
