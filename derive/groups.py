@@ -1,6 +1,6 @@
-"""Many items in groups, since a tuple has twelve places at most: what the parts of a struct or a variant of many fields are."""
+"""Many items in groups of twelve at most, as one call writes: what the parts of a struct or a variant of many fields are."""
 
-# the most places of a tuple, and the most parts that are written in one call
+# the most places of a tuple here, and the most parts that are written in one call
 TUPLE = 12
 
 

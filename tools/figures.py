@@ -14,11 +14,11 @@ TOP = pathlib.Path(__file__).resolve().parent.parent
 
 # What may not be passed: of the lines, 31,000, 900 for floats, `Arc`, `Cow` and what came with them, 2,500 for values by their
 # container, one after another too, 2,000 for their JSON and the calls from C, 600 for types of many fields and of what is no JSON, 600
-# for lengths without writing, and 6,900 for types by their text and for two containers compared, also
-# from C, of which 3,200 are to go.
+# for lengths without writing, 1,200 for tuples of thirteen to twenty places, which are written by tools/registers.py, and 6,900 for
+# types by their text and for two containers compared, also from C, of which 3,200 are to go.
 BARS = {
     "crates": 30,
-    "lines of .rt": 45600,
+    "lines of .rt": 46800,
     "of these, tests and examples": 9000,
     "must-fail edits": 75,
     "crates with must-fail edits": 8,

@@ -379,17 +379,15 @@ def ser_proof(it):
     calls = ["serialize"] + [f"serialize-{place}" for place in range(2, it.places - CALLED + 1)]
 
     def behind(place, last):
-        for call in reversed(calls[:place]):
-            last = f"writes_then g.met.W.Write.lawful _ c.in_ok-{call}.ensures ({last})"
+        for letter, call in reversed(list(zip(it.letters, calls))[:place]):
+            last = f"writes_then g.met.W.Write.lawful g.{letter}.BorshType.codec.encoding_allocates c.in_ok-{call}.ensures ({last})"
         return last
 
-    exits = "".join(
-        f"""
-pub returns-in_err-{call} : goal.returns-in_err-{call}
-returns-in_err-{call} g c = {behind(place, f"writes_exit_first g.met.W.Write.lawful _ _ _ c.from_residual.ensures.1 c.in_err-{call}.ensures")}
-"""
-        for place, call in enumerate(calls)
-    )
+    exits = ""
+    for place, call in enumerate(calls):
+        residual = f"from_residual-in_err-{call}" if place else "from_residual"
+        exit = f"writes_exit_first g.met.W.Write.lawful _ _ _ c.{residual}.ensures.1 c.in_err-{call}.ensures"
+        exits += f"\npub returns-in_err-{call} : goal.returns-in_err-{call}\nreturns-in_err-{call} g c = {behind(place, exit)}\n"
     return f"""use Rattle.borsh_codec.proofs.WriteOutcomes.{{writes_exit_first, writes_then}}
 use Rattle.borsh_ser.proofs.tuples.Tuple{it.places}BorshSerialize.serialize.Goals as goal
 {exits}
