@@ -1,6 +1,6 @@
 // What changed, in words.
 
-use crate::definitions::{Both, indexes_of, is_product};
+use crate::definitions::{Both, Variants, indexes_of, is_product};
 use crate::pairs::{Pair, Pairs};
 use crate::paths::{path_to, written};
 use borsh_values::{Name, Path};
@@ -54,8 +54,6 @@ impl<'a> fmt::Display for Change<'a> {
         }
     }
 }
-
-type Variants = Vec<(DiscriminantValue, VariantName, Declaration)>;
 
 // What changed of the variants of an enum.
 fn of_variants<'a>(
