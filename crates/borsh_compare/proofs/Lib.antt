@@ -7,3 +7,4 @@ pub mod Included
 pub mod Tables
 pub mod Staying
 pub mod Saying
+pub mod Found

@@ -23,7 +23,7 @@ listed [] l = elim l [ ]
 listed (v ∷ vs) this = (zero, refl)
 listed (v ∷ vs) (that l) = let r = listed vs l in (suc r.0, r.1)
 
-tail_go : {R : List ℕ → List ℕ → Type 0} {x y : List ℕ} {xs ys : List (List ℕ)} → NamesGo R (x ∷ xs) (y ∷ ys) → NamesGo R xs ys
+pub tail_go : {R : List ℕ → List ℕ → Type 0} {x y : List ℕ} {xs ys : List (List ℕ)} → NamesGo R (x ∷ xs) (y ∷ ys) → NamesGo R xs ys
 tail_go g = record { long = (let l = g.long in omega (arith, l)); each = λ i a b p q. g.each (suc i) a b p q }
 
 names_long : (fs gs : List (List ℕ × List ℕ)) → map (λ (f : List ℕ × List ℕ). f.0) fs ≡ map (λ (f : List ℕ × List ℕ). f.0) gs → length fs ≡ length gs

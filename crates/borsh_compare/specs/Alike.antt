@@ -6,7 +6,9 @@ use Rattle.std.specs.Global.{Global}
 use Rattle.std.specs.List.{IsDistinct}
 use Rattle.std.specs.Str.{bytes_eq}
 use Rattle.borsh_walks.specs.declared.definition.Definition.{Definition}
+use Rattle.borsh_walks.specs.Container.{variant_names}
 use Rattle.borsh_plan.specs.declared.plan.Plan.{Plan}
+use Rattle.borsh_plan.specs.Names.{parts_in, shape_at}
 use Rattle.borsh_plan.specs.Plan.{map_of, names_of, root_of}
 use Rattle.borsh_json.specs.declared.kinds.Kind.{Kind as Found}
 use Rattle.borsh_json.specs.declared.kinds.KeyKind.{KeyKind}
@@ -16,7 +18,7 @@ use Rattle.borsh_json.specs.Places.{IsAt, IsKindOf, IsUnsayable}
 use Rattle.borsh_json.specs.Represents.{HaveBytes}
 use Rattle.borsh_json.specs.Table.{Lengths, Keys, Kind, no_bytes, truth, whole, float, raw, utf8, byte_list, list, row, inner, fields, optional, variants, entries, HasKind, IsVariant}
 use Rattle.json.specs.Json.{Json}
-use Rattle.borsh_compare.specs.Together.{NamesGo}
+use Rattle.borsh_compare.specs.Together.{NamesGo, unnamed}
 use Rattle.borsh_compare.specs.Walks.{Paired}
 use Rattle.borsh_compare.specs.declared.pairs.Pair.{Pair}
 
@@ -38,6 +40,10 @@ variants_of vs = map {A = ℤ × String Global × String Global} {B = ℤ × Lis
 
 abbrev pub field_names : List (String Global × String Global) → List (List ℕ)
 field_names fs = map {A = String Global × String Global} {B = List ℕ} (λ f. string_bytes f.0) fs
+
+-- the parts of the name at a place are those of these variants
+abbrev pub HasVariants : Plan → ℕ → List (ℤ × String Global × String Global) → Type 0
+HasVariants p i vs = parts_in (shape_at (names_of p) i) ≡ variant_names (unnamed vs)
 
 -- R says which names are taken to be written alike
 module _ (R : List ℕ → List ℕ → Type 0) where

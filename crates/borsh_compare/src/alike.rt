@@ -1,12 +1,11 @@
 // Whether JSON that says a value by the old schema says it by the new one.
-ghost use Rattle.borsh_compare.specs.Alike.{AlikeAt, AreKeysAlike, FoundAlike, GoAlikeAt, IsBehind, LieIn, SaysAll, VariantAlike, VariantsAlike, field_names, forms_of, variants_of};
-ghost use Rattle.borsh_compare.specs.Together.{NamesGo, unnamed};
+ghost use Rattle.borsh_compare.specs.Alike.{AlikeAt, AreKeysAlike, FoundAlike, GoAlikeAt, HasVariants, IsBehind, LieIn, SaysAll, VariantAlike, VariantsAlike, field_names, forms_of, variants_of};
+ghost use Rattle.borsh_compare.specs.Together.{NamesGo};
 ghost use Rattle.borsh_compare.specs.Walks.{HasPair, Paired, PartGoes};
 ghost use Rattle.borsh_json.specs.Forms.{form_of};
 ghost use Rattle.borsh_json.specs.Places.{IsAt, lengths_of};
 ghost use Rattle.borsh_plan.specs.Names.{parts_in, shape_at};
 ghost use Rattle.borsh_plan.specs.Plan.{names_of};
-ghost use Rattle.borsh_walks.specs.Container.{variant_names};
 ghost use Rattle.std.specs.Prelude.{IfOk, List, Some, [], false, length, slice_get, true, ℕ, ◌≡◌};
 
 use crate::definitions::{Both, Owners, Variants, definitions_go, index_for, indexes_of, lies_in};
@@ -161,9 +160,8 @@ fn variant_alike(
     index: usize,
     other: usize,
 ) -> bool
-    requires old { parts_in (shape_at (names_of both.old.now) at.old) ≡ variant_names (unnamed variants.now.items) }
-    requires new { parts_in (shape_at (names_of both.new.now) at.new) ≡ variant_names (unnamed others.now.items) }
-    ensures { result ≡ true → VariantAlike both.entry.old.now both.entry.new.now pairs.now.list.items index
+    ensures { result ≡ true → HasVariants both.entry.old.now at.old variants.now.items
+        → HasVariants both.entry.new.now at.new others.now.items → VariantAlike both.entry.old.now both.entry.new.now pairs.now.list.items index
         (variants_of variants.now.items) (variants_of others.now.items) }
 {
     match (variants.get(index), others.get(other)) {
@@ -185,9 +183,9 @@ fn variants_alike(
     variants: &Variants,
     others: &Variants,
 ) -> Result<bool, AllocError>
-    requires old { parts_in (shape_at (names_of both.old.now) at.old) ≡ variant_names (unnamed variants.now.items) }
-    requires new { parts_in (shape_at (names_of both.new.now) at.new) ≡ variant_names (unnamed others.now.items) }
-    ensures { let vs = variants_of variants.now.items in IfOk result (λ b. b ≡ true → VariantsAlike
+    ensures { let vs = variants_of variants.now.items in IfOk result (λ b. b ≡ true
+        → HasVariants both.entry.old.now at.old variants.now.items
+        → HasVariants both.entry.new.now at.new others.now.items → VariantsAlike
         (Paired both.entry.old.now both.entry.new.now pairs.now.list.items) (length vs) vs (variants_of others.now.items)) }
 {
     let indexes = indexes_of(alloc, others)?;
