@@ -1,32 +1,38 @@
 -- Names whose kinds the code found, and that are written alike.
-use Rattle.std.proofs.Common.{◌≡◌, ℕ, suc, zero, ◌<◌, List, [], ◌∷◌, map, length, Bool, true, false, Option, Some, refl, sym, ◌∙◌, ap, subst, arith, string_bytes, absurd}
-use Rattle.std.specs.Prelude.{ℤ, String, slice_get, option_map}
+use Rattle.std.proofs.Common.{◌≡◌, ◌⊎◌, inl, inr, ℕ, suc, zero, ◌<◌, List, [], ◌∷◌, ◌++◌, map, length, Bool, true, false, true≢false, Option, Some, None, refl, sym, ◌∙◌, ap, subst, arith, string_bytes}
+use Rattle.std.specs.Prelude.{ℤ, String, Decides, MatchOption, slice_get, option_map}
+use Rattle.std.specs.Borrow.{Bor}
 use Rattle.std.specs.Float.{Format, binary32, binary64}
 use Rattle.std.specs.Global.{Global}
 use Rattle.std.specs.List.{IsDistinct}
 use Rattle.std.specs.Str.{bytes_eq}
-use Rattle.std.proofs.lemmas.Option.{slice_get-map}
+use Rattle.std.proofs.lemmas.Option.{slice_get-map, slice_get_within}
+use Rattle.std.proofs.lemmas.List.{length-map}
 use Rattle.borsh_walks.specs.Container.{references, variant_names}
+use Rattle.borsh_walks.specs.declared.definition.Definition.{Definition}
 use Rattle.borsh_plan.specs.declared.named.Named.{Named}
 use Rattle.borsh_plan.specs.declared.plan.Plan.{Plan}
-use Rattle.borsh_plan.specs.Names.{parts_in, shape_at}
-use Rattle.borsh_plan.specs.Plan.{map_of, names_of}
+use Rattle.borsh_plan.specs.Names.{name_of, parts_in, shape_at}
+use Rattle.borsh_plan.specs.Plan.{map_of, names_of, planned, root_of}
 use Rattle.borsh_json.specs.declared.kinds.Elements.{Elements}
 use Rattle.borsh_json.specs.declared.kinds.Entries.{Entries}
 use Rattle.borsh_json.specs.declared.kinds.KeyKind.{KeyKind}
 use Rattle.borsh_json.specs.declared.kinds.KeyKind.TheVariants.{Text, Number as NumberKeys}
+use Rattle.borsh_json.specs.declared.kinds.Kind.{Kind as Found}
+use Rattle.borsh_json.specs.declared.kinds.Kind.TheVariants.{Newtype}
 use Rattle.borsh_json.specs.declared.numbers.Number.{Number}
-use Rattle.borsh_json.specs.Forms.{Form, form_of, shape_of_form}
-use Rattle.borsh_json.specs.Places.{AreKeysOf, IsAt, IsKindOf, IsListOf, lengths_of}
-use Rattle.borsh_json.specs.Table.{Keys, numbers, Kind, whole, float, float_size, fields, variants, entries, HasKind, IsVariant, row}
+use Rattle.borsh_json.specs.Forms.{Form, HasNoBytes, form_of, shape_of_form}
+use Rattle.borsh_json.specs.Places.{AreKeysOf, IsAt, IsKindAt, IsKindOf, IsListOf, lengths_of}
+use Rattle.borsh_json.specs.Table.{Keys, numbers, Kind, whole, float, float_size, byte_list, fields, variants, entries, HasKind, IsVariant, row}
 use Rattle.borsh_json.proofs.FormKinds.{form_known}
 use Rattle.borsh_json.proofs.OpeningLaws.{variant_here}
+use Rattle.borsh_json.proofs.FoundLaws.{on_some, on_none}
 use Rattle.borsh_json.proofs.FormsLaws.{shapes_are, twice}
 use Rattle.borsh_compare.specs.Together.{NamesGo, unnamed}
 use Rattle.borsh_compare.specs.Walks.{HasPair, Paired, PartGoes}
-use Rattle.borsh_compare.specs.Alike.{AreKeysAlike, AreAlike, alike, IsBehind, itself, within, unsaid, KindsAlike, of_whole, of_float, of_list, of_row, of_fields, of_variants, of_entries, HasVariants, LieIn, VariantAlike, VariantsAlike, field_names, forms_of, variants_of}
+use Rattle.borsh_compare.specs.Alike.{AlikeAt, AreKeysAlike, AreAlike, alike, FoundAlike, GoAlike, GoAlikeAt, SaysAll, IsBehind, itself, within, unsaid, KindsAlike, of_nothing, of_whole, of_float, of_byte_list, of_list, of_row, of_fields, of_variants, of_entries, HasVariants, LieIn, VariantAlike, VariantsAlike, field_names, forms_of, variants_of}
 use Rattle.borsh_compare.specs.declared.pairs.Pair.{Pair}
-use Rattle.borsh_compare.proofs.Saying.{tail_go}
+use Rattle.borsh_compare.proofs.Saying.{says_all, tail_go}
 use Rattle.borsh_compare.proofs.Parts.{defined_of, same_some, variant_part}
 
 abbrev Listed : Type 0
@@ -56,6 +62,9 @@ alike_behind p q (alike r s k l a) = alike (behind_on p r) (behind_on q s) k l a
 parts_known : (p : Plan) (i : ℕ) (x : List ℕ) (f : Form) → IsAt (names_of p) i x → forms_of p x ≡ Some f → parts_in (shape_at (names_of p) i) ≡ references (shape_of_form f)
 parts_known p i x f e h = ap (λ o. parts_in o) (sym (defined_of p x i e) ∙ sym (ap (λ C. C x) (shapes_are (map_of p))) ∙ ap (λ o. option_map shape_of_form o) h)
 
+pub pairing : (old new : Plan) {pairs : List Pair} {a b : ℕ} {p q : List ℕ} → HasPair pairs a b → IsAt (names_of old) a p → IsAt (names_of new) b q → Paired old new pairs p q
+pairing old new {a = a} {b = b} h p q = record { old_place = a; new_place = b; has = h; old = p; new = q }
+
 module _ (old new : Plan) (pairs : List Pair) (i j : ℕ) (x y : List ℕ) (ix : IsAt (names_of old) i x) (iy : IsAt (names_of new) j y) (f g : Form) (fx : forms_of old x ≡ Some f) (gy : forms_of new y ≡ Some g) where
   abbrev F : List ℕ → Option Form
   F = forms_of old
@@ -65,9 +74,6 @@ module _ (old new : Plan) (pairs : List Pair) (i j : ℕ) (x y : List ℕ) (ix :
 
   abbrev R : List ℕ → List ℕ → Type 0
   R = Paired old new pairs
-
-  pub pairing : {a b : ℕ} {p q : List ℕ} → HasPair pairs a b → IsAt (names_of old) a p → IsAt (names_of new) b q → R p q
-  pairing {a = a} {b = b} h p q = record { old_place = a; new_place = b; has = h; old = p; new = q }
 
   pub of_kinds : {kind other : Kind} → HasKind F x kind → HasKind G y other → KindsAlike R kind other → AreAlike F G R x y
   of_kinds p q a = alike itself itself p q a
@@ -82,12 +88,15 @@ module _ (old new : Plan) (pairs : List Pair) (i j : ℕ) (x y : List ℕ) (ix :
   of_lists a b m n s t l h p q =
       let u = subst (λ r. IsListOf F (names_of old) x f a r) s p in
       let v = subst (λ r. IsListOf G (names_of new) y g b r) t q in
-      of_kinds u.2 v.2 (of_list l (pairing h u.1 v.1))
+      of_kinds u.2 v.2 (of_list l (pairing old new h u.1 v.1))
+
+  pub of_byte_lists : (a b : Elements) → LieIn (lengths_of f) (lengths_of g) → HasPair pairs a.at b.at → (e : List ℕ) × IsAt (names_of old) a.at e × HasKind F x (byte_list (lengths_of f) e) × (a.is_refused ≡ false) → (e : List ℕ) × IsAt (names_of new) b.at e × HasKind G y (byte_list (lengths_of g) e) × (b.is_refused ≡ false) → AreAlike F G R x y
+  of_byte_lists a b l h p q = of_kinds p.2 q.2 (of_byte_list l (pairing old new h p.1 q.1))
 
   pub of_maps : (a b : Entries) → LieIn (lengths_of f) (lengths_of g) → AreKeysAlike a.key_kind b.key_kind → HasPair pairs a.key b.key → HasPair pairs a.value b.value → (k : List ℕ) × (v : List ℕ) × (keys : Keys) × IsAt (names_of old) a.key k × IsAt (names_of old) a.value v × HasKind F x (entries (lengths_of f) keys k v) × AreKeysOf F (names_of old) k (form_of a.key_definition.now) a.key_kind keys → (k : List ℕ) × (v : List ℕ) × (keys : Keys) × IsAt (names_of new) b.key k × IsAt (names_of new) b.value v × HasKind G y (entries (lengths_of g) keys k v) × AreKeysOf G (names_of new) k (form_of b.key_definition.now) b.key_kind keys → AreAlike F G R x y
   of_maps a b l e h u p q =
       let s = keys_one F G (names_of old) (names_of new) p.0 q.0 (form_of a.key_definition.now) (form_of b.key_definition.now) a.key_kind b.key_kind p.2 q.2 e p.6 q.6 in
-      of_kinds p.5 (subst (λ keys. HasKind G y (entries (lengths_of g) keys q.0 q.1)) (sym s) q.5) (of_entries l (pairing h p.3 q.3) (pairing u p.4 q.4))
+      of_kinds p.5 (subst (λ keys. HasKind G y (entries (lengths_of g) keys q.0 q.1)) (sym s) q.5) (of_entries l (pairing old new h p.3 q.3) (pairing old new u p.4 q.4))
 
   -- the parts of the names, by their definitions
   parts_go : NamesGo R (parts_in (shape_at (names_of old) i)) (parts_in (shape_at (names_of new) j)) → NamesGo R (references (shape_of_form f)) (references (shape_of_form g))
@@ -100,7 +109,8 @@ module _ (old new : Plan) (pairs : List Pair) (i j : ℕ) (x y : List ℕ) (ix :
   of_objects a b e n p q =
       let s = form_known F _ f p fx (λ e. cc) in
       let t = form_known G _ g q gy (λ e. cc) in
-      of_kinds p q (of_fields (twice _ _ _ (λ f. refl) a ∙ e ∙ sym (twice _ _ _ (λ f. refl) b)) (subst (λ z. NamesGo R _ (references (shape_of_form z))) t (subst (λ z. NamesGo R (references (shape_of_form z)) _) s (parts_go n))))
+      let first = subst (λ z. NamesGo R (references (shape_of_form z)) (references (shape_of_form g))) s (parts_go n) in
+      of_kinds p q (of_fields (twice _ _ _ (λ f. refl) a ∙ e ∙ sym (twice _ _ _ (λ f. refl) b)) (subst (λ z. NamesGo R (map (λ (f : List ℕ × List ℕ). f.1) (map (λ (f : String Global × String Global). (string_bytes f.0, string_bytes f.1)) a)) (references (shape_of_form z))) t first))
 
   pub of_choices : (w v : ℕ) (a b : List Listed) → w ≡ v → (HasVariants old i a → HasVariants new j b → VariantsAlike R (length (variants_of a)) (variants_of a) (variants_of b)) → IsDistinct bytes_eq (map (λ v. string_bytes v.1) b) → HasKind F x (variants w (variants_of a)) → HasKind G y (variants v (variants_of b)) → AreAlike F G R x y
   of_choices w v a b e n d p q =
@@ -131,3 +141,67 @@ same_names [] [] g = refl
 same_names [] (y ∷ ys) g = (let l = g.long in absurd (omega (arith, l)))
 same_names (x ∷ xs) [] g = (let l = g.long in absurd (omega (arith, l)))
 same_names (x ∷ xs) (y ∷ ys) g = (let a : x ≡ y = g.each zero x y refl refl in let b : xs ≡ ys = same_names xs ys (tail_go g) in cc)
+
+-- ---- at places
+module _ (p : Plan) (at : ℕ) (z : Bool) (zero : (x : List ℕ) → IsAt (names_of p) at x → Decides z (HasNoBytes (forms_of p) x)) (found : Option (Bor Definition × Found)) (kind : IsKindAt (forms_of p) (names_of p) at found) where
+  full : z ≡ false → (x : List ℕ) → IsAt (names_of p) at x → HasNoBytes (forms_of p) x → ⊥
+  full e x i n = true≢false (sym ((zero x i).1 n) ∙ e)
+
+  -- one more newtype
+  pub behind_step : (d : Bor Definition) (part : ℕ) → z ≡ false → found ≡ Some (d, Newtype part) → (x y : List ℕ) → IsAt (names_of p) at y → IsBehind (forms_of p) x y → (w : List ℕ) × IsAt (names_of p) part w × IsBehind (forms_of p) x w
+  behind_step d part e f x y i b = (let k = on_some _ _ found (d, Newtype part) f (kind y i (full e y i)) in (k.1.0, k.1.1, behind_on b (within k.1.2 itself)))
+
+  -- a name without a definition
+  pub none_alike : (new : Plan) (pairs : List Pair) (j : ℕ) → z ≡ false → found ≡ None → AlikeAt p new pairs at j
+  none_alike new pairs j e f x y ix iy =
+      let n : forms_of p x ≡ None = on_none _ _ found f (kind x ix (full e x ix)) in
+      unsaid itself (λ kind j own ps h s. elim h [ inl o ↦ full e x ix o.0 | inr o ↦ (let q : Some o.1 ≡ None = sym o.2 ∙ n in absurd cc) ])
+
+module _ (old new : Plan) (pairs : List Pair) where
+  -- names without bytes
+  pub zero_alike : (i j : ℕ) (z w : Bool) → ((x : List ℕ) → IsAt (names_of old) i x → Decides z (HasNoBytes (forms_of old) x)) → ((y : List ℕ) → IsAt (names_of new) j y → Decides w (HasNoBytes (forms_of new) y)) → z ≡ true → w ≡ true → AlikeAt old new pairs i j
+  zero_alike i j z w f g e h x y ix iy = alike itself itself (inl ((f x ix).0 e, refl)) (inl ((g y iy).0 h, refl)) of_nothing
+
+  pub found_alike : (i j : ℕ) (z w : Bool) (d e : Bor Definition) (a b : Found) → ((x : List ℕ) → IsAt (names_of old) i x → Decides z (HasNoBytes (forms_of old) x)) → ((y : List ℕ) → IsAt (names_of new) j y → Decides w (HasNoBytes (forms_of new) y)) → z ≡ false → w ≡ false → IsKindAt (forms_of old) (names_of old) i (Some (d, a)) → IsKindAt (forms_of new) (names_of new) j (Some (e, b)) → (o n : Plan) → o ≡ old → n ≡ new → FoundAlike o n pairs i j d.now e.now a b → AlikeAt old new pairs i j
+  found_alike i j z w d e a b f g ez ew k l o n oe ne h x y ix iy =
+      let s = k x ix (full old i z f (Some (d, a)) k ez x ix) in
+      let t = l y iy (full new j w g (Some (e, b)) l ew y iy) in
+      subst (λ n. FoundAlike old n pairs i j d.now e.now a b) ne (subst (λ o. FoundAlike o n pairs i j d.now e.now a b) oe h) x y ix iy s.0 t.0 s.1 t.1
+
+  pub go_alike : (i j a b : ℕ) (z w : Bool) → ((x : List ℕ) → IsAt (names_of old) i x → Decides z (HasNoBytes (forms_of old) x)) → ((y : List ℕ) → IsAt (names_of new) j y → Decides w (HasNoBytes (forms_of new) y)) → z ≡ w → ((x : List ℕ) → IsAt (names_of old) i x → (y : List ℕ) × IsAt (names_of old) a y × IsBehind (forms_of old) x y) → ((x : List ℕ) → IsAt (names_of new) j x → (y : List ℕ) × IsAt (names_of new) b y × IsBehind (forms_of new) x y) → AlikeAt old new pairs a b → GoAlikeAt old new pairs i j
+  go_alike i j a b z w f g e p q h x y ix iy = record {
+    alike = (let s = p x ix in let t = q y iy in alike_behind s.2 t.2 (h s.0 t.0 s.1 t.1));
+    forth = λ n. (g y iy).0 (sym e ∙ (f x ix).1 n);
+    back = λ n. (f x ix).0 (e ∙ (g y iy).1 n);
+  }
+
+  -- where each pair is alike, so are the roots
+  pub roots_say : ((i : ℕ) (p : Pair) → slice_get pairs i ≡ Some p → GoAlikeAt old new pairs p.old p.new) → HasPair pairs 0 0 → SaysAll old new
+  roots_say go first = says_all (forms_of old) (forms_of new) (Paired old new pairs) all (root_of old) (root_of new) (pairing_roots first)
+    where
+      all : (x y : List ℕ) → Paired old new pairs x y → GoAlike (forms_of old) (forms_of new) (Paired old new pairs) x y
+      all x y r = go r.has.index r.has.pair r.has.there x y (ap (λ i. name_of (names_of old) i) r.has.old ∙ r.old) (ap (λ i. name_of (names_of new) i) r.has.new ∙ r.new)
+
+      pairing_roots : HasPair pairs 0 0 → Paired old new pairs (root_of old) (root_of new)
+      pairing_roots h = record { old_place = 0; new_place = 0; has = h; old = (planned old).first; new = (planned new).first }
+
+-- by what the code found, if that is of these kinds
+pub at_kinds : (old new : Plan) (pairs : List Pair) (i j : ℕ) (d e : Definition) {a b : Found} (k l : Found) → a ≡ k → b ≡ l → FoundAlike old new pairs i j d e k l → FoundAlike old new pairs i j d e a b
+at_kinds old new pairs i j d e k l p q f x y ix iy fx gy s t = f x y ix iy fx gy (subst (λ k. IsKindOf (forms_of old) (names_of old) x (form_of d) k) p s) (subst (λ k. IsKindOf (forms_of new) (names_of new) y (form_of e) k) q t)
+
+pub not_last : (xs : List ℕ) (x : ℕ) → xs ++ x ∷ [] ≡ [] → ⊥
+not_last [] x e = cc
+not_last (y ∷ xs) x e = cc
+
+-- a field of the same name
+pub field_step : (fs gs : List (String Global × String Global)) (i : ℕ) (f g : String Global × String Global) → slice_get fs i ≡ Some f → slice_get gs i ≡ Some g → string_bytes f.0 ≡ string_bytes g.0 → (x y : List ℕ) → slice_get (field_names fs) i ≡ Some x → slice_get (field_names gs) i ≡ Some y → x ≡ y
+field_step fs gs i f g p q e x y h k =
+    let a = slice_get-map {A = String Global × String Global} (λ f. string_bytes f.0) fs i ∙ ap (λ o. option_map (λ f. string_bytes f.0) o) p in
+    let b = slice_get-map {A = String Global × String Global} (λ f. string_bytes f.0) gs i ∙ ap (λ o. option_map (λ f. string_bytes f.0) o) q in
+    sym (same_some a h) ∙ e ∙ same_some b k
+
+pub fields_same : (fs gs : List (String Global × String Global)) → length fs ≡ length gs → ((i : ℕ) (x y : List ℕ) → i < length fs → slice_get (field_names fs) i ≡ Some x → slice_get (field_names gs) i ≡ Some y → x ≡ y) → field_names fs ≡ field_names gs
+fields_same fs gs l f =
+    let a = length-map fs (λ f. string_bytes f.0) in
+    let b = length-map gs (λ f. string_bytes f.0) in
+    same_names (field_names fs) (field_names gs) (record { long = a ∙ l ∙ sym b; each = λ i x y p q. f i x y (let h = slice_get_within (field_names fs) i x p in omega (arith, a, h)) p q })

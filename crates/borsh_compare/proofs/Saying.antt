@@ -13,7 +13,7 @@ use Rattle.borsh_json.specs.Represents.{HaveBytes, none_left, next_part}
 use Rattle.borsh_json.specs.Table.{Lengths, Keys, Kind, inner, HasKind, IsPrefixed, IsArray, IsVariant, this, that, Part, row_parts, list_parts, field_parts, Entry, entry_parts, key_json, Says}
 use Rattle.borsh_json.proofs.RepresentsLaws.{kind_one}
 use Rattle.borsh_compare.specs.Together.{NamesGo}
-use Rattle.borsh_compare.specs.Alike.{LieIn, KindsAlike, of_nothing, of_truth, of_whole, of_float, of_raw, of_utf8, of_byte_list, of_list, of_row, of_fields, of_optional, of_variants, of_entries, IsBehind, itself, within, AreAlike, unsaid, alike, GoAlike, SaysAll}
+use Rattle.borsh_compare.specs.Alike.{LieIn, KindsAlike, of_nothing, of_truth, of_whole, of_float, of_raw, of_utf8, of_byte_list, of_list, of_row, of_fields, of_optional, of_variants, of_entries, IsBehind, itself, within, AreAlike, unsaid, alike, GoAlike}
 
 prefixed : {l m : Lengths} (k : ℕ) (bytes : List ℕ) {own : List ℕ} → LieIn l m → IsPrefixed l k bytes own → IsPrefixed m k bytes own
 prefixed k bytes c p = (let a = c.1 in let b = p.0 in omega (arith, a, b), let a = c.2 in let b = p.1 in omega (arith, a, b), p.2 ∙ ap (λ w. tag w (pos k) ++ bytes) c.0)
@@ -147,5 +147,5 @@ module _ (F G : List ℕ → Option Form) (R : List ℕ → List ℕ → Type 0)
       let t = says_alike j own rs a (subst (λ k. Says F k j own rs) (kind_one F h k) s) in
       behind_back c (next_part other own t.0 l t.1 (says_on rest (both t.2 more)))
 
-  pub says_all : (x y : List ℕ) → R x y → SaysAll F G R x y
+  pub says_all : (x y : List ℕ) → R x y → (j : Json) (bytes : List ℕ) → HaveBytes F ((x, j) ∷ []) bytes → HaveBytes G ((y, j) ∷ []) bytes
   says_all x y r j bytes h = says_on h (more_parts (all x y r).alike no_parts)

@@ -6,12 +6,12 @@ ghost use Rattle.borsh_json.specs.Forms.{form_of};
 ghost use Rattle.borsh_json.specs.Places.{IsAt, lengths_of};
 ghost use Rattle.borsh_plan.specs.Names.{parts_in, shape_at};
 ghost use Rattle.borsh_plan.specs.Plan.{names_of};
-ghost use Rattle.std.specs.Prelude.{IfOk, List, Some, [], false, length, slice_get, true, ℕ, ◌≡◌};
+ghost use Rattle.std.specs.Prelude.{IfOk, List, Some, [], false, length, slice_get, string_bytes, true, ℕ, ◌≡◌};
 
 use crate::definitions::{Both, Owners, Variants, definitions_go, index_for, indexes_of, lies_in};
 use crate::pairs::{MOST_PAIRS, Pair, Pairs, ROOTS};
 use borsh_json::{Elements, Entries, Json, KeyKind, Kind, Number};
-use borsh_walks::{Declaration, Definition, FieldName};
+use borsh_walks::{Declaration, Definition, DiscriminantValue, FieldName, VariantName};
 use std::alloc::{AllocError, Global};
 
 /// At most so many structs with one field without a name are seen through.
@@ -108,7 +108,7 @@ fn entries_paired(pairs: &Pairs, old: &Entries<'_>, new: &Entries<'_>) -> bool
 }
 
 // Whether a part of the old name and one of the new are a pair.
-fn part_paired(both: Both<'_, '_>, pairs: &Pairs, at: Pair, old: usize, new: usize) -> bool
+fn part_paired(both: Both<'_, '_>, pairs: &Pairs, at: Owners, old: usize, new: usize) -> bool
     ensures { result ≡ true → PartGoes both.entry.old.now both.entry.new.now pairs.now.list.items at.old at.new old new }
 {
     match (both.old.part(at.old, old), both.new.part(at.new, new)) {
@@ -118,7 +118,7 @@ fn part_paired(both: Both<'_, '_>, pairs: &Pairs, at: Pair, old: usize, new: usi
 }
 
 // Whether the names have as many parts, and each is a pair with the one in its place.
-fn parts_paired(both: Both<'_, '_>, pairs: &Pairs, at: Pair) -> bool
+fn parts_paired(both: Both<'_, '_>, pairs: &Pairs, at: Owners) -> bool
     ensures { result ≡ true → NamesGo (Paired both.entry.old.now both.entry.new.now pairs.now.list.items)
         (parts_in (shape_at (names_of both.entry.old.now) at.old))
         (parts_in (shape_at (names_of both.entry.new.now) at.new)) }
@@ -135,6 +135,12 @@ fn parts_paired(both: Both<'_, '_>, pairs: &Pairs, at: Pair) -> bool
     true
 }
 
+fn is_same_name(old: &(FieldName, Declaration), new: &(FieldName, Declaration)) -> bool
+    ensures { result ≡ true → string_bytes old.now.0 ≡ string_bytes new.now.0 }
+{
+    old.0.as_str() == new.0.as_str()
+}
+
 // Whether the fields have the same names, one after another.
 fn fields_alike(old: &[(FieldName, Declaration)], new: &[(FieldName, Declaration)]) -> bool
     ensures { result ≡ true → field_names old.now ≡ field_names new.now }
@@ -143,18 +149,28 @@ fn fields_alike(old: &[(FieldName, Declaration)], new: &[(FieldName, Declaration
         return false;
     }
     for index in 0..old.len() {
-        if old[index].0.as_str() != new[index].0.as_str() {
+        if !is_same_name(&old[index], &new[index]) {
             return false;
         }
     }
     true
 }
 
+fn is_same_variant(
+    old: &(DiscriminantValue, VariantName, Declaration),
+    new: &(DiscriminantValue, VariantName, Declaration),
+) -> bool
+    ensures tag { result ≡ true → old.now.0 ≡ new.now.0 }
+    ensures name { result ≡ true → string_bytes old.now.1 ≡ string_bytes new.now.1 }
+{
+    old.0 == new.0 && old.1.as_str() == new.1.as_str()
+}
+
 // Whether the variants at two indexes have one discriminant and one name, and are a pair.
 fn variant_alike(
     both: Both<'_, '_>,
     pairs: &Pairs,
-    at: Pair,
+    at: Owners,
     variants: &Variants,
     others: &Variants,
     index: usize,
@@ -164,14 +180,13 @@ fn variant_alike(
         → HasVariants both.entry.new.now at.new others.now.items → VariantAlike both.entry.old.now both.entry.new.now pairs.now.list.items index
         (variants_of variants.now.items) (variants_of others.now.items) }
 {
-    match (variants.get(index), others.get(other)) {
-        (Some(old), Some(new)) => {
-            old.0 == new.0
-                && old.1.as_str() == new.1.as_str()
-                && part_paired(both, pairs, at, index, other)
-        }
-        _ => false,
+    let (Some(old), Some(new)) = (variants.get(index), others.get(other)) else {
+        return false;
+    };
+    if !is_same_variant(old, new) {
+        return false;
     }
+    part_paired(both, pairs, at, index, other)
 }
 
 // Whether each variant of the old name is one of the new, by its discriminant and its name.
@@ -179,7 +194,7 @@ fn variants_alike(
     alloc: Global,
     both: Both<'_, '_>,
     pairs: &Pairs,
-    at: Pair,
+    at: Owners,
     variants: &Variants,
     others: &Variants,
 ) -> Result<bool, AllocError>
@@ -208,12 +223,12 @@ fn kinds_alike<'a>(
     alloc: Global,
     both: Both<'_, '_>,
     pairs: &Pairs,
-    at: Pair,
+    at: Owners,
     old: (&Definition, Kind<'a>),
     new: (&Definition, Kind<'a>),
 ) -> Result<bool, AllocError>
     ensures { IfOk result (λ b. b ≡ true → FoundAlike both.entry.old.now both.entry.new.now pairs.now.list.items
-        at.old at.new old.0.now new.0.now old.1 new.1) }
+        at.old at.new old.entry.0.now new.entry.0.now old.entry.1 new.entry.1) }
 {
     match (old.1, new.1) {
         (Kind::Repeated(_), _) => Ok(true),
@@ -221,8 +236,8 @@ fn kinds_alike<'a>(
         (Kind::Number(a), Kind::Number(b)) => Ok(numbers_alike(a, b)),
         (Kind::Bool, Kind::Bool) => Ok(true),
         (Kind::Text, Kind::Text) => Ok(lengths_lie(old.0, new.0)),
-        (Kind::Bytes(a), Kind::Bytes(b)) => Ok(a == b),
-        (Kind::Float(a), Kind::Float(b)) => Ok(a == b),
+        (Kind::Bytes(m), Kind::Bytes(n)) if m == n => Ok(true),
+        (Kind::Float(k), Kind::Float(l)) if k == l => Ok(true),
         (Kind::ByteList(a), Kind::ByteList(b)) => {
             Ok(lengths_lie(old.0, new.0) && elements_paired(pairs, a, b))
         }
@@ -253,7 +268,7 @@ fn places_alike(
     old: &Json<'_, '_>,
     new: &Json<'_, '_>,
     pairs: &Pairs,
-    at: Pair,
+    at: Owners,
 ) -> Result<bool, AllocError>
     ensures { IfOk result (λ b. b ≡ true → AlikeAt old.now.plan.now new.now.plan.now pairs.now.list.items at.old at.new) }
 {
@@ -276,22 +291,36 @@ fn places_alike(
     kinds_alike(alloc, both, pairs, at, before, after)
 }
 
-// Whether the names of a pair say the same JSON, if those of all pairs do.
+fn is_same(old: bool, new: bool) -> bool
+    ensures { result ≡ true → old ≡ new }
+{
+    old == new
+}
+
+// Whether the names of the pair at an index say the same JSON, if those of all pairs do.
 fn pair_alike(
     alloc: Global,
     old: &Json<'_, '_>,
     new: &Json<'_, '_>,
     pairs: &Pairs,
-    pair: Pair,
+    index: usize,
 ) -> Result<bool, AllocError>
-    ensures { IfOk result (λ b. b ≡ true → GoAlikeAt old.now.plan.now new.now.plan.now pairs.now.list.items pair.old pair.new) }
+    ensures { IfOk result (λ b. b ≡ true → (p : Pair) → slice_get pairs.now.list.items index ≡ Some p →
+        GoAlikeAt old.now.plan.now new.now.plan.now pairs.now.list.items p.old p.new) }
 {
-    if old.is_zero_size(pair.old) != new.is_zero_size(pair.new) {
+    let Some(pair) = pairs.get(index) else {
+        return Ok(true);
+    };
+    let is_old_empty = old.is_zero_size(pair.old);
+    let is_new_empty = new.is_zero_size(pair.new);
+    if !is_same(is_old_empty, is_new_empty) {
         return Ok(false);
     }
-    let mut at = pair;
-    at.old = behind(old, pair.old);
-    at.new = behind(new, pair.new);
+    let at = Owners {
+        from: index,
+        old: behind(old, pair.old),
+        new: behind(new, pair.new),
+    };
     places_alike(alloc, old, new, pairs, at)
 }
 
@@ -333,13 +362,19 @@ fn apart(
 {
     let mut found: Vec<usize> = Vec::new(alloc);
     for index in 0..pairs.len() {
-        if let Some(pair) = pairs.get(index)
-            && !pair_alike(alloc, old, new, pairs, pair)?
-        {
+        if !pair_alike(alloc, old, new, pairs, index)? {
             found.push(index)?;
         }
     }
     Ok(found)
+}
+
+// Whether no pair is apart, and the roots are one.
+fn has_roots(pairs: &Pairs, apart: &[usize]) -> bool
+    ensures none { result ≡ true → apart.now ≡ [] }
+    ensures roots { result ≡ true → HasPair pairs.now.list.items 0 0 }
+{
+    apart.is_empty() && pairs.has(0, 0)
 }
 
 /// Compares the JSON of the values of two roots.
@@ -352,7 +387,7 @@ pub fn compare_json(
 {
     let pairs = all_pairs(alloc, old, new)?;
     let apart = apart(alloc, old, new, &pairs)?;
-    let is_alike = apart.is_empty() && pairs.has(0, 0);
+    let is_alike = has_roots(&pairs, apart.as_slice());
     Ok(Written {
         pairs,
         apart,
