@@ -70,9 +70,7 @@ fn numbers_alike(old: Number, new: Number) -> bool
     ensures signed { result ≡ true → old.is_signed ≡ new.is_signed }
     ensures zero { result ≡ true → old.is_non_zero ≡ new.is_non_zero }
 {
-    old.size == new.size
-        && old.is_signed == new.is_signed
-        && old.is_non_zero == new.is_non_zero
+    old.size == new.size && old.is_signed == new.is_signed && old.is_non_zero == new.is_non_zero
 }
 
 // Whether the elements are a pair. A list whose elements have to ascend isn't written as one of any order.
@@ -109,7 +107,8 @@ fn entries_paired(pairs: &Pairs, old: &Entries<'_>, new: &Entries<'_>) -> bool
 
 // Whether a part of the old name and one of the new are a pair.
 fn part_paired(both: Both<'_, '_>, pairs: &Pairs, at: Owners, old: usize, new: usize) -> bool
-    ensures { result ≡ true → PartGoes both.entry.old.now both.entry.new.now pairs.now.list.items at.old at.new old new }
+    ensures { let p = both.entry.old.now in let q = both.entry.new.now in
+        result ≡ true → PartGoes p q pairs.now.list.items at.old at.new old new }
 {
     match (both.old.part(at.old, old), both.new.part(at.new, new)) {
         (Some(old), Some(new)) => pairs.has(old, new),
@@ -177,7 +176,8 @@ fn variant_alike(
     other: usize,
 ) -> bool
     ensures { result ≡ true → HasVariants both.entry.old.now at.old variants.now.items
-        → HasVariants both.entry.new.now at.new others.now.items → VariantAlike both.entry.old.now both.entry.new.now pairs.now.list.items index
+        → HasVariants both.entry.new.now at.new others.now.items
+        → VariantAlike both.entry.old.now both.entry.new.now pairs.now.list.items index
         (variants_of variants.now.items) (variants_of others.now.items) }
 {
     let (Some(old), Some(new)) = (variants.get(index), others.get(other)) else {
@@ -201,7 +201,8 @@ fn variants_alike(
     ensures { let vs = variants_of variants.now.items in IfOk result (λ b. b ≡ true
         → HasVariants both.entry.old.now at.old variants.now.items
         → HasVariants both.entry.new.now at.new others.now.items → VariantsAlike
-        (Paired both.entry.old.now both.entry.new.now pairs.now.list.items) (length vs) vs (variants_of others.now.items)) }
+        (Paired both.entry.old.now both.entry.new.now pairs.now.list.items)
+        (length vs) vs (variants_of others.now.items)) }
 {
     let indexes = indexes_of(alloc, others)?;
     for index in 0..variants.len() {
@@ -227,7 +228,8 @@ fn kinds_alike<'a>(
     old: (&Definition, Kind<'a>),
     new: (&Definition, Kind<'a>),
 ) -> Result<bool, AllocError>
-    ensures { IfOk result (λ b. b ≡ true → FoundAlike both.entry.old.now both.entry.new.now pairs.now.list.items
+    ensures { IfOk result (λ b. b ≡ true → FoundAlike
+        both.entry.old.now both.entry.new.now pairs.now.list.items
         at.old at.new old.entry.0.now new.entry.0.now old.entry.1 new.entry.1) }
 {
     match (old.1, new.1) {
@@ -270,7 +272,8 @@ fn places_alike(
     pairs: &Pairs,
     at: Owners,
 ) -> Result<bool, AllocError>
-    ensures { IfOk result (λ b. b ≡ true → AlikeAt old.now.plan.now new.now.plan.now pairs.now.list.items at.old at.new) }
+    ensures { IfOk result (λ b. b ≡ true →
+        AlikeAt old.now.plan.now new.now.plan.now pairs.now.list.items at.old at.new) }
 {
     if old.is_zero_size(at.old) {
         return Ok(new.is_zero_size(at.new));
@@ -305,7 +308,8 @@ fn pair_alike(
     pairs: &Pairs,
     index: usize,
 ) -> Result<bool, AllocError>
-    ensures { IfOk result (λ b. b ≡ true → (p : Pair) → slice_get pairs.now.list.items index ≡ Some p →
+    ensures { IfOk result (λ b. b ≡ true → (p : Pair) →
+        slice_get pairs.now.list.items index ≡ Some p →
         GoAlikeAt old.now.plan.now new.now.plan.now pairs.now.list.items p.old p.new) }
 {
     let Some(pair) = pairs.get(index) else {
@@ -325,11 +329,7 @@ fn pair_alike(
 }
 
 // The pairs of names that lead from the two roots, each with the one in its place.
-fn all_pairs(
-    alloc: Global,
-    old: &Json<'_, '_>,
-    new: &Json<'_, '_>,
-) -> Result<Pairs, AllocError> {
+fn all_pairs(alloc: Global, old: &Json<'_, '_>, new: &Json<'_, '_>) -> Result<Pairs, AllocError> {
     let both = Both {
         old: old.plan(),
         new: new.plan(),
@@ -357,7 +357,8 @@ fn apart(
     new: &Json<'_, '_>,
     pairs: &Pairs,
 ) -> Result<Vec<usize>, AllocError>
-    ensures { IfOk result (λ v. v.items ≡ [] → (i : ℕ) (p : Pair) → slice_get pairs.now.list.items i ≡ Some p →
+    ensures { IfOk result (λ v. v.items ≡ [] → (i : ℕ) (p : Pair) →
+        slice_get pairs.now.list.items i ≡ Some p →
         GoAlikeAt old.now.plan.now new.now.plan.now pairs.now.list.items p.old p.new) }
 {
     let mut found: Vec<usize> = Vec::new(alloc);
