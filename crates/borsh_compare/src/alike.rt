@@ -10,7 +10,7 @@ ghost use Rattle.std.specs.Prelude.{IfOk, List, Some, [], false, length, slice_g
 
 use crate::definitions::{Both, Owners, Variants, definitions_go, index_for, indexes_of, lies_in};
 use crate::pairs::{MOST_PAIRS, Pair, Pairs, ROOTS};
-use borsh_json::{Elements, Entries, Json, KeyKind, Kind, Number};
+use borsh_json::{Elements, Entries, Json, KeyKind, Kind};
 use borsh_walks::{Declaration, Definition, DiscriminantValue, FieldName, VariantName};
 use std::alloc::{AllocError, Global};
 
@@ -65,12 +65,13 @@ fn lengths_lie(old: &Definition, new: &Definition) -> bool
     }
 }
 
-fn numbers_alike(old: Number, new: Number) -> bool
-    ensures size { result ≡ true → old.size ≡ new.size }
-    ensures signed { result ≡ true → old.is_signed ≡ new.is_signed }
-    ensures zero { result ≡ true → old.is_non_zero ≡ new.is_non_zero }
+// Whether numbers have as many bytes, with a sign or without, and are both without 0 or with it.
+fn numbers_alike(old: (u8, bool, bool), new: (u8, bool, bool)) -> bool
+    ensures size { result ≡ true → old.0 ≡ new.0 }
+    ensures signed { result ≡ true → old.1 ≡ new.1 }
+    ensures zero { result ≡ true → old.2 ≡ new.2 }
 {
-    old.size == new.size && old.is_signed == new.is_signed && old.is_non_zero == new.is_non_zero
+    old.0 == new.0 && old.1 == new.1 && old.2 == new.2
 }
 
 // Whether the elements are a pair. A list whose elements have to ascend isn't written as one of any order.
@@ -235,7 +236,10 @@ fn kinds_alike<'a>(
     match (old.1, new.1) {
         (Kind::Repeated(_), _) => Ok(true),
         (Kind::List(elements), _) if elements.is_refused => Ok(true),
-        (Kind::Number(a), Kind::Number(b)) => Ok(numbers_alike(a, b)),
+        (Kind::Number(a), Kind::Number(b)) => Ok(numbers_alike(
+            (a.size, a.is_signed, a.is_non_zero),
+            (b.size, b.is_signed, b.is_non_zero),
+        )),
         (Kind::Bool, Kind::Bool) => Ok(true),
         (Kind::Text, Kind::Text) => Ok(lengths_lie(old.0, new.0)),
         (Kind::Bytes(m), Kind::Bytes(n)) if m == n => Ok(true),

@@ -36,8 +36,6 @@ pub use ascii::in_ascii;
 pub use error::{JsonError, Refusal};
 pub use kinds::{Elements, Entries, KeyKind, Kind};
 pub use laws::text_determines_bytes;
-pub use numbers::Number;
-pub use order::Ordered;
 pub use output::{Characters, Layout, LongNumbers, Style};
 pub use reading::from_json;
 pub use rows::{Rows, value_of};
