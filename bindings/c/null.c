@@ -100,7 +100,7 @@ int main(void) {
     if (borsh_compile(NULL, 0, u8, sizeof u8, &text) != BORSH_YES || text.length != n || memcmp(text.data, byte, n) != 0) return 40;
     borsh_free(&text);
     if (!is(borsh_compile(NULL, 0, NULL, 0, &text), BORSH_NO, &text, "type: line 1, column 1: the text ends, expected a type")) return 41;
-    if (!is(borsh_compare(byte, n, byte, n, &text), BORSH_YES, &text, "the same: the two schemas have the same values\n")) return 42;
+    if (!is(borsh_compare(byte, n, byte, n, &text), BORSH_YES, &text, "the same: the two schemas have the same values, with the same JSON\n")) return 42;
     if (!is(borsh_compare(byte, n, NULL, 0, &text), BORSH_MALFORMED, &text, "new: not a schema container: Unexpected length of input")) return 43;
 
     /* A buffer may be freed twice, and a null pointer be freed. */

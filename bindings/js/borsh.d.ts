@@ -230,6 +230,8 @@ export interface Comparison {
   readonly answer: "the same" | "compatible" | "incompatible" | "not known";
   /** Whether old data is still read. */
   readonly isCompatible: boolean;
+  /** Whether JSON that says a value by the old schema says it by the new one too; of `"the same"` also the other way round. */
+  readonly hasSameJson: boolean;
   /** What changed, as `A.kind: variant Frozen is new`: all, or where the schemas aren't compatible what that was found by. */
   readonly changes: readonly string[];
   /** Of incompatible schemas the digits of bytes, of many the first, that are a value of the old one and none of the new, and why. */

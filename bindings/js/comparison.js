@@ -8,7 +8,8 @@ export function comparisonOf(kind, text) {
   const evidence = answer === "incompatible" ? changes.shift() : undefined;
   const isCompatible = kind === "yes";
   if (!isCompatible) changes.unshift(first.slice(first.indexOf(": ") + 2));
-  return { answer, isCompatible, changes, evidence, text };
+  const hasSameJson = isCompatible && first.endsWith(", with the same JSON");
+  return { answer, isCompatible, hasSameJson, changes, evidence, text };
 }
 
 function answerIn(kind, text) {

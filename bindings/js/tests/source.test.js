@@ -106,11 +106,11 @@ test("an account of an IDL begins with its discriminator", () => {
 
 /** What is said of two schemas, as a row says it. */
 function said(old, now) {
-  const { answer, isCompatible, changes, evidence, text } = compare(old, now);
+  const { answer, isCompatible, hasSameJson, changes, evidence, text } = compare(old, now);
   assert.equal(isCompatible, answer === "the same" || answer === "compatible");
   assert.ok(text.startsWith(`${answer}: `));
   assert.equal(evidence === undefined, answer !== "incompatible");
-  let found = "";
+  let found = hasSameJson ? ", same JSON" : "";
   if (evidence !== undefined) {
     const [digits, why] = evidence.split(" is a value of the old schema and no value of the new one: ");
     old.check(digits);

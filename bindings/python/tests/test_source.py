@@ -92,6 +92,7 @@ class Compared(unittest.TestCase):
             with self.assertRaises(Error):
                 new.check(bytes.fromhex(digits))
             answer += f" {digits} {why}"
+        answer += ", same JSON" if found.has_same_json else ""
         return "; ".join([answer, *found.changes])
 
     def test_schemas_have_the_answers_of_the_rows(self):

@@ -35,6 +35,12 @@ impl Comparison {
         matches!(self.answer, Answer::Same | Answer::Compatible)
     }
 
+    /// Whether JSON that says a value by the old schema says it by the new one too; of [`Answer::Same`] also the other way round.
+    pub fn has_same_json(&self) -> bool {
+        let first = self.text.split('\n').next().unwrap_or_default();
+        self.is_compatible() && first.ends_with(", with the same JSON")
+    }
+
     /// What changed, as `A.kind: variant Frozen is new`: all, or where the schemas aren't compatible what that was found by.
     pub fn changes(&self) -> Vec<&str> {
         let mut changes = Vec::new();

@@ -190,6 +190,11 @@ fn said(old: &Schema, new: &Schema) -> String {
         (Answer::NotKnown, None) if !is_compatible => ("not known", String::new()),
         other => panic!("{other:?}"),
     };
+    let json = if compared.has_same_json() {
+        ", same JSON"
+    } else {
+        ""
+    };
     let changes = compared.changes().into_iter().map(|it| format!("; {it}"));
-    format!("{answer}{evidence}{}", changes.collect::<String>())
+    format!("{answer}{evidence}{json}{}", changes.collect::<String>())
 }

@@ -314,7 +314,7 @@ fn comparisons(alloc: Global) -> bool {
     let wide = b"\x02\0\0\0u9\x01\0\0\0\x02\0\0\0u9\0\x02";
     ask(alloc, Call::Compare, BYTE, BYTE).is(
         YES,
-        b"the same: the two schemas have the same values\n",
+        b"the same: the two schemas have the same values, with the same JSON\n",
     ) && ask(alloc, Call::Compare, BYTE, wide).is(
         NO,
         b"incompatible: u8 is u8 and becomes u9\n  00 is a value of the old schema and no value of the new one: u9 (`u9` at byte 0): too few bytes are left\n",

@@ -6,3 +6,5 @@ pub mod Reading
 pub mod Included
 pub mod Tables
 pub mod Staying
+pub mod Saying
+pub mod Found

@@ -3,3 +3,4 @@ pub mod Walks
 pub mod Indexed
 pub mod Corresponding
 pub mod Answers
+pub mod Alike

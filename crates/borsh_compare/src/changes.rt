@@ -1,6 +1,7 @@
 // What changed, in words.
 
-use crate::definitions::{Both, indexes_of, is_product};
+use crate::alike::Written;
+use crate::definitions::{Both, Variants, indexes_of, is_product};
 use crate::pairs::{Pair, Pairs};
 use crate::paths::{path_to, written};
 use borsh_values::{Name, Path};
@@ -54,8 +55,6 @@ impl<'a> fmt::Display for Change<'a> {
         }
     }
 }
-
-type Variants = Vec<(DiscriminantValue, VariantName, Declaration)>;
 
 // What changed of the variants of an enum.
 fn of_variants<'a>(
@@ -194,15 +193,24 @@ pub fn push_changes<'a>(
     Ok(())
 }
 
-/// Lists what changed of all pairs.
+/// Lists what changed of all pairs, and those that are written as other JSON.
 pub fn all_changes<'a>(
     alloc: Global,
     both: Both<'_, 'a>,
     pairs: &Pairs,
+    json: &Written,
 ) -> Result<Vec<Change<'a>>, AllocError> {
     let mut changes: Vec<Change<'a>> = Vec::new(alloc);
+    for index in 0..json.pairs.len() {
+        let is_apart = json.apart.as_slice().binary_search(&index).is_ok();
+        push_changes(alloc, both, &json.pairs, index, is_apart, &mut changes)?;
+    }
     for index in 0..pairs.len() {
-        push_changes(alloc, both, pairs, index, false, &mut changes)?;
+        if let Some(pair) = pairs.get(index)
+            && !json.pairs.has(pair.old, pair.new)
+        {
+            push_changes(alloc, both, pairs, index, false, &mut changes)?;
+        }
     }
     Ok(changes)
 }

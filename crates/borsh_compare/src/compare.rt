@@ -1,12 +1,14 @@
 // Two schemas compared.
-ghost use Rattle.borsh_compare.specs.Answers.{IsAnswer, IsEvidence};
+ghost use Rattle.borsh_compare.specs.Answers.{IsAnswer, IsEvidence, KeepsJson};
 ghost use Rattle.borsh_compare.specs.Walks.{Includes};
 ghost use Rattle.std.specs.Prelude.{IfOk, IfSome, true, ◌≡◌};
 
+use crate::alike::compare_json;
 use crate::changes::{Change, all_changes, push_changes};
 use crate::definitions::Both;
 use crate::evidence::{Evidence, find_evidence};
 use crate::walk::{Walked, walk_pairs};
+use borsh_json::Json;
 use borsh_plan::Plan;
 use std::alloc::{AllocError, Global};
 
@@ -27,6 +29,8 @@ pub enum Answer<'a> {
 #[derive(Drop)]
 pub struct Comparison<'a> {
     pub answer: Answer<'a>,
+    /// Whether what JSON says of a value by the old schema it says by the new one; of `Same`, also the other way round.
+    pub has_same_json: bool,
     pub changes: Vec<Change<'a>>,
 }
 
@@ -38,16 +42,30 @@ fn included<'a>(
     walked: &Walked,
 ) -> Result<Comparison<'a>, AllocError>
     requires { Includes old.now new.now }
-    ensures { IfOk result (λ c. IsAnswer old.now new.now c.answer) }
+    ensures answer { IfOk result (λ c. IsAnswer old.now new.now c.answer) }
+    ensures json { IfOk result (λ c. c.has_same_json ≡ true → KeepsJson old.now new.now c.answer) }
 {
-    let changes = all_changes(alloc, Both { old, new }, &walked.pairs)?;
+    let old_json = Json::new(alloc, old)?;
+    let new_json = Json::new(alloc, new)?;
+    let written = compare_json(alloc, &old_json, &new_json)?;
+    let changes = all_changes(alloc, Both { old, new }, &walked.pairs, &written)?;
     let back = walk_pairs(alloc, new, old)?;
-    let answer = if back.is_included {
-        Answer::Same
-    } else {
-        Answer::Compatible
-    };
-    Ok(Comparison { answer, changes })
+    if !back.is_included {
+        return Ok(Comparison {
+            answer: Answer::Compatible,
+            has_same_json: written.is_alike,
+            changes,
+        });
+    }
+    let mut has_same_json = written.is_alike;
+    if has_same_json {
+        has_same_json = compare_json(alloc, &new_json, &old_json)?.is_alike;
+    }
+    Ok(Comparison {
+        answer: Answer::Same,
+        has_same_json,
+        changes,
+    })
 }
 
 /// Whether the values of the old root are values of the new one, by the definitions alone: what a type refuses beyond its schema,
@@ -70,7 +88,8 @@ pub fn compare_plans<'a>(
     old: &Plan<'a>,
     new: &Plan<'a>,
 ) -> Result<Comparison<'a>, AllocError>
-    ensures { IfOk result (λ c. IsAnswer old.now new.now c.answer) }
+    ensures answer { IfOk result (λ c. IsAnswer old.now new.now c.answer) }
+    ensures json { IfOk result (λ c. c.has_same_json ≡ true → KeepsJson old.now new.now c.answer) }
 {
     let walked = walk_pairs(alloc, old, new)?;
     if walked.is_included {
@@ -83,6 +102,7 @@ pub fn compare_plans<'a>(
             push_changes(alloc, both, &walked.pairs, index, true, &mut changes)?;
             Ok(Comparison {
                 answer: Answer::Incompatible(evidence),
+                has_same_json: false,
                 changes,
             })
         }
@@ -91,6 +111,7 @@ pub fn compare_plans<'a>(
             push_changes(alloc, both, &walked.pairs, index, true, &mut changes)?;
             Ok(Comparison {
                 answer: Answer::NotKnown,
+                has_same_json: false,
                 changes,
             })
         }

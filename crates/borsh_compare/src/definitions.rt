@@ -136,7 +136,8 @@ fn parts_go(both: Both<'_, '_>, pairs: &mut Pairs, owners: Owners) -> Result<boo
     Ok(true)
 }
 
-type Variants = Vec<(DiscriminantValue, VariantName, Declaration)>;
+/// The variants of an enum.
+pub type Variants = Vec<(DiscriminantValue, VariantName, Declaration)>;
 
 /// The index that each discriminant has.
 pub fn indexes_of(
@@ -220,8 +221,8 @@ fn index_in(
     indexes.get(discriminant).copied()
 }
 
-// The index of a variant that has the discriminant: the one given, if its variant has it.
-fn index_for(
+/// The index of a variant that has the discriminant: the one given, if its variant has it.
+pub fn index_for(
     variants: &Variants,
     indexes: &BTreeMap<DiscriminantValue, usize>,
     index: usize,
@@ -317,7 +318,7 @@ pub fn definitions_go(
 }
 
 /// Whether each length of the one range is in the other, which isn't said of a range without lengths.
-fn lies_in(range: &LengthRange, other: &LengthRange) -> bool
+pub fn lies_in(range: &LengthRange, other: &LengthRange) -> bool
     ensures start { result ≡ true → other.now.start ≤ range.now.start }
     ensures end { result ≡ true → range.now.end ≤ other.now.end }
     ensures isnt { result ≡ false → other.now.start ≤ range.now.start

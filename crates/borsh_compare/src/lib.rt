@@ -5,6 +5,7 @@
 //! that are ambiguous. Nothing recurses.
 #![tactic(auto)]
 
+mod alike;
 mod changes;
 mod compare;
 mod definitions;

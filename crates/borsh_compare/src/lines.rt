@@ -51,14 +51,19 @@ pub fn comparison_lines(
     let changes = compared.changes.as_slice();
     // How many changes the answer's own line has.
     let mut told = 0;
+    let json = if compared.has_same_json {
+        ", with the same JSON"
+    } else {
+        ""
+    };
     match &compared.answer {
         Answer::Same => {
             let same = "the same: the two schemas have the same values";
-            lines.push(String::from_str(alloc, same)?)?;
+            lines.push(format!(in alloc; "{same}{json}")?)?;
         }
         Answer::Compatible => {
             let compatible = "compatible: every value of the old schema is a value of the new one";
-            lines.push(String::from_str(alloc, compatible)?)?;
+            lines.push(format!(in alloc; "{compatible}{json}")?)?;
         }
         Answer::Incompatible(evidence) => {
             lines.push(headed(alloc, "incompatible", changes)?)?;

@@ -21,6 +21,15 @@ pub struct Pair {
     pub index: usize,
 }
 
+/// The pair of the two roots.
+pub(crate) const ROOTS: Pair = Pair {
+    old: 0,
+    new: 0,
+    from: 0,
+    owner: 0,
+    index: 0,
+};
+
 /// The pairs that were met, each once.
 #[derive(Drop)]
 pub struct Pairs {
@@ -40,7 +49,9 @@ impl Pairs {
         }
     }
 
-    pub fn len(&self) -> usize {
+    pub fn len(&self) -> usize
+        ensures { result ≡ length self.now.list.items }
+    {
         self.list.len()
     }
 
@@ -70,8 +81,8 @@ impl Pairs {
         self.table.get(&(old, new)).copied()
     }
 
-    // Whether there is a pair of these places.
-    fn has(&self, old: usize, new: usize) -> bool
+    /// Whether there is a pair of these places.
+    pub fn has(&self, old: usize, new: usize) -> bool
         ensures is { result ≡ true → HasPair self.now.list.items old new }
         ensures isnt { result ≡ false → LacksPair self.now.list.items old new }
     {

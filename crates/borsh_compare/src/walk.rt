@@ -7,7 +7,7 @@ ghost use Rattle.borsh_walks.specs.Definitions.{shape_of};
 ghost use Rattle.std.specs.Prelude.{IfOk, OnOk, Some, false, true, ◌≡◌};
 
 use crate::definitions::{Both, Owners, definitions_go, free_size, has_none, is_product};
-use crate::pairs::{MOST_PAIRS, Pair, Pairs};
+use crate::pairs::{MOST_PAIRS, Pairs, ROOTS};
 use crate::through::go_through;
 use borsh_plan::Plan;
 use borsh_walks::Definition;
@@ -94,14 +94,7 @@ pub fn walk_pairs(alloc: Global, old: &Plan<'_>, new: &Plan<'_>) -> Result<Walke
     let both = Both { old, new };
     let mut pairs = Pairs::new(alloc);
     let mut apart: Vec<usize> = Vec::new(alloc);
-    let first = Pair {
-        old: 0,
-        new: 0,
-        from: 0,
-        owner: 0,
-        index: 0,
-    };
-    let mut is_whole = pairs.add(first)?;
+    let mut is_whole = pairs.add(ROOTS)?;
     let mut next: usize = 0;
     while next < MOST_PAIRS {
         let Some(pair) = pairs.get(next) else {

@@ -105,16 +105,16 @@ impl<'a, 'l> Table<'a, 'l> {
         self.definitions.part(at, index)
     }
 
-    /// Whether the values of the name at a place have no bytes.
-    pub(crate) fn is_zero_size(&self, at: usize) -> bool
+    /// Whether the values of the name at a place have no bytes. Left open: none.
+    pub fn is_zero_size(&self, at: usize) -> bool
         ensures { (x : List ℕ) → IsAt (plan_names self.now.plan.now) at x →
             Decides result (HasNoBytes (forms_in (map_of self.now.plan.now)) x) }
     {
         self.definitions.is_zero_size(at)
     }
 
-    /// The definition of the name at a place, if it has one, and how its values are written.
-    pub(crate) fn kind(&self, at: usize) -> Option<(&'a Definition, Kind<'a>)>
+    /// The definition of the name at a place, if it has one, and how its values are written. Left open: none.
+    pub fn kind(&self, at: usize) -> Option<(&'a Definition, Kind<'a>)>
         ensures kind { let ns = plan_names self.now.plan.now in let F = forms_in (map_of self.now.plan.now) in
             IsKindAt F ns at result }
         ensures order { (x : List ℕ) → IsAt (names_of self.now) at x → HasOrderAt self.now x result }

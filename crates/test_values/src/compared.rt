@@ -5,6 +5,7 @@ use super::random::{member_of, next_number};
 use super::wrong::{Wrong, check, expect};
 use borsh::schema::{Definition, Fields, LengthRange};
 use borsh_compare::{Answer, Comparison, compare_plans};
+use borsh_json::{Style, from_json, to_json};
 use borsh_values::{Membership, Plan, is_member};
 use std::alloc::Global;
 use std::collections::BTreeMap;
@@ -26,6 +27,9 @@ fn written(alloc: Global, compared: &Comparison<'_>) -> Result<String, Wrong> {
         }
         Answer::NotKnown => text(alloc, "not known")?,
     };
+    if compared.has_same_json {
+        out.push_str(", same JSON")?;
+    }
     for change in compared.changes.as_slice() {
         let line = format!(in alloc; "; {change}")?;
         out.push_str(line.as_str())?;
@@ -41,15 +45,28 @@ fn refuses(root: &Root<'_>, bytes: &[u8]) -> Result<bool, Wrong> {
     }
 }
 
+// That JSON of the old value says the same bytes by the new names, as far as the value has JSON.
+fn judge_json(old: &Root<'_>, new: &Root<'_>, bytes: &[u8]) -> Result<(), Wrong> {
+    let alloc = old.alloc;
+    let Ok(json) = to_json(alloc, old.name, old.map, bytes, Style::COMPACT) else {
+        return Ok(());
+    };
+    let is_same = match from_json(alloc, new.name, new.map, json.as_str()) {
+        Ok(read) => read.as_slice() == bytes,
+        Err(_) => false,
+    };
+    check(alloc, is_same, "same JSON", json.as_str())
+}
+
 // That the answer goes with members: random ones of names that are compatible, those of the answer of others.
 fn judge_answer(
     old: &Root<'_>,
     new: &Root<'_>,
-    answer: &Answer<'_>,
+    compared: &Comparison<'_>,
     state: &mut u64,
 ) -> Result<(), Wrong> {
     let alloc = old.alloc;
-    match answer {
+    match &compared.answer {
         Answer::NotKnown => {}
         Answer::Incompatible(evidence) => {
             let bytes = evidence.bytes.as_slice();
@@ -72,6 +89,9 @@ fn judge_answer(
                     "compatible",
                     "not",
                 )?;
+                if compared.has_same_json {
+                    judge_json(old, new, bytes)?;
+                }
             }
         }
     }
@@ -87,7 +107,7 @@ pub fn judge_compared(old: &Root<'_>, new: &Root<'_>, wanted: &str) -> Result<()
     let found = written(alloc, &compared)?;
     expect(alloc, "compare", found.as_str(), wanted)?;
     let mut state = 88172645463325252;
-    judge_answer(old, new, &compared.answer, &mut state)
+    judge_answer(old, new, &compared, &mut state)
 }
 
 // A definition whose names are numbers.
@@ -150,7 +170,8 @@ fn definition_of(alloc: Global, prefix: &str, sketch: &Sketch) -> Result<Definit
     for (index, part) in sketch.parts.as_slice().iter().enumerate() {
         names.push(name_of(alloc, prefix, *part)?)?;
         let tag = (index % 100) as i64;
-        variants.push((tag, text(alloc, "V")?, name_of(alloc, prefix, *part)?))?;
+        let variant = format!(in alloc; "V{index}")?;
+        variants.push((tag, variant, name_of(alloc, prefix, *part)?))?;
     }
     Ok(match sketch.kind {
         0 => Definition::Primitive(sketch.width),
@@ -215,7 +236,7 @@ pub fn judge_changed(alloc: Global, count: u64) -> Result<(), Wrong> {
                 map,
                 name: new,
             };
-            judge_answer(&old, &new, &compared.answer, &mut state)?;
+            judge_answer(&old, &new, &compared, &mut state)?;
         }
     }
     Ok(())

@@ -46,6 +46,11 @@ class Comparison(NamedTuple):
         """Whether old data is still read."""
         return self.answer in (Answer.SAME, Answer.COMPATIBLE)
 
+    @property
+    def has_same_json(self) -> bool:
+        """Whether JSON that says a value by the old schema says it by the new one too; of `SAME` also the other way round."""
+        return self.is_compatible and self.text.partition("\n")[0].endswith(", with the same JSON")
+
     def __str__(self) -> str:
         return self.text
 

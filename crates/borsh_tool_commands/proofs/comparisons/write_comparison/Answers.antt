@@ -11,4 +11,4 @@ returns g c = λ e.
     let m = c.args.old.now.definitions in
     let n = c.args.new.now.definitions in
     included_schemas before after m n (string_bytes c.args.old.now.root) (string_bytes c.args.new.now.root) (subst (λ x. IsPlanOf m x before) c.as_str.ensures.value c.in_ok-before.ensures) (subst (λ x. IsPlanOf n x after) c.as_str-2.ensures.value c.in_ok-after.ensures)
-    (c.is_yes-yes.ensures before after c.in_ok-compared.ensures e)
+    (c.is_yes-yes.ensures before after c.in_ok-compared.ensures.answer e)
