@@ -12,13 +12,13 @@ import registers
 CLAUSE = re.compile(r"\s*(ensures|requires|ghost (?!use)\w+)\b[^{;]*\{")
 TOP = pathlib.Path(__file__).resolve().parent.parent
 
-# What may not be passed: of the lines, 31,000, 900 for floats, `Arc`, `Cow` and what came with them, 2,500 for values by their
-# container, one after another too, 2,000 for their JSON and the calls from C, 600 for types of many fields and of what is no JSON, 600
-# for lengths without writing, 1,200 for tuples of thirteen to twenty places, which are written by tools/registers.py, and 6,900 for
-# types by their text and for two containers compared, also from C, of which 3,200 are to go.
+# What may not be passed. Of the lines, which are those that tools/registers.py doesn't write, 25,500 are the codec's; 900 are of floats,
+# `Arc`, `Cow` and what came with them, 2,500 of values by their container, 2,000 of their JSON and the calls from C, 1,200 of types of
+# many fields, of what is no JSON and of lengths without writing, and 8,700 of types by their text (both ways) and of two containers
+# compared (their JSON too), also from C, of which 3,200 are to go.
 BARS = {
     "crates": 30,
-    "lines of .rt": 46800,
+    "lines of .rt that no script writes": 41000,
     "of these, tests and examples": 9000,
     "must-fail edits": 75,
     "crates with must-fail edits": 8,
@@ -106,7 +106,7 @@ def main():
 
     figures = {
         "crates": len(crates),
-        "lines of .rt": sum(weight[0] for weight in crates.values()),
+        "lines of .rt that no script writes": sum(weight[0] for weight in crates.values()) - sum(registers.written_lines(name) for name in WRITTEN),
         "of these, tests and examples": sum(weight[0] for name, weight in crates.items() if is_test(name)),
         "must-fail edits": sum(weight[3] for weight in crates.values()),
         "crates with must-fail edits": sum(1 for weight in crates.values() if weight[3]),
