@@ -202,6 +202,10 @@ def schema_tuple(it):
         declaration = 'let a = A::declaration(alloc)?;\n        Ok(format!(in alloc; "({a},)")?)'
     else:
         declaration = f"tuple_declaration::<A, {six(it.letters[1:])}>(alloc)"
+    add = f"add_tuple::<{six(it.letters)}>"
+    if it not in SHORT:
+        head = f"{', '.join(it.letters[:6])}, {six(it.letters[6:])}"
+        declaration, add = f"long_tuple_declaration::<{head}>(alloc)", f"add_long_tuple::<{head}>"
     places = [f"{letter}.describes defs {facts(place)}.0" for place, letter in enumerate(it.letters)]
     if it not in SHORT:
         places[-1] = f"describes_contramap (λ t. t.0) ({places[-1]})"
@@ -224,15 +228,15 @@ def schema_tuple(it):
     }}
 
     fn add_definitions_recursively(alloc: Global, map: &mut DefinitionMap) -> SchemaResult<()> {{
-        add_tuple::<{six(it.letters)}>(alloc, Self::declaration(alloc)?, map)
+        {add}(alloc, Self::declaration(alloc)?, map)
     }}
 
 {member("describes", members)}}}
 """
 
 
-def schema_tuples(first, tuples):
-    """The file of these tuples' schemas."""
+def schema_tuples(first, calls, tuples):
+    """The file of these tuples' schemas, over these calls."""
     return f"""// {first}
 ghost use Rattle.std.specs.Prelude.{{◌∷◌, [], refl}};
 ghost use Rattle.borsh_definitions.specs.Described.{{both, none}};
@@ -244,7 +248,7 @@ ghost use Rattle.borsh_definitions.proofs.Laws.Quoted.{{struct_described, tuple_
 use super::definitions::{{DefinitionMap, SchemaResult}};
 use super::fields::FieldTypes;
 use super::schema::BorshSchema;
-use super::tuple_parts::{{Six, add_tuple, tuple_declaration}};
+use super::tuple_parts::{{{calls}}};
 use borsh_walks::Declaration;
 use std::alloc::Global;
 """ + "".join(map(schema_tuple, tuples))
@@ -435,8 +439,12 @@ FILES = {
     "borsh_types/src/tuples.rt": TYPES_TUPLES,
     "borsh_ser/src/tuples.rt": SER_TUPLES,
     "borsh_de/src/tuples.rt": DE_TUPLES,
-    "borsh_schema/src/tuples.rt": schema_tuples("Tuples of one to twelve places: their parts in order.", SHORT),
-    "borsh_schema/src/long_tuples.rt": schema_tuples("Tuples of thirteen to twenty places: their parts in order.", TUPLES[CALLED:]),
+    "borsh_schema/src/tuples.rt": schema_tuples(
+        "Tuples of one to twelve places: their parts in order.", "Six, add_tuple, tuple_declaration", SHORT
+    ),
+    "borsh_schema/src/long_tuples.rt": schema_tuples(
+        "Tuples of thirteen to twenty places: their parts in order.", "Six, add_long_tuple, long_tuple_declaration", TUPLES[CALLED:]
+    ),
     **{f"borsh_ser/proofs/puts/put_{NUMBERS[it.places]}/Answers.antt": put_proof(it) for it in CALLS},
     **{f"borsh_ser/proofs/parts/write_{NUMBERS[it.places]}/Answers.antt": write_proof(it) for it in SHORT[1:]},
     **{f"borsh_ser/proofs/tuples/Tuple{it.places}BorshSerialize/serialize/Answers.antt": ser_proof(it) for it in TUPLES[CALLED:]},

@@ -9,7 +9,7 @@ ghost use Rattle.borsh_definitions.proofs.Laws.Quoted.{struct_described, tuple_o
 use super::definitions::{DefinitionMap, SchemaResult};
 use super::fields::FieldTypes;
 use super::schema::BorshSchema;
-use super::tuple_parts::{Six, add_tuple, tuple_declaration};
+use super::tuple_parts::{Six, add_long_tuple, long_tuple_declaration};
 use borsh_walks::Declaration;
 use std::alloc::Global;
 
@@ -39,11 +39,11 @@ impl<
         ⟦<(A, (B, (C, (D, (E, (F, (G, (H, (I, (J, (K, (L, (M, ()))))))))))))) as FieldTypes>⟧.described refl };
 
     fn declaration(alloc: Global) -> SchemaResult<Declaration> {
-        tuple_declaration::<A, Six<B, C, D, E, F, G, (H, (I, (J, (K, (L, (M, ()))))))>>(alloc)
+        long_tuple_declaration::<A, B, C, D, E, F, Six<G, H, I, J, K, L, (M, ())>>(alloc)
     }
 
     fn add_definitions_recursively(alloc: Global, map: &mut DefinitionMap) -> SchemaResult<()> {
-        add_tuple::<Six<A, B, C, D, E, F, Six<G, H, I, J, K, L, (M, ())>>>(
+        add_long_tuple::<A, B, C, D, E, F, Six<G, H, I, J, K, L, (M, ())>>(
             alloc,
             Self::declaration(alloc)?,
             map,
@@ -88,11 +88,11 @@ impl<
         ⟦<(A, (B, (C, (D, (E, (F, (G, (H, (I, (J, (K, (L, (M, (N, ())))))))))))))) as FieldTypes>⟧.described refl };
 
     fn declaration(alloc: Global) -> SchemaResult<Declaration> {
-        tuple_declaration::<A, Six<B, C, D, E, F, G, Six<H, I, J, K, L, M, (N, ())>>>(alloc)
+        long_tuple_declaration::<A, B, C, D, E, F, Six<G, H, I, J, K, L, (M, (N, ()))>>(alloc)
     }
 
     fn add_definitions_recursively(alloc: Global, map: &mut DefinitionMap) -> SchemaResult<()> {
-        add_tuple::<Six<A, B, C, D, E, F, Six<G, H, I, J, K, L, (M, (N, ()))>>>(
+        add_long_tuple::<A, B, C, D, E, F, Six<G, H, I, J, K, L, (M, (N, ()))>>(
             alloc,
             Self::declaration(alloc)?,
             map,
@@ -138,11 +138,11 @@ impl<
         ⟦<(A, (B, (C, (D, (E, (F, (G, (H, (I, (J, (K, (L, (M, (N, (O, ()))))))))))))))) as FieldTypes>⟧.described refl };
 
     fn declaration(alloc: Global) -> SchemaResult<Declaration> {
-        tuple_declaration::<A, Six<B, C, D, E, F, G, Six<H, I, J, K, L, M, (N, (O, ()))>>>(alloc)
+        long_tuple_declaration::<A, B, C, D, E, F, Six<G, H, I, J, K, L, (M, (N, (O, ())))>>(alloc)
     }
 
     fn add_definitions_recursively(alloc: Global, map: &mut DefinitionMap) -> SchemaResult<()> {
-        add_tuple::<Six<A, B, C, D, E, F, Six<G, H, I, J, K, L, (M, (N, (O, ())))>>>(
+        add_long_tuple::<A, B, C, D, E, F, Six<G, H, I, J, K, L, (M, (N, (O, ())))>>(
             alloc,
             Self::declaration(alloc)?,
             map,
@@ -190,13 +190,13 @@ impl<
         ⟦<(A, (B, (C, (D, (E, (F, (G, (H, (I, (J, (K, (L, (M, (N, (O, (P, ())))))))))))))))) as FieldTypes>⟧.described refl };
 
     fn declaration(alloc: Global) -> SchemaResult<Declaration> {
-        tuple_declaration::<A, Six<B, C, D, E, F, G, Six<H, I, J, K, L, M, (N, (O, (P, ())))>>>(
+        long_tuple_declaration::<A, B, C, D, E, F, Six<G, H, I, J, K, L, (M, (N, (O, (P, ()))))>>(
             alloc,
         )
     }
 
     fn add_definitions_recursively(alloc: Global, map: &mut DefinitionMap) -> SchemaResult<()> {
-        add_tuple::<Six<A, B, C, D, E, F, Six<G, H, I, J, K, L, (M, (N, (O, (P, ()))))>>>(
+        add_long_tuple::<A, B, C, D, E, F, Six<G, H, I, J, K, L, (M, (N, (O, (P, ()))))>>(
             alloc,
             Self::declaration(alloc)?,
             map,
@@ -245,14 +245,19 @@ impl<
         ⟦<(A, (B, (C, (D, (E, (F, (G, (H, (I, (J, (K, (L, (M, (N, (O, (P, (Q, ()))))))))))))))))) as FieldTypes>⟧.described refl };
 
     fn declaration(alloc: Global) -> SchemaResult<Declaration> {
-        tuple_declaration::<
+        long_tuple_declaration::<
             A,
-            Six<B, C, D, E, F, G, Six<H, I, J, K, L, M, (N, (O, (P, (Q, ()))))>>,
+            B,
+            C,
+            D,
+            E,
+            F,
+            Six<G, H, I, J, K, L, (M, (N, (O, (P, (Q, ())))))>,
         >(alloc)
     }
 
     fn add_definitions_recursively(alloc: Global, map: &mut DefinitionMap) -> SchemaResult<()> {
-        add_tuple::<Six<A, B, C, D, E, F, Six<G, H, I, J, K, L, (M, (N, (O, (P, (Q, ())))))>>>(
+        add_long_tuple::<A, B, C, D, E, F, Six<G, H, I, J, K, L, (M, (N, (O, (P, (Q, ())))))>>(
             alloc,
             Self::declaration(alloc)?,
             map,
@@ -303,14 +308,19 @@ impl<
         ⟦<(A, (B, (C, (D, (E, (F, (G, (H, (I, (J, (K, (L, (M, (N, (O, (P, (Q, (S, ())))))))))))))))))) as FieldTypes>⟧.described refl };
 
     fn declaration(alloc: Global) -> SchemaResult<Declaration> {
-        tuple_declaration::<
+        long_tuple_declaration::<
             A,
-            Six<B, C, D, E, F, G, Six<H, I, J, K, L, M, (N, (O, (P, (Q, (S, ())))))>>,
+            B,
+            C,
+            D,
+            E,
+            F,
+            Six<G, H, I, J, K, L, (M, (N, (O, (P, (Q, (S, ()))))))>,
         >(alloc)
     }
 
     fn add_definitions_recursively(alloc: Global, map: &mut DefinitionMap) -> SchemaResult<()> {
-        add_tuple::<Six<A, B, C, D, E, F, Six<G, H, I, J, K, L, (M, (N, (O, (P, (Q, (S, ()))))))>>>(
+        add_long_tuple::<A, B, C, D, E, F, Six<G, H, I, J, K, L, (M, (N, (O, (P, (Q, (S, ()))))))>>(
             alloc,
             Self::declaration(alloc)?,
             map,
@@ -363,14 +373,19 @@ impl<
         ⟦<(A, (B, (C, (D, (E, (F, (G, (H, (I, (J, (K, (L, (M, (N, (O, (P, (Q, (S, (T, ()))))))))))))))))))) as FieldTypes>⟧.described refl };
 
     fn declaration(alloc: Global) -> SchemaResult<Declaration> {
-        tuple_declaration::<
+        long_tuple_declaration::<
             A,
-            Six<B, C, D, E, F, G, Six<H, I, J, K, L, M, (N, (O, (P, (Q, (S, (T, ()))))))>>,
+            B,
+            C,
+            D,
+            E,
+            F,
+            Six<G, H, I, J, K, L, Six<M, N, O, P, Q, S, (T, ())>>,
         >(alloc)
     }
 
     fn add_definitions_recursively(alloc: Global, map: &mut DefinitionMap) -> SchemaResult<()> {
-        add_tuple::<Six<A, B, C, D, E, F, Six<G, H, I, J, K, L, Six<M, N, O, P, Q, S, (T, ())>>>>(
+        add_long_tuple::<A, B, C, D, E, F, Six<G, H, I, J, K, L, Six<M, N, O, P, Q, S, (T, ())>>>(
             alloc,
             Self::declaration(alloc)?,
             map,
@@ -425,15 +440,26 @@ impl<
         ⟦<(A, (B, (C, (D, (E, (F, (G, (H, (I, (J, (K, (L, (M, (N, (O, (P, (Q, (S, (T, (U, ())))))))))))))))))))) as FieldTypes>⟧.described refl };
 
     fn declaration(alloc: Global) -> SchemaResult<Declaration> {
-        tuple_declaration::<
+        long_tuple_declaration::<
             A,
-            Six<B, C, D, E, F, G, Six<H, I, J, K, L, M, Six<N, O, P, Q, S, T, (U, ())>>>,
+            B,
+            C,
+            D,
+            E,
+            F,
+            Six<G, H, I, J, K, L, Six<M, N, O, P, Q, S, (T, (U, ()))>>,
         >(alloc)
     }
 
     fn add_definitions_recursively(alloc: Global, map: &mut DefinitionMap) -> SchemaResult<()> {
-        add_tuple::<
-            Six<A, B, C, D, E, F, Six<G, H, I, J, K, L, Six<M, N, O, P, Q, S, (T, (U, ()))>>>,
+        add_long_tuple::<
+            A,
+            B,
+            C,
+            D,
+            E,
+            F,
+            Six<G, H, I, J, K, L, Six<M, N, O, P, Q, S, (T, (U, ()))>>,
         >(alloc, Self::declaration(alloc)?, map)
     }
 

@@ -43,3 +43,37 @@ pub(crate) fn add_tuple<P: FieldTypes>(
     let definition = Definition::Tuple { elements };
     add_with_parts::<P>(alloc, declaration, definition, definitions)
 }
+
+/// [`tuple_declaration`] of a tuple of more than six places.
+pub(crate) fn long_tuple_declaration<
+    A: BorshSchema,
+    B: BorshSchema,
+    C: BorshSchema,
+    D: BorshSchema,
+    E: BorshSchema,
+    F: BorshSchema,
+    R: FieldTypes,
+>(alloc: Global) -> SchemaResult<Declaration>
+    ensures ok { IfOk result (λ d. string_bytes d ≡ longer_tuple_name A.name
+        ⟦<(B, (C, (D, (E, (F, R))))) as FieldTypes>⟧.described.names) }
+    ensures err { IfErr result (λ e. e ≡ OutOfMemory) }
+{
+    tuple_declaration::<A, (B, (C, (D, (E, (F, R)))))>(alloc)
+}
+
+/// [`add_tuple`] of a tuple of more than six places: the prover covers no type argument that is nineteen pairs deep.
+pub(crate) fn add_long_tuple<
+    A: BorshSchema,
+    B: BorshSchema,
+    C: BorshSchema,
+    D: BorshSchema,
+    E: BorshSchema,
+    F: BorshSchema,
+    R: FieldTypes,
+>(alloc: Global, declaration: Declaration, definitions: &mut DefinitionMap) -> SchemaResult<()>
+    ensures { let places = ⟦<(A, (B, (C, (D, (E, (F, R)))))) as FieldTypes>⟧.described in
+        AddsDefinitions definitions.old definitions.new
+        (tuple_described (string_bytes declaration) places.names places.parts) result }
+{
+    add_tuple::<Six<A, B, C, D, E, F, R>>(alloc, declaration, definitions)
+}
