@@ -10,6 +10,7 @@ use super::answers::{Answer, answer_to, container_from};
 use super::command::{Action, Request, ValueRequest};
 use super::failure::Failure;
 use super::output::write_made;
+use super::rust::items_of;
 use super::values::{
     Schema, encoded, hex_line, json_text, member, no_container, schema_json, strict_member,
     with_schema,
@@ -158,6 +159,21 @@ pub fn write_schema_json<'a, W: Write>(
 {
     let text = schema_json(alloc, path, bytes)?;
     write_whole(yes(text.into_bytes()), out)
+}
+
+/// [`write_reply`] of the text of [`items_of`].
+///
+/// ```
+/// assert!(rt; write_rust(alloc, "readme.borsh", bytes.as_slice(), &mut out)?);
+/// ```
+pub fn write_rust<'a, W: Write>(
+    alloc: Global,
+    path: &'a str,
+    bytes: &[u8],
+    out: &mut W,
+) -> Result<bool, Failure<'a>> {
+    let items = items_of(alloc, path, bytes)?;
+    write_whole(yes(items.text.into_bytes()), out)
 }
 
 /// Writes the encoding of a container, or its digits as a line. Errors as of [`write_reply`].

@@ -53,7 +53,7 @@ pub fn schema_of_type<'a>(
     }
 }
 
-fn schema_made(compiled: Compiled) -> Schema
+pub(crate) fn schema_made(compiled: Compiled) -> Schema
     ensures { (result.root ≡ compiled.declaration) × (result.definitions ≡ compiled.definitions) }
 {
     Schema {
