@@ -4,7 +4,7 @@ ghost use Rattle.borsh_tool_commands.specs.Failures.{IsNoContainer, IsNoContaine
 ghost use Rattle.borsh_tool_commands.specs.Json.{layout_if};
 ghost use Rattle.borsh_tool_commands.specs.Printed.{printed};
 ghost use Rattle.borsh_tool_commands.specs.Questions.{AnswersRequest};
-ghost use Rattle.borsh_tool_commands.specs.Replies.{IsContainerReply, IsNoReply, IsReplyOf, IsSchemaReply, Never, Prints, Replies};
+ghost use Rattle.borsh_tool_commands.specs.Replies.{Any, IsContainerReply, IsNoReply, IsReplyOf, IsRustReply, IsSchemaReply, Never, Prints, Replies};
 
 use super::answers::{Answer, answer_to, container_from};
 use super::command::{Action, Request, ValueRequest};
@@ -171,7 +171,9 @@ pub fn write_rust<'a, W: Write>(
     path: &'a str,
     bytes: &[u8],
     out: &mut W,
-) -> Result<bool, Failure<'a>> {
+) -> Result<bool, Failure<'a>>
+    ensures { Prints (IsRustReply bytes.now) Any W.writing out.old out.new result }
+{
     let items = items_of(alloc, path, bytes)?;
     write_whole(yes(items.text.into_bytes()), out)
 }

@@ -1,6 +1,6 @@
 // A container as Rust items.
-ghost use Rattle.std.specs.Prelude.{◌≡◌, IfOk, Some};
-ghost use Rattle.borsh_tool_commands.specs.Sent.{schema_encoding};
+ghost use Rattle.std.specs.Prelude.{IfOk};
+ghost use Rattle.borsh_tool_commands.specs.Items.{AreItems, Compiles};
 
 use super::failure::Failure;
 use super::types::schema_made;
@@ -13,10 +13,13 @@ use std::collections::{BTreeMap, BTreeSet};
 use std::fmt::Display;
 use std::str;
 
-/// Rust items, and the container that the tree of their text has.
+/// Rust items, and the container that was compiled from them.
 #[derive(Drop)]
 pub struct Items {
     pub text: String,
+    /// The tree of the text, and the type of the root in it.
+    pub tree: Source,
+    pub root: usize,
     pub schema: Schema,
 }
 
@@ -32,17 +35,17 @@ const OF_STRUCT: [&str; 3] = [" {\n    ", ",\n    ", ",\n}"];
 
 const OF_VARIANT: [&str; 3] = [" { ", ", ", " }"];
 
-/// The Rust items whose container the bytes are, as a text from which `compile` makes it again under the name of its root; the first
-/// line is a comment with that name. `NotType` says of which name Rust has no such definition.
+/// The Rust items whose container the bytes are, behind a comment with the name of its root. The container that is handed out is
+/// what `compile` made of that text and that name. `NotType` says which name has no such definition in Rust.
 ///
-/// Determined: the container of the items has these bytes. Left open: memory; which containers are refused, and why: tested.
+/// Determined: that container, which the tree means, is the one of the bytes. Left open: memory; which are refused, and why: tested.
 ///
 /// ```
 /// let items = items_of(alloc, "a.borsh", bytes.as_slice())?;
 /// println!(rt; "{}", items.text)?;
 /// ```
 pub fn items_of<'a>(alloc: Global, path: &'a str, bytes: &[u8]) -> Result<Items, Failure<'a>>
-    ensures { IfOk result (λ i. schema_encoding i.schema ≡ Some bytes.now) }
+    ensures { IfOk result (AreItems bytes.now) }
 {
     let given = schema_from(alloc, path, bytes)?;
     let mut names = own_names(alloc, &given)?;
@@ -66,7 +69,7 @@ fn made<'a, 'b>(
     given: &'b Schema,
     names: &mut BTreeSet<&'b str>,
 ) -> Result<Items, Failure<'a>>
-    ensures { IfOk result (λ i. schema_encoding i.schema ≡ Some bytes.now) }
+    ensures { IfOk result (AreItems bytes.now) }
 {
     let outcome = compiled(alloc, path, given, names);
     for (name, definition) in &given.definitions {
@@ -78,12 +81,15 @@ fn made<'a, 'b>(
     if with_schema(alloc, &items.schema, &[])?.as_slice() == bytes {
         return Ok(items);
     }
-    for (name, definition) in &given.definitions {
-        if items.schema.definitions.get(name.as_str()) != Some(definition) {
-            return Err(refused(alloc, path, name.as_str(), "has no such definition"));
+    for definitions in [&given.definitions, &items.schema.definitions] {
+        for name in definitions.keys() {
+            let name = name.as_str();
+            if given.definitions.get(name) != items.schema.definitions.get(name) {
+                return Err(refused(alloc, path, name, "has another definition, or none"));
+            }
         }
     }
-    Err(refused(alloc, path, given.root.as_str(), "has more definitions"))
+    Err(refused(alloc, path, given.root.as_str(), "is written otherwise"))
 }
 
 fn is_item(definition: &Definition) -> bool {
@@ -111,7 +117,9 @@ fn compiled<'a>(
     path: &'a str,
     given: &Schema,
     names: &BTreeSet<&str>,
-) -> Result<Items, Failure<'a>> {
+) -> Result<Items, Failure<'a>>
+    ensures { IfOk result Compiles }
+{
     let text = text_of(alloc, path, given, names)?;
     let root = given.root.as_str();
     let no_type = refused(alloc, path, root, "is written otherwise");
@@ -128,6 +136,8 @@ fn compiled<'a>(
     match compile(alloc, &source, at) {
         Ok(compiled) => Ok(Items {
             text,
+            tree: source,
+            root: at,
             schema: schema_made(compiled),
         }),
         Err(CompileError::Refused { cause, name, .. }) => {
@@ -352,6 +362,9 @@ impl<'a, 'b> Printer<'a, 'b> {
         for (at, (tag, name, whole)) in variants.iter().enumerate() {
             self.push("    ")?;
             self.word(name.as_str())?;
+            if *tag < 0 {
+                return Err(refused(self.alloc, self.path, name.as_str(), "has a tag below 0"));
+            }
             let mut fields = Vec::new(self.alloc);
             for definition in shapes {
                 if let Definition::Enum { variants, .. } = definition
