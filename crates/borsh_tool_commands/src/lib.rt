@@ -21,7 +21,6 @@ pub mod plain_text;
 pub mod progress;
 pub mod replies;
 pub mod runner;
-pub mod rust;
 pub mod types;
 pub mod values;
 

@@ -1,12 +1,13 @@
 // A type by its Rust text, in place of a container.
 ghost use Rattle.borsh_walks.specs.Container.{IsValid};
 ghost use Rattle.borsh_walks.specs.Definitions.{definitions_in as shapes_in};
+ghost use Rattle.borsh_tool_commands.specs.Items.{IsItemsText};
 ghost use Rattle.std.specs.Prelude.{◌≡◌, IfOk, string_bytes};
 
 use super::failure::Failure;
-use super::values::Schema;
+use super::values::{Schema, schema_from, with_schema};
 use borsh_source::{Cause, CompileError, Compiled, Source, compile, nearest_name};
-use borsh_texts::{TextError, parse_items, parse_type};
+use borsh_texts::{Items, NoItems, TextError, parse_items, parse_type, print_items};
 use std::alloc::{AllocError, Global};
 use std::fmt::Display;
 use std::str;
@@ -53,12 +54,39 @@ pub fn schema_of_type<'a>(
     }
 }
 
-pub(crate) fn schema_made(compiled: Compiled) -> Schema
+fn schema_made(compiled: Compiled) -> Schema
     ensures { (result.root ≡ compiled.declaration) × (result.definitions ≡ compiled.definitions) }
 {
     Schema {
         root: compiled.declaration,
         definitions: compiled.definitions,
+    }
+}
+
+/// The Rust items whose container the bytes are, as a text: as of [`print_items`], whose refusals are `NotType` with the path.
+///
+/// Determined: the text is that of items whose tree means the container of these bytes. Left open: memory; which containers are
+/// refused: tested.
+///
+/// ```
+/// let text = items_text(alloc, "a.borsh", bytes.as_slice())?;
+/// println!(rt; "{text}")?;
+/// ```
+pub fn items_text<'a>(alloc: Global, path: &'a str, bytes: &[u8]) -> Result<String, Failure<'a>>
+    ensures { IfOk result (λ t. IsItemsText bytes.now (string_bytes t)) }
+{
+    let given = schema_from(alloc, path, bytes)?;
+    let items = match print_items(alloc, given.root.as_str(), &given.definitions) {
+        Ok(items) => items,
+        Err(NoItems::Refused(why)) => return Err(Failure::NotType(path, why)),
+        Err(NoItems::OutOfMemory) => return Err(Failure::OutOfMemory),
+    };
+    let Items { text, compiled, .. } = items;
+    let made = with_schema(alloc, &schema_made(compiled), &[])?;
+    if made.as_slice() == bytes {
+        Ok(text)
+    } else {
+        Err(no_type(path, said(alloc, &"no Rust type has this container")))
     }
 }
 

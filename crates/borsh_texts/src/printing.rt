@@ -1,14 +1,14 @@
 // A container as Rust items.
-ghost use Rattle.std.specs.Prelude.{IfOk};
-ghost use Rattle.borsh_tool_commands.specs.Items.{AreItems, Compiles};
+ghost use Rattle.std.specs.Prelude.{IfOk, string_bytes};
+ghost use Rattle.borsh_definitions.specs.Described.{definitions_by_name};
+ghost use Rattle.borsh_source.specs.Container.{IsMeaning};
 
-use super::failure::Failure;
-use super::types::schema_made;
-use super::values::{Schema, schema_from, with_schema};
-use borsh::schema::{Definition, Fields};
-use borsh_source::{CompileError, Source, compile};
-use borsh_texts::{TextError, parse_items, parse_type};
-use std::alloc::{AllocError, Global};
+use crate::error::TextError;
+use crate::parse::{parse_items, parse_type};
+use borsh_source::{CompileError, Compiled, Source, compile};
+use borsh_walks::parts::referenced_part;
+use borsh_walks::{Definition, Fields};
+use std::alloc::{AllocError, AllocFailed, Global};
 use std::collections::{BTreeMap, BTreeSet};
 use std::fmt::Display;
 use std::str;
@@ -16,11 +16,47 @@ use std::str;
 /// Rust items, and the container that was compiled from them.
 #[derive(Drop)]
 pub struct Items {
+    /// The items, behind a comment with the type that is the root.
     pub text: String,
-    /// The tree of the text, and the type of the root in it.
+    /// The tree of the text, and the root in it.
     pub tree: Source,
     pub root: usize,
-    pub schema: Schema,
+    pub compiled: Compiled,
+}
+
+/// Why there are no Rust items of a container.
+#[derive(Drop)]
+pub enum NoItems {
+    /// In words, with the name that Rust has otherwise.
+    Refused(String),
+    /// An allocation failed.
+    OutOfMemory,
+}
+
+impl From<AllocError> for NoItems {
+    fn from(_: AllocError) -> NoItems {
+        NoItems::OutOfMemory
+    }
+}
+
+impl<T: Drop> From<AllocFailed<T>> for NoItems {
+    fn from(_: AllocFailed<T>) -> NoItems {
+        NoItems::OutOfMemory
+    }
+}
+
+fn refused<D: Display + Drop>(alloc: Global, name: &str, why: D) -> NoItems {
+    match format!(in alloc; "no Rust type has this container: `{name}` {why}") {
+        Ok(text) => NoItems::Refused(text),
+        Err(_) => NoItems::OutOfMemory,
+    }
+}
+
+fn not_read(alloc: Global, name: &str, error: &TextError<'_>) -> NoItems {
+    match error {
+        TextError::OutOfMemory => NoItems::OutOfMemory,
+        _ => refused(alloc, name, "is no type in Rust"),
+    }
 }
 
 // Structs and enums of the format, which need no item.
@@ -35,25 +71,29 @@ const OF_STRUCT: [&str; 3] = [" {\n    ", ",\n    ", ",\n}"];
 
 const OF_VARIANT: [&str; 3] = [" { ", ", ", " }"];
 
-/// The Rust items whose container the bytes are, behind a comment with the name of its root. The container that is handed out is
-/// what `compile` made of that text and that name. `NotType` says which name has no such definition in Rust.
+/// The Rust items from which `compile` makes a container, if there are such: they are compiled, and what comes out is compared. The
+/// error says which name Rust has otherwise.
 ///
-/// Determined: that container, which the tree means, is the one of the bytes. Left open: memory; which are refused, and why: tested.
+/// Determined: the tree means what was compiled. Left open: memory; which containers are refused, and why: tested.
 ///
 /// ```
-/// let items = items_of(alloc, "a.borsh", bytes.as_slice())?;
+/// let items = print_items(alloc, "A", &definitions)?;
 /// println!(rt; "{}", items.text)?;
 /// ```
-pub fn items_of<'a>(alloc: Global, path: &'a str, bytes: &[u8]) -> Result<Items, Failure<'a>>
-    ensures { IfOk result (AreItems bytes.now) }
+pub fn print_items(
+    alloc: Global,
+    root: &str,
+    definitions: &BTreeMap<String, Definition>,
+) -> Result<Items, NoItems>
+    ensures { IfOk result (λ i. IsMeaning i.tree i.root (string_bytes i.compiled.declaration)
+        (definitions_by_name i.compiled.definitions)) }
 {
-    let given = schema_from(alloc, path, bytes)?;
-    let mut names = own_names(alloc, &given)?;
-    match made(alloc, path, bytes, &given, &mut names) {
-        Err(Failure::NotType(path, why)) => {
+    let mut names = own_names(alloc, definitions)?;
+    match same_items(alloc, root, definitions, &mut names) {
+        Err(NoItems::Refused(why)) => {
             // A name of the format may be one of the text's own.
-            match made(alloc, path, bytes, &given, &mut names) {
-                Err(Failure::NotType(_, _)) => Err(Failure::NotType(path, why)),
+            match same_items(alloc, root, definitions, &mut names) {
+                Err(NoItems::Refused(_)) => Err(NoItems::Refused(why)),
                 second => second,
             }
         }
@@ -62,100 +102,102 @@ pub fn items_of<'a>(alloc: Global, path: &'a str, bytes: &[u8]) -> Result<Items,
 }
 
 /// The items of these names, if they have the container. Else the names of all structs and enums that came out otherwise are added.
-fn made<'a, 'b>(
+fn same_items<'b>(
     alloc: Global,
-    path: &'a str,
-    bytes: &[u8],
-    given: &'b Schema,
+    root: &str,
+    definitions: &'b BTreeMap<String, Definition>,
     names: &mut BTreeSet<&'b str>,
-) -> Result<Items, Failure<'a>>
-    ensures { IfOk result (AreItems bytes.now) }
+) -> Result<Items, NoItems>
+    ensures { IfOk result (λ i. IsMeaning i.tree i.root (string_bytes i.compiled.declaration)
+        (definitions_by_name i.compiled.definitions)) }
 {
-    let outcome = compiled(alloc, path, given, names);
-    for (name, definition) in &given.definitions {
+    let outcome = compiled(alloc, root, definitions, names);
+    for (name, definition) in definitions {
         if is_item(definition) && !is_defined(&outcome, name.as_str(), definition) {
             names.insert(name.as_str())?;
         }
     }
     let items = outcome?;
-    if with_schema(alloc, &items.schema, &[])?.as_slice() == bytes {
-        return Ok(items);
+    if let Some(name) = other_name(definitions, &items.compiled.definitions) {
+        return Err(refused(alloc, name, "has another definition, or none"));
     }
-    for definitions in [&given.definitions, &items.schema.definitions] {
-        for name in definitions.keys() {
-            let name = name.as_str();
-            if given.definitions.get(name) != items.schema.definitions.get(name) {
-                return Err(refused(alloc, path, name, "has another definition, or none"));
-            }
-        }
+    if items.compiled.declaration.as_str() != root {
+        return Err(refused(alloc, root, "is written otherwise"));
     }
-    Err(refused(alloc, path, given.root.as_str(), "is written otherwise"))
+    Ok(items)
 }
 
 fn is_item(definition: &Definition) -> bool {
     matches!(definition, Definition::Struct { .. } | Definition::Enum { .. })
 }
 
-fn is_defined(outcome: &Result<Items, Failure<'_>>, name: &str, definition: &Definition) -> bool {
+fn is_defined(outcome: &Result<Items, NoItems>, name: &str, definition: &Definition) -> bool {
     match outcome {
-        Ok(items) => items.schema.definitions.get(name) == Some(definition),
+        Ok(items) => items.compiled.definitions.get(name) == Some(definition),
         Err(_) => false,
     }
 }
 
-/// That there are no such items, by the name that Rust lacks.
-fn refused<'a, D: Display + Drop>(alloc: Global, path: &'a str, name: &str, why: D) -> Failure<'a> {
-    match format!(in alloc; "no Rust type has this container: `{name}` {why}") {
-        Ok(text) => Failure::NotType(path, text),
-        Err(_) => Failure::OutOfMemory,
+/// A name that two maps define differently.
+fn other_name<'b>(
+    left: &'b BTreeMap<String, Definition>,
+    right: &'b BTreeMap<String, Definition>,
+) -> Option<&'b str> {
+    for definitions in [left, right] {
+        for name in definitions.keys() {
+            if left.get(name.as_str()) != right.get(name.as_str()) {
+                return Some(name.as_str());
+            }
+        }
     }
+    None
 }
 
-/// The items of these names.
-fn compiled<'a>(
+/// The items of these names, compiled.
+fn compiled(
     alloc: Global,
-    path: &'a str,
-    given: &Schema,
+    root: &str,
+    definitions: &BTreeMap<String, Definition>,
     names: &BTreeSet<&str>,
-) -> Result<Items, Failure<'a>>
-    ensures { IfOk result Compiles }
+) -> Result<Items, NoItems>
+    ensures { IfOk result (λ i. IsMeaning i.tree i.root (string_bytes i.compiled.declaration)
+        (definitions_by_name i.compiled.definitions)) }
 {
-    let text = text_of(alloc, path, given, names)?;
-    let root = given.root.as_str();
-    let no_type = refused(alloc, path, root, "is written otherwise");
-    let mut source = match parse_items(alloc, text.as_str()) {
-        Ok(source) => source,
-        Err(TextError::OutOfMemory) => return Err(Failure::OutOfMemory),
-        Err(_) => return Err(no_type),
+    let text = text_of(alloc, root, definitions, names)?;
+    let mut tree = match parse_items(alloc, text.as_str()) {
+        Ok(tree) => tree,
+        Err(error) => return Err(not_read(alloc, root, &error)),
     };
-    let at = match parse_type(alloc, &mut source, root) {
+    let at = match parse_type(alloc, &mut tree, root) {
         Ok(at) => at,
-        Err(TextError::OutOfMemory) => return Err(Failure::OutOfMemory),
-        Err(_) => return Err(no_type),
+        Err(error) => return Err(not_read(alloc, root, &error)),
     };
-    match compile(alloc, &source, at) {
+    match compile(alloc, &tree, at) {
         Ok(compiled) => Ok(Items {
             text,
-            tree: source,
+            tree,
             root: at,
-            schema: schema_made(compiled),
+            compiled,
         }),
         Err(CompileError::Refused { cause, name, .. }) => {
-            Err(refused(alloc, path, name.as_str(), cause))
+            Err(refused(alloc, name.as_str(), cause))
         }
-        Err(CompileError::OutOfMemory) => Err(Failure::OutOfMemory),
+        Err(CompileError::OutOfMemory) => Err(NoItems::OutOfMemory),
     }
 }
 
 /// The structs and enums that aren't the format's, nor the fields of an enum's variant.
-fn own_names<'b>(alloc: Global, given: &'b Schema) -> Result<BTreeSet<&'b str>, AllocError> {
+fn own_names<'b>(
+    alloc: Global,
+    definitions: &'b BTreeMap<String, Definition>,
+) -> Result<BTreeSet<&'b str>, AllocError> {
     let mut names = BTreeSet::new(alloc);
-    for (name, definition) in &given.definitions {
+    for (name, definition) in definitions {
         if is_item(definition) && !is_one_of(stem_of(name.as_str()), FORMATS) {
             names.insert(name.as_str())?;
         }
     }
-    for (name, definition) in &given.definitions {
+    for (name, definition) in definitions {
         if let Definition::Enum { variants, .. } = definition {
             let stem = stem_of(name.as_str());
             for (_, variant, fields) in variants {
@@ -216,12 +258,12 @@ fn arguments_of<'b>(alloc: Global, name: &'b str) -> Result<Vec<&'b [u8]>, Alloc
 }
 
 /// The text of the items of these names.
-fn text_of<'a>(
+fn text_of(
     alloc: Global,
-    path: &'a str,
-    given: &Schema,
+    root: &str,
+    definitions: &BTreeMap<String, Definition>,
     names: &BTreeSet<&str>,
-) -> Result<String, Failure<'a>> {
+) -> Result<String, NoItems> {
     let mut stems: BTreeMap<&str, Vec<&str>> = BTreeMap::new(alloc);
     for name in names {
         let stem = stem_of(name);
@@ -234,8 +276,7 @@ fn text_of<'a>(
     }
     let mut printer = Printer {
         alloc,
-        path,
-        definitions: &given.definitions,
+        definitions,
         text: String::new(alloc),
         scratch: Source {
             items: Vec::new(alloc),
@@ -246,7 +287,7 @@ fn text_of<'a>(
         uses: Vec::new(alloc),
     };
     printer.push("// ")?;
-    printer.push(given.root.as_str())?;
+    printer.push(root)?;
     printer.push("\n")?;
     for (stem, instances) in &stems {
         printer.item(stem, instances.as_slice())?;
@@ -256,9 +297,8 @@ fn text_of<'a>(
 
 /// The items so far. An item with parameters is one text for all its instances.
 #[derive(Drop)]
-struct Printer<'a, 'b> {
+struct Printer<'b> {
     alloc: Global,
-    path: &'a str,
     definitions: &'b BTreeMap<String, Definition>,
     text: String,
     // Where types are read that are only tried.
@@ -269,24 +309,24 @@ struct Printer<'a, 'b> {
     uses: Vec<usize>,
 }
 
-impl<'a, 'b> Printer<'a, 'b> {
-    fn push(&mut self, text: &str) -> Result<(), Failure<'a>> {
+impl<'b> Printer<'b> {
+    fn push(&mut self, text: &str) -> Result<(), NoItems> {
         self.text.push_str(text)?;
         Ok(())
     }
 
     /// The name of an item, a field or a variant.
-    fn word(&mut self, name: &str) -> Result<(), Failure<'a>> {
+    fn word(&mut self, name: &str) -> Result<(), NoItems> {
         let is_word = name.bytes().all(|byte| byte.is_ascii_alphanumeric() || byte == b'_')
             && !name.starts_with(|first: char| first.is_ascii_digit());
         if name.is_empty() || !is_word || is_one_of(name, KEYWORDS) {
-            return Err(refused(self.alloc, self.path, name, "is no name in Rust"));
+            return Err(refused(self.alloc, name, "is no name in Rust"));
         }
         self.push(name)
     }
 
     /// The item of a name, by its instances.
-    fn item(&mut self, stem: &str, instances: &[&'b str]) -> Result<(), Failure<'a>> {
+    fn item(&mut self, stem: &str, instances: &[&'b str]) -> Result<(), NoItems> {
         let mut shapes: Vec<&'b Definition> = Vec::new(self.alloc);
         self.given.clear();
         for instance in instances {
@@ -319,7 +359,7 @@ impl<'a, 'b> Printer<'a, 'b> {
     }
 
     /// `struct Name<T1>` or `enum Name<T1>`.
-    fn head(&mut self, word: &str, stem: &str) -> Result<(), Failure<'a>> {
+    fn head(&mut self, word: &str, stem: &str) -> Result<(), NoItems> {
         self.push(word)?;
         self.word(stem)?;
         let mut mark = "<";
@@ -333,15 +373,10 @@ impl<'a, 'b> Printer<'a, 'b> {
         Ok(())
     }
 
-    fn structure(&mut self, stem: &str, shapes: &[&'b Definition]) -> Result<(), Failure<'a>> {
+    fn structure(&mut self, stem: &str, shapes: &[&'b Definition]) -> Result<(), NoItems> {
         self.head("\nstruct ", stem)?;
-        let mut fields = Vec::new(self.alloc);
-        for definition in shapes {
-            push_fields(definition, &mut fields)?;
-        }
-        self.fields(fields.as_slice(), OF_STRUCT)?;
-        let has_names = matches!(fields.first(), Some(Fields::NamedFields(_)));
-        self.push(if has_names { "\n" } else { ";\n" })
+        self.fields(shapes, OF_STRUCT)?;
+        self.push(if self.text.ends_with('}') { "\n" } else { ";\n" })
     }
 
     fn enumeration(
@@ -349,10 +384,12 @@ impl<'a, 'b> Printer<'a, 'b> {
         stem: &str,
         variants: &'b [(i64, String, String)],
         shapes: &[&'b Definition],
-    ) -> Result<(), Failure<'a>> {
+    ) -> Result<(), NoItems> {
         let mut is_explicit = false;
-        for (at, (tag, _, _)) in variants.iter().enumerate() {
-            is_explicit = is_explicit || *tag != at as i64;
+        let mut next: i64 = 0;
+        for (tag, _, _) in variants {
+            is_explicit = is_explicit || *tag != next;
+            next = next.saturating_add(1);
         }
         if is_explicit {
             self.push("\n#[borsh(use_discriminant = true)]\n#[repr(u8)]")?;
@@ -363,19 +400,18 @@ impl<'a, 'b> Printer<'a, 'b> {
             self.push("    ")?;
             self.word(name.as_str())?;
             if *tag < 0 {
-                return Err(refused(self.alloc, self.path, name.as_str(), "has a tag below 0"));
+                return Err(refused(self.alloc, name.as_str(), "has a tag below 0"));
             }
-            let mut fields = Vec::new(self.alloc);
-            for definition in shapes {
-                if let Definition::Enum { variants, .. } = definition
-                    && let Some((_, _, whole)) = variants.get(at)
-                    && let Some(definition) = self.definitions.get(whole.as_str())
+            let mut parts: Vec<&'b Definition> = Vec::new(self.alloc);
+            for shape in shapes {
+                if let Some(part) = referenced_part(shape, at)
+                    && let Some(definition) = self.definitions.get(part)
                 {
-                    push_fields(definition, &mut fields)?;
+                    parts.push(definition)?;
                 }
             }
             self.open(whole.as_str())?;
-            self.fields(fields.as_slice(), OF_VARIANT)?;
+            self.fields(parts.as_slice(), OF_VARIANT)?;
             if is_explicit {
                 self.push(format!(in self.alloc; " = {tag}")?.as_str())?;
             }
@@ -385,37 +421,40 @@ impl<'a, 'b> Printer<'a, 'b> {
     }
 
     /// Fields, which each instance has.
-    fn fields(&mut self, fields: &[&'b Fields], marks: [&str; 3]) -> Result<(), Failure<'a>> {
-        match fields.first() {
-            Some(Fields::NamedFields(list)) => {
+    fn fields(&mut self, shapes: &[&'b Definition], marks: [&str; 3]) -> Result<(), NoItems> {
+        let Some(Definition::Struct { fields }) = shapes.first() else {
+            return Ok(());
+        };
+        match fields {
+            Fields::NamedFields(list) => {
                 let mut mark = marks[0];
                 for (at, (name, _)) in list.iter().enumerate() {
                     self.push(mark)?;
                     self.word(name.as_str())?;
                     self.push(": ")?;
-                    self.part(fields, at)?;
+                    self.part(shapes, at)?;
                     mark = marks[1];
                 }
                 self.push(marks[2])
             }
-            Some(Fields::UnnamedFields(list)) => {
+            Fields::UnnamedFields(list) => {
                 let mut mark = "(";
                 for at in 0..list.len() {
                     self.push(mark)?;
-                    self.part(fields, at)?;
+                    self.part(shapes, at)?;
                     mark = ", ";
                 }
                 self.push(")")
             }
-            _ => Ok(()),
+            Fields::Empty => Ok(()),
         }
     }
 
     /// The type of a field, where the parameters are named in place of what they stand for.
-    fn part(&mut self, fields: &[&'b Fields], at: usize) -> Result<(), Failure<'a>> {
+    fn part(&mut self, shapes: &[&'b Definition], at: usize) -> Result<(), NoItems> {
         let mut rests: Vec<&'b [u8]> = Vec::new(self.alloc);
-        for one in fields {
-            rests.push(type_at(one, at).as_bytes())?;
+        for shape in shapes {
+            rests.push(referenced_part(shape, at).unwrap_or("").as_bytes())?;
         }
         let most = match rests.first() {
             Some(rest) => rest.len(),
@@ -436,8 +475,7 @@ impl<'a, 'b> Printer<'a, 'b> {
         let text = str::from_utf8(written.as_slice()).unwrap_or("");
         match parse_type(self.alloc, &mut self.scratch, text) {
             Ok(_) => self.push(text),
-            Err(TextError::OutOfMemory) => Err(Failure::OutOfMemory),
-            Err(_) => Err(refused(self.alloc, self.path, text, "is no type in Rust")),
+            Err(error) => Err(not_read(self.alloc, text, &error)),
         }
     }
 
@@ -490,29 +528,4 @@ fn next_byte(rests: &mut Vec<&[u8]>) -> Option<u8> {
         *rest = rest.strip_prefix(&[byte])?;
     }
     Some(byte)
-}
-
-fn push_fields<'b>(
-    definition: &'b Definition,
-    fields: &mut Vec<&'b Fields>,
-) -> Result<(), AllocError> {
-    if let Definition::Struct { fields: own } = definition {
-        fields.push(own)?;
-    }
-    Ok(())
-}
-
-/// The name of the type of a field.
-fn type_at(fields: &Fields, at: usize) -> &str {
-    match fields {
-        Fields::NamedFields(list) => match list.get(at) {
-            Some((_, name)) => name.as_str(),
-            None => "",
-        },
-        Fields::UnnamedFields(list) => match list.get(at) {
-            Some(name) => name.as_str(),
-            None => "",
-        },
-        Fields::Empty => "",
-    }
 }
