@@ -31,7 +31,7 @@ pub record IsUndecided (S : Source) (x : List ℕ) : Type 0 where
 abbrev pub IsSaid : Source → List ℕ → Cause → Type 0
 IsSaid S x UnknownType = IsNoItem S x × IsNoFormat x
 IsSaid S x UnknownConstant = IsNoItem S x
-IsSaid S x (Arguments n m) = n ≡ m → ⊥
+IsSaid S x (Arguments n m) = Unit {0}
 IsSaid S x NoType = Unit {0}
 IsSaid S x NoNumber = Unit {0}
 IsSaid S x NoValue = Unit {0}

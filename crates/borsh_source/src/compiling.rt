@@ -115,7 +115,9 @@ fn broken(
 ///
 /// An error says what is wrong, about which name, and where: [`Cause`] lists all. At most 128 types or expressions may contain
 /// one another, 65,536 items be used and 67,108,864 types, expressions and bytes of names be read and written; beyond, the
-/// cause is `TooDeep` or `TooLarge`. Left open: memory; which refusal comes, and that it is true.
+/// cause is `TooDeep` or `TooLarge`. A name that is said to be unknown is that of no item, and as a type's of none of the format; an
+/// enum that is refused for its discriminants has some, and doesn't say whether they are the tags; a rule that is said to be broken
+/// is broken by the container of the type. Left open: memory; which refusal comes, and that the other causes are true.
 ///
 /// ```
 /// let compiled = compile(alloc, &source, root)?;

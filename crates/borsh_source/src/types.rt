@@ -84,7 +84,7 @@ fn other_number(
     expected: usize,
     found: usize,
 ) -> CompileError
-    ensures { (expected ≡ found → ⊥) → IsTold (source_of context.now) result }
+    ensures { IsTold (source_of context.now) result }
 {
     refused(
         context.alloc,

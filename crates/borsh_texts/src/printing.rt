@@ -347,12 +347,16 @@ impl<'b> Printer<'b> {
     /// Lets the fields that come name the parameters whose types stand in the name of their definition, and no others.
     fn open(&mut self, name: &str) -> Result<(), AllocError> {
         let wanted = arguments_of(self.alloc, name)?;
-        let mut wanted = wanted.iter().peekable();
+        let mut next: usize = 0;
         self.uses.clear();
         if let Some(given) = self.given.first() {
             for argument in given {
-                let is_open = wanted.next_if_eq(&argument).is_some();
-                self.uses.push(if is_open { 0 } else { usize::MAX })?;
+                if wanted.get(next) == Some(argument) {
+                    self.uses.push(0)?;
+                    next = next.saturating_add(1);
+                } else {
+                    self.uses.push(usize::MAX)?;
+                }
             }
         }
         Ok(())
@@ -376,7 +380,8 @@ impl<'b> Printer<'b> {
     fn structure(&mut self, stem: &str, shapes: &[&'b Definition]) -> Result<(), NoItems> {
         self.head("\nstruct ", stem)?;
         self.fields(shapes, OF_STRUCT)?;
-        self.push(if self.text.ends_with('}') { "\n" } else { ";\n" })
+        let has_braces = self.text.ends_with('}');
+        self.push(if has_braces { "\n" } else { ";\n" })
     }
 
     fn enumeration(
@@ -462,7 +467,7 @@ impl<'b> Printer<'b> {
         };
         let mut written = Vec::new(self.alloc);
         let mut begins = true;
-        for _ in 0..=most {
+        for _ in 0..most {
             if begins && let Some(which) = self.parameter(&mut rests) {
                 let name = format!(in self.alloc; "T{which}")?;
                 written.extend_from_slice(name.as_bytes())?;

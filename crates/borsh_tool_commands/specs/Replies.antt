@@ -11,7 +11,8 @@ use Rattle.borsh_tool_commands.specs.declared.replies.Reply.{Reply}
 use Rattle.borsh_tool_commands.specs.declared.values.Schema.{Schema}
 use Rattle.borsh_tool_commands.specs.Answers.{AnswersMember, line_of}
 use Rattle.borsh_tool_commands.specs.Failures.{IsNoAnswer, IsNoJson, IsNoValue}
-use Rattle.borsh_tool_commands.specs.Items.{IsItemsText}
+use Rattle.borsh_tool_commands.specs.Items.{AreItems}
+use Rattle.borsh_texts.specs.declared.printing.Items.{Items}
 use Rattle.borsh_tool_commands.specs.Json.{IsJsonLine, layout_if}
 use Rattle.borsh_tool_commands.specs.Many.{IsWriteFailure}
 use Rattle.borsh_tool_commands.specs.Plain.{digits}
@@ -41,7 +42,7 @@ IsSchemaReply bytes is_yes out = (is_yes ≡ true) × IsContainer bytes × IsSch
 
 -- `schema --rust` replies the text of items of the container's bytes, as a yes
 abbrev pub IsRustReply : List ℕ → Bool → List ℕ → Type 0
-IsRustReply bytes is_yes out = (is_yes ≡ true) × IsItemsText bytes out
+IsRustReply bytes is_yes out = (is_yes ≡ true) × ((i : Items) × AreItems bytes i × (out ≡ string_bytes i.text))
 
 -- `compile` replies the bytes of a container alone, or their digits, as a yes
 abbrev pub IsContainerReply : Schema → Bool → Bool → List ℕ → Type 0

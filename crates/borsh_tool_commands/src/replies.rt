@@ -10,7 +10,7 @@ use super::answers::{Answer, answer_to, container_from};
 use super::command::{Action, Request, ValueRequest};
 use super::failure::Failure;
 use super::output::write_made;
-use super::types::items_text;
+use super::types::items_of;
 use super::values::{
     Schema, encoded, hex_line, json_text, member, no_container, schema_json, strict_member,
     with_schema,
@@ -161,7 +161,7 @@ pub fn write_schema_json<'a, W: Write>(
     write_whole(yes(text.into_bytes()), out)
 }
 
-/// [`write_reply`] of [`items_text`].
+/// [`write_reply`] of the text of [`items_of`].
 ///
 /// ```
 /// assert!(rt; write_rust(alloc, "readme.borsh", bytes.as_slice(), &mut out)?);
@@ -174,8 +174,8 @@ pub fn write_rust<'a, W: Write>(
 ) -> Result<bool, Failure<'a>>
     ensures { Prints (IsRustReply bytes.now) Any W.writing out.old out.new result }
 {
-    let text = items_text(alloc, path, bytes)?;
-    write_whole(yes(text.into_bytes()), out)
+    let items = items_of(alloc, path, bytes)?;
+    write_whole(yes(items.text.into_bytes()), out)
 }
 
 /// Writes the encoding of a container, or its digits as a line. Errors as of [`write_reply`].
