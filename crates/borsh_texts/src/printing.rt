@@ -112,11 +112,7 @@ fn same_items<'b>(
         (definitions_by_name i.compiled.definitions)) }
 {
     let outcome = compiled(alloc, root, definitions, names);
-    for (name, definition) in definitions {
-        if is_item(definition) && !is_defined(&outcome, name.as_str(), definition) {
-            names.insert(name.as_str())?;
-        }
-    }
+    add_others(&outcome, definitions, names)?;
     let items = outcome?;
     if let Some(name) = other_name(definitions, &items.compiled.definitions) {
         return Err(refused(alloc, name, "has another definition, or none"));
@@ -127,15 +123,26 @@ fn same_items<'b>(
     Ok(items)
 }
 
-fn is_item(definition: &Definition) -> bool {
-    matches!(definition, Definition::Struct { .. } | Definition::Enum { .. })
+/// Adds the names of the structs and enums that came out otherwise.
+fn add_others<'b>(
+    outcome: &Result<Items, NoItems>,
+    definitions: &'b BTreeMap<String, Definition>,
+    names: &mut BTreeSet<&'b str>,
+) -> Result<(), AllocError> {
+    for (name, definition) in definitions {
+        let is_same = match outcome {
+            Ok(items) => items.compiled.definitions.get(name.as_str()) == Some(definition),
+            Err(_) => false,
+        };
+        if is_item(definition) && !is_same {
+            names.insert(name.as_str())?;
+        }
+    }
+    Ok(())
 }
 
-fn is_defined(outcome: &Result<Items, NoItems>, name: &str, definition: &Definition) -> bool {
-    match outcome {
-        Ok(items) => items.compiled.definitions.get(name) == Some(definition),
-        Err(_) => false,
-    }
+fn is_item(definition: &Definition) -> bool {
+    matches!(definition, Definition::Struct { .. } | Definition::Enum { .. })
 }
 
 /// A name that two maps define differently.
