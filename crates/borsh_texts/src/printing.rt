@@ -142,7 +142,10 @@ fn add_others<'b>(
 }
 
 fn is_item(definition: &Definition) -> bool {
-    matches!(definition, Definition::Struct { .. } | Definition::Enum { .. })
+    matches!(
+        definition,
+        Definition::Struct { .. } | Definition::Enum { .. }
+    )
 }
 
 /// A name that two maps define differently.
@@ -324,7 +327,9 @@ impl<'b> Printer<'b> {
 
     /// The name of an item, a field or a variant.
     fn word(&mut self, name: &str) -> Result<(), NoItems> {
-        let is_word = name.bytes().all(|byte| byte.is_ascii_alphanumeric() || byte == b'_')
+        let is_word = name
+            .bytes()
+            .all(|byte| byte.is_ascii_alphanumeric() || byte == b'_')
             && !name.starts_with(|first: char| first.is_ascii_digit());
         if name.is_empty() || !is_word || is_one_of(name, KEYWORDS) {
             return Err(refused(self.alloc, name, "is no name in Rust"));

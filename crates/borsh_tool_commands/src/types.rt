@@ -93,7 +93,12 @@ fn is_encoding(alloc: Global, compiled: &Compiled, bytes: &[u8]) -> Result<bool,
     ensures { IfOk result (λ b. IsTrue b → compiled_encoding compiled.now ≡ Some bytes.now) }
 {
     let mut made = Vec::new(alloc);
-    let Ok(()) = write_two(&compiled.declaration, &compiled.definitions, alloc, &mut made) else {
+    let Ok(()) = write_two(
+        &compiled.declaration,
+        &compiled.definitions,
+        alloc,
+        &mut made,
+    ) else {
         return Err(AllocError);
     };
     Ok(made.as_slice() == bytes)

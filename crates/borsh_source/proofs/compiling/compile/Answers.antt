@@ -14,5 +14,5 @@ returns-clause-told c =
       is = subst (λ s. IsMeaning s c.args.root (string_bytes d) (definitions_in o)) c.in_ok-context.ensures.1 c.in_ok-declaration.ensures;
       fault = c.in-Err.error;
       broken = subst (λ n. RulesFault (shapes_in o.definitions) n c.in-Err.error) c.as_str.ensures.value c.in-Err.ensures;
-      says = c.in_ok-broken-in-Err.ensures
+      says = c.in_ok-broken-in-Err.ensures;
     })
