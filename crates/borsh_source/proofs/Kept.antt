@@ -1,6 +1,6 @@
 -- What is kept of a list, and of two together.
-use Rattle.std.proofs.Common.{◌≡◌, ℕ, List, [], ◌∷◌, ◌++◌, map, refl, ap, Bool, true, false, cond, None}
-use Rattle.std.specs.Prelude.{string_bytes}
+use Rattle.std.proofs.Common.{◌≡◌, ℕ, suc, zero, List, [], ◌∷◌, ◌++◌, map, refl, ap, subst, Bool, true, false, cond, None, Some}
+use Rattle.std.specs.Prelude.{slice_get, string_bytes}
 use Rattle.borsh_source.specs.Views.{Stands, unread, named, number, stands}
 use Rattle.borsh_source.specs.Meaning.{names_of, kept_types, kept_names, HaveNone}
 use Rattle.borsh_source.specs.declared.uses.Given.{Given}
@@ -31,3 +31,8 @@ names_given-append (g ∷ gs) ys = more (stands g) _ _ _ (names_given-append gs 
 pub none_more : (vs : List Variant) (v : Variant) → HaveNone vs → v.discriminant ≡ None → HaveNone (vs ++ v ∷ [])
 none_more [] v h e = (e, tt)
 none_more (w ∷ ws) v h e = (h.0, none_more ws v h.1 e)
+
+pub none_at : (vs : List Variant) (i : ℕ) (v : Variant) → slice_get vs i ≡ Some v → HaveNone vs → v.discriminant ≡ None
+none_at [] i v e h = cc
+none_at (w ∷ ws) zero v e h = let q : w ≡ v = cc in subst (λ z. z.discriminant ≡ None) q h.0
+none_at (w ∷ ws) (suc i) v e h = none_at ws i v e h.1

@@ -10,3 +10,4 @@ pub mod Kept
 pub mod Results
 pub mod Names
 pub mod Defining
+pub mod Unknown

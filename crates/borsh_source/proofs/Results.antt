@@ -1,15 +1,15 @@
 -- Results that are handed on.
 use Rattle.std.proofs.Common.{◌≡◌, ℕ, List, [], Some, None, subst, Ok, Err, Bool, true, false}
-use Rattle.std.specs.Prelude.{Result, IfOk, Option}
+use Rattle.std.specs.Prelude.{Result, MatchResult, Option}
 use Rattle.borsh_source.specs.Views.{Stands}
 use Rattle.borsh_source.specs.Numbers.{Evaluates}
 use Rattle.borsh_source.specs.Meaning.{IsDiscriminant}
 use Rattle.borsh_source.specs.declared.tree.Source.{Source}
 use Rattle.borsh_source.specs.declared.tree.Parameter.{Parameter}
 
-pub ok_map : {T E : Type 0} {P Q : T → Type 0} (r : Result T E) → ((x : T) → P x → Q x) → IfOk r P → IfOk r Q
-ok_map (Ok x) f h = f x h
-ok_map (Err e) f h = tt
+pub ok_map : {T E : Type 0} {P Q : T → Type 0} (R : E → Type 0) (r : Result T E) → ((x : T) → P x → Q x) → MatchResult r P R → MatchResult r Q R
+ok_map R (Ok x) f h = f x h
+ok_map R (Err e) f h = h
 
 -- outside of an item there are no parameters
 pub evaluates_outside : (S : Source) (ps : List Parameter) (gs : List Stands) (e n : ℕ) → ps ≡ [] → gs ≡ [] → Evaluates S ps gs e n → Evaluates S [] [] e n

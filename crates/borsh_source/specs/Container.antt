@@ -1,5 +1,10 @@
 -- The container of a type, and what a step towards it adds.
-use Rattle.std.specs.Prelude.{◌≡◌, ℕ, List, [], map, Some, ◌⊎◌, slice_get}
+use Rattle.std.specs.Prelude.{◌≡◌, ℕ, List, [], map, Some, ◌⊎◌, slice_get, string_bytes}
+use Rattle.std.specs.Borrow.{Bor}
+use Rattle.borsh_walks.specs.Definitions.{definitions_in as shapes_in}
+use Rattle.borsh_walks.specs.RulesAnswer.{RulesFault}
+use Rattle.borsh_walks.specs.Errors.{broken_rule}
+use Rattle.borsh_walks.specs.declared.error.SchemaContainerValidateError.{SchemaContainerValidateError}
 use Rattle.borsh_definitions.specs.Described.{NamedDefinition, DefinitionMap, definitions_by_name}
 use Rattle.borsh_source.specs.Lists.{IsListed, AreListed}
 use Rattle.borsh_source.specs.Views.{Used, used}
@@ -7,6 +12,10 @@ use Rattle.borsh_source.specs.Forms.{Entry}
 use Rattle.borsh_source.specs.Meaning.{Means, Defines}
 use Rattle.borsh_source.specs.declared.tree.Source.{Source}
 use Rattle.borsh_source.specs.declared.adding.Output.{Output}
+use Rattle.borsh_source.specs.declared.compiling.Compiled.{Compiled}
+use Rattle.borsh_source.specs.declared.error.CompileError.{CompileError}
+use Rattle.borsh_source.specs.declared.error.CompileError.TheVariants.{Refused, OutOfMemory}
+use Rattle.borsh_source.specs.declared.error.Cause.TheVariants.{Rule}
 
 -- ---- steps
 
@@ -82,3 +91,18 @@ pub record IsMeaning (S : Source) (root : ℕ) (name : List ℕ) (D : Definition
   pub defined : (u : Used) → IsListed u all → IsDefined S D all u
   -- and nothing else
   pub only : (n : List ℕ) (d : NamedDefinition) → D n ≡ Some d → IsBrought S root (n, d)
+
+-- ---- refusals
+
+-- the error says the rule and the name that the fault of a container says, or that an allocation failed
+abbrev pub SaysFault : SchemaContainerValidateError → CompileError → Type 0
+SaysFault f (Refused place cause name) = (rule : Bor (List ℕ)) × (cause ≡ Rule rule) × (broken_rule f ≡ Some (rule.now, string_bytes name))
+SaysFault f OutOfMemory = Unit {0}
+
+-- the error says a rule of the format that the container of the type breaks
+pub record IsBroken (S : Source) (root : ℕ) (e : CompileError) : Type 0 where
+  pub container : Compiled
+  pub is : IsMeaning S root (string_bytes container.declaration) (definitions_by_name container.definitions)
+  pub fault : SchemaContainerValidateError
+  pub broken : RulesFault (shapes_in container.definitions) (string_bytes container.declaration) fault
+  pub says : SaysFault fault e

@@ -5,5 +5,6 @@ pub mod Reading
 pub mod Formats
 pub mod Forms
 pub mod Meaning
+pub mod Errors
 pub mod Container
 pub mod Heads

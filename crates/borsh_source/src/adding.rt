@@ -2,9 +2,10 @@
 ghost use Rattle.std.specs.Prelude.{◌≡◌, ◌∷◌, [], Decides, IsTrue, OnOk, map, string_bytes};
 ghost use Rattle.borsh_definitions.specs.Described.{definitions_by_name, named_definition};
 ghost use Rattle.borsh_source.specs.Container.{Adds, AreThese, Brings, IsKept, uses_in};
+ghost use Rattle.borsh_source.specs.Errors.{Answers};
 ghost use Rattle.borsh_source.specs.Forms.{entry as entry_of};
 ghost use Rattle.borsh_source.specs.Lists.{IsListed};
-ghost use Rattle.borsh_source.specs.Views.{used as used_of};
+ghost use Rattle.borsh_source.specs.Views.{source_of, used as used_of};
 
 use crate::context::{Context, element, spend};
 use crate::error::{Cause, CompileError, refused};
@@ -12,6 +13,7 @@ use crate::forms::Entry;
 use crate::tree::Place;
 use crate::uses::Use;
 use borsh_walks::{Declaration, Definition};
+use std::alloc::AllocError;
 use std::collections::BTreeMap;
 
 /// The definitions so far, the items that are used, and what may still be read and written.
@@ -51,7 +53,7 @@ fn put(
     definition: Definition,
     definitions: &mut BTreeMap<Declaration, Definition>,
 ) -> Result<(), CompileError>
-    ensures { OnOk result (Adds (definitions_by_name definitions.old)
+    ensures { Answers (source_of context.now) result (λ _. Adds (definitions_by_name definitions.old)
         (definitions_by_name definitions.new) ((string_bytes name, named_definition definition) ∷ [])) }
 {
     if let Some(known) = definitions.get(name.as_str()) {
@@ -71,7 +73,7 @@ fn add(
     entry: Entry,
     output: &mut Output<'_>,
 ) -> Result<(), CompileError>
-    ensures { OnOk result (Brings (AreThese (entry_of entry ∷ []) []) output.old output.new) }
+    ensures { Answers (source_of context.now) result (λ _. Brings (AreThese (entry_of entry ∷ []) []) output.old output.new) }
 {
     let (name, definition) = entry;
     spend(context, place, name.len() as u64, &mut output.left)?;
@@ -87,8 +89,7 @@ pub fn add_all(
     entries: Vec<Entry>,
     output: &mut Output<'_>,
 ) -> Result<(), CompileError>
-    ensures { OnOk result
-        (Brings (AreThese (map entry_of entries.items) []) output.old output.new) }
+    ensures { Answers (source_of context.now) result (λ _. Brings (AreThese (map entry_of entries.items) []) output.old output.new) }
 {
     for entry in entries {
         add(context, place, entry, output)?;
@@ -113,9 +114,8 @@ fn is_noted(output: &Output<'_>, used: &Use) -> bool
 }
 
 /// Notes that an item is used. One that is known is not noted again.
-pub fn add_use(used: Use, output: &mut Output<'_>) -> Result<(), CompileError>
-    ensures { OnOk result
-        (Brings (AreThese [] (used_of used ∷ [])) output.old output.new) }
+pub fn add_use(used: Use, output: &mut Output<'_>) -> Result<(), AllocError>
+    ensures { OnOk result (Brings (AreThese [] (used_of used ∷ [])) output.old output.new) }
 {
     if is_noted(output, &used) {
         return Ok(());

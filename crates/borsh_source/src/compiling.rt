@@ -1,9 +1,11 @@
 // A tree and a type are compiled.
-ghost use Rattle.std.specs.Prelude.{IfOk, OnOk, string_bytes};
+ghost use Rattle.std.specs.Prelude.{◌⊎◌, ⊤, IfErr, IfOk, string_bytes};
 ghost use Rattle.borsh_definitions.specs.Described.{definitions_by_name};
 ghost use Rattle.borsh_walks.specs.Container.{IsValid};
 ghost use Rattle.borsh_walks.specs.Definitions.{definitions_in as shapes_in};
-ghost use Rattle.borsh_source.specs.Container.{IsMeaning, definitions_in};
+ghost use Rattle.borsh_walks.specs.RulesAnswer.{JudgesRules};
+ghost use Rattle.borsh_source.specs.Errors.{Answers, IsTold};
+ghost use Rattle.borsh_source.specs.Container.{IsBroken, IsMeaning, SaysFault, definitions_in};
 ghost use Rattle.borsh_source.specs.Views.{IsIndexed, source_of};
 
 use crate::adding::Output;
@@ -36,7 +38,7 @@ fn collected<'b>(
     wanted: Option<&'b str>,
 ) -> Result<(Declaration, Output<'b>), CompileError>
     requires { IsIndexed context.now }
-    ensures { IfOk result (λ p. IsMeaning (source_of context.now) root (string_bytes p.0) (definitions_in p.1)) }
+    ensures { Answers (source_of context.now) result (λ p. IsMeaning (source_of context.now) root (string_bytes p.0) (definitions_in p.1)) }
 {
     let definitions = BTreeMap::new(context.alloc);
     let uses = Vec::new(context.alloc);
@@ -69,6 +71,7 @@ fn collected<'b>(
 // The place of the type that first gave the name its definition.
 fn place_of(context: &Context<'_>, root: usize, name: &str) -> Result<Place, CompileError>
     requires { IsIndexed context.now }
+    ensures { Answers (source_of context.now) result (λ _. ⊤) }
 {
     let (_, output) = collected(context, root, Some(name))?;
     Ok(output.found.unwrap_or(Place { line: 0, column: 0 }))
@@ -80,7 +83,7 @@ fn check(
     root: &str,
     definitions: &BTreeMap<Declaration, Definition>,
 ) -> Result<(), SchemaContainerValidateError>
-    ensures { OnOk result (IsValid (shapes_in definitions.now) root.now) }
+    ensures { JudgesRules (shapes_in definitions.now) root.now result }
 {
     let mut counts = Expansions::NONE;
     let mut counted = Counted::new(definitions, &mut counts);
@@ -94,6 +97,7 @@ fn broken(
     error: &SchemaContainerValidateError,
 ) -> Result<CompileError, CompileError>
     requires { IsIndexed context.now }
+    ensures { Answers (source_of context.now) result (SaysFault error.now) }
 {
     let Some((rule, name)) = error.broken_rule() else {
         return Ok(CompileError::OutOfMemory);
@@ -111,7 +115,9 @@ fn broken(
 ///
 /// An error says what is wrong, about which name, and where: [`Cause`] lists all. At most 128 types or expressions may contain
 /// one another, 65,536 items be used and 67,108,864 types, expressions and bytes of names be read and written; beyond, the
-/// cause is `TooDeep` or `TooLarge`. Left open: memory; which refusal comes, and that it is true.
+/// cause is `TooDeep` or `TooLarge`. A name that is said to be unknown is that of no item, and as a type's of none of the format; an
+/// enum that is refused for its discriminants has some, and doesn't say whether they are the tags; a rule that is said to be broken
+/// is broken by the container of the type. Left open: memory; which refusal comes, and that the other causes are true.
 ///
 /// ```
 /// let compiled = compile(alloc, &source, root)?;
@@ -121,6 +127,7 @@ pub fn compile(alloc: Global, source: &Source, root: usize) -> Result<Compiled, 
     ensures meaning { IfOk result (λ c. IsMeaning source.now root (string_bytes c.declaration)
         (definitions_by_name c.definitions)) }
     ensures valid { IfOk result (λ c. IsValid (shapes_in c.definitions) (string_bytes c.declaration)) }
+    ensures told { IfErr result (λ e. IsTold source.now e ⊎ IsBroken source.now root e) }
 {
     let context = Context::new(alloc, source)?;
     let (declaration, output) = collected(&context, root, None)?;

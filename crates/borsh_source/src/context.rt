@@ -1,10 +1,11 @@
 // The tree, and its items by their names.
-ghost use Rattle.std.specs.Prelude.{◌≡◌, ◌+◌, IfOk, option_map, slice_get};
+ghost use Rattle.std.specs.Prelude.{◌≡◌, ◌+◌, ⊤, IfOk, option_map, slice_get};
+ghost use Rattle.borsh_source.specs.Errors.{Answers, IsTold};
 ghost use Rattle.borsh_source.specs.Views.{IsFirst, IsFound, IsIndexed, mark_of, source_of};
 
 use crate::error::{Cause, CompileError, refused};
 use crate::tree::{Item, Place, Source};
-use std::alloc::Global;
+use std::alloc::{AllocError, Global};
 use std::collections::HashMap;
 
 /// A tree, and the index of each item by its name; none of a name that comes twice.
@@ -16,8 +17,8 @@ pub struct Context<'a> {
 }
 
 impl<'a> Context<'a> {
-    /// The tree with an index of its items. The only error is that an allocation failed.
-    pub fn new(alloc: Global, source: &'a Source) -> Result<Context<'a>, CompileError>
+    /// The tree with an index of its items.
+    pub fn new(alloc: Global, source: &'a Source) -> Result<Context<'a>, AllocError>
         ensures { IfOk result (λ c. IsIndexed c × (source_of c ≡ source.now)) }
     {
         let mut index: HashMap<&'a str, Option<usize>> = HashMap::new(alloc);
@@ -36,7 +37,7 @@ impl<'a> Context<'a> {
     /// The item of the name, and its index. A name that two items have is refused.
     pub fn item(&self, name: &str, place: Place) -> Result<Option<(usize, &'a Item)>, CompileError>
         requires { IsIndexed self.now }
-        ensures { IfOk result (IsFound (source_of self.now) name.now) }
+        ensures { Answers (source_of self.now) result (IsFound (source_of self.now) name.now) }
     {
         let Some(entry) = self.index.get(name) else {
             return Ok(None);
@@ -80,7 +81,9 @@ pub fn spend(
     place: Place,
     amount: u64,
     left: &mut u64,
-) -> Result<(), CompileError> {
+) -> Result<(), CompileError>
+    ensures { Answers (source_of context.now) result (λ _. ⊤) }
+{
     match left.checked_sub(amount) {
         Some(rest) => {
             *left = rest;
@@ -92,7 +95,7 @@ pub fn spend(
 
 /// The depth within, unless that is too deep.
 pub fn within(context: &Context<'_>, place: Place, depth: u32) -> Result<u32, CompileError>
-    ensures { IfOk result (λ less. depth ≡ less + 1) }
+    ensures { Answers (source_of context.now) result (λ less. depth ≡ less + 1) }
 {
     match depth.checked_sub(1) {
         Some(less) => Ok(less),
@@ -101,7 +104,9 @@ pub fn within(context: &Context<'_>, place: Place, depth: u32) -> Result<u32, Co
 }
 
 /// The refusal of a tree that names what it doesn't have.
-pub fn nowhere(context: &Context<'_>) -> CompileError {
+pub fn nowhere(context: &Context<'_>) -> CompileError
+    ensures { IsTold (source_of context.now) result }
+{
     refused(
         context.alloc,
         Place { line: 0, column: 0 },

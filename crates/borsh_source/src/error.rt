@@ -1,4 +1,9 @@
 // Why a type of a tree has no container.
+ghost use Rattle.borsh_source.specs.Errors.{IsRefusal, IsSaid, IsTold};
+ghost use Rattle.borsh_source.specs.declared.error.CompileError.TheVariants.{OutOfMemory};
+ghost use Rattle.borsh_source.specs.declared.tree.Source.{Source};
+ghost use Rattle.std.specs.Prelude.{◌≡◌};
+
 use crate::tree::Place;
 use std::alloc::{AllocError, AllocFailed, Global};
 
@@ -51,19 +56,26 @@ pub enum Cause {
 }
 
 impl From<AllocError> for CompileError {
+    ghost from_gives = { λ _ e. e ≡ OutOfMemory };
+
     fn from(_error: AllocError) -> CompileError {
         CompileError::OutOfMemory
     }
 }
 
 impl<T: Drop> From<AllocFailed<T>> for CompileError {
+    ghost from_gives = { λ _ e. e ≡ OutOfMemory };
+
     fn from(_error: AllocFailed<T>) -> CompileError {
         CompileError::OutOfMemory
     }
 }
 
 /// The refusal at a place, for a cause, about a name.
-pub fn refused(alloc: Global, place: Place, cause: Cause, name: &str) -> CompileError {
+pub fn refused(alloc: Global, place: Place, cause: Cause, name: &str) -> CompileError
+    ensures told { (tree : Source) → IsSaid tree name.now cause → IsTold tree result }
+    ensures is { IsRefusal cause name.now result }
+{
     match String::from_str(alloc, name) {
         Ok(name) => CompileError::Refused { place, cause, name },
         Err(_) => CompileError::OutOfMemory,

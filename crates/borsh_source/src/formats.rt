@@ -1,5 +1,7 @@
 // The types that the format has, by the names that they are written with.
-ghost use Rattle.std.specs.Prelude.{◌≡◌, IfSome};
+ghost use Rattle.std.specs.Prelude.{◌≡◌, ℕ, List, MatchOption};
+ghost use Rattle.borsh_source.specs.Errors.{IsNoFormat};
+ghost use Rattle.borsh_source.specs.declared.formats.Kind.{Kind};
 ghost use Rattle.borsh_source.specs.Formats.{IsFormat, IsOtherKind, most_arguments, non_zero_widths, read_arguments, widths};
 ghost use Rattle.borsh_source.specs.Lists.{IsListed};
 
@@ -64,7 +66,8 @@ pub fn most_arguments(kind: Kind) -> usize
 
 // The name that the schema of a type of so many bytes has, and how many.
 fn width_of(name: &str) -> Option<(&'static str, u8)>
-    ensures { IfSome result (λ p. IsListed (name.now, p.0.now, p.1) widths) }
+    ensures { MatchOption result ((stem : List ℕ) (width : ℕ) → IsListed (name.now, stem, width) widths → ⊥)
+        (λ p. IsListed (name.now, p.0.now, p.1) widths) }
 {
     match name {
         "u8" => Some(("u8", 1)),
@@ -89,7 +92,8 @@ fn width_of(name: &str) -> Option<(&'static str, u8)>
 
 // The same of the numbers other than zero.
 fn non_zero_width_of(name: &str) -> Option<(&'static str, u8)>
-    ensures { IfSome result (λ p. IsListed (name.now, p.0.now, p.1) non_zero_widths) }
+    ensures { MatchOption result ((stem : List ℕ) (width : ℕ) → IsListed (name.now, stem, width) non_zero_widths → ⊥)
+        (λ p. IsListed (name.now, p.0.now, p.1) non_zero_widths) }
 {
     match name {
         "NonZeroU8" => Some(("NonZeroU8", 1)),
@@ -109,7 +113,7 @@ fn non_zero_width_of(name: &str) -> Option<(&'static str, u8)>
 
 // What any other type is.
 fn kind_of(name: &str) -> Option<Kind>
-    ensures { IfSome result (IsOtherKind name.now) }
+    ensures { MatchOption result ((kind : Kind) → IsOtherKind name.now kind → ⊥) (IsOtherKind name.now) }
 {
     match name {
         "String" | "str" => Some(Kind::Text),
@@ -136,7 +140,7 @@ fn kind_of(name: &str) -> Option<Kind>
 
 /// The type of the format that is written with this name: the beginning of its schema's name, and what it is.
 pub fn format_of<'a>(name: &'a str) -> Option<(&'a str, Kind)>
-    ensures { IfSome result (λ p. IsFormat name.now p.0.now p.1) }
+    ensures { MatchOption result (IsNoFormat name.now) (λ p. IsFormat name.now p.0.now p.1) }
 {
     if let Some((stem, width)) = width_of(name) {
         return Some((stem, Kind::Bytes(width)));

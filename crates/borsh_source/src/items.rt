@@ -1,8 +1,9 @@
 // The definitions of items.
-ghost use Rattle.std.specs.Prelude.{◌≡◌, ◌<◌, ◌++◌, ◌∷◌, [], IfOk, IfSome, IsTrue, OnOk, if◌then◌else◌, map, pos, string_bytes, false};
+ghost use Rattle.std.specs.Prelude.{◌≡◌, ◌<◌, ◌++◌, ◌∷◌, [], IfOk, IsTrue, MatchOption, None, OnOk, if◌then◌else◌, map, pos, string_bytes, false};
 ghost use Rattle.borsh_definitions.specs.Described.{field_bytes, named_definition, unnamed, variant_bytes};
 ghost use Rattle.borsh_definitions.specs.Names.{beside};
 ghost use Rattle.borsh_source.specs.Container.{Brings};
+ghost use Rattle.borsh_source.specs.Errors.{Answers};
 ghost use Rattle.borsh_source.specs.Meaning.{Defines, FieldsBring, HaveNone, IsDecided, is_explicit, some_definition, IsDiscriminant, IsNewTag, SomeVariantsBring, fields_definition, kept_names, kept_types, read_given, variant_type};
 ghost use Rattle.borsh_source.specs.Views.{IsIndexed, given_in, parameters_of, source_of, stands, texts_of, unread, used as used_of};
 
@@ -161,7 +162,7 @@ fn add_fields(
     output: &mut Output<'_>,
 ) -> Result<(), CompileError>
     requires { IsIndexed context.now }
-    ensures { OnOk result (Brings (FieldsBring (source_of context.now)
+    ensures { Answers (source_of context.now) result (λ _. Brings (FieldsBring (source_of context.now)
         (parameters_of scope.entry) (given_in scope.entry) (string_bytes name) fields.now)
         output.old output.new) }
 {
@@ -181,7 +182,7 @@ fn variant_type(
     variant: &Variant,
     left: &mut u64,
 ) -> Result<Declaration, CompileError>
-    ensures { IfOk result (λ d. string_bytes d ≡ variant_type (source_of context.now)
+    ensures { Answers (source_of context.now) result (λ d. string_bytes d ≡ variant_type (source_of context.now)
         (parameters_of scope.entry) (given_in scope.entry) item.now variant.now) }
 {
     let name = variant.name.as_str();
@@ -209,7 +210,7 @@ fn push_read(
     read: &mut Vec<Given>,
     left: &mut u64,
 ) -> Result<(), CompileError>
-    ensures { OnOk result (map stands read.new.items ≡ map stands read.old.items
+    ensures { Answers (source_of context.now) result (λ _. map stands read.new.items ≡ map stands read.old.items
         ++ read_given (source_of context.now) fields.now parameters.now (map stands given.now)) }
 {
     match parameters {
@@ -246,7 +247,7 @@ fn discriminant_of(
     left: &mut u64,
 ) -> Result<u64, CompileError>
     requires { IsIndexed context.now }
-    ensures { IfOk result (IsDiscriminant (source_of context.now)
+    ensures { Answers (source_of context.now) result (IsDiscriminant (source_of context.now)
         variant.now.discriminant explicit next) }
 {
     match variant.discriminant {
@@ -271,10 +272,10 @@ fn tag_of(
     left: &mut u64,
 ) -> Result<u8, CompileError>
     requires { IsIndexed context.now }
-    ensures tag { IfOk result (IsDiscriminant (source_of context.now)
+    ensures tag { Answers (source_of context.now) result (IsDiscriminant (source_of context.now)
         variant.now.discriminant explicit next) }
-    ensures small { IfOk result (λ tag. tag < 256) }
-    ensures new { IfOk result (λ tag. IsNewTag tag (map variant_bytes rows.now)) }
+    ensures small { Answers (source_of context.now) result (λ tag. tag < 256) }
+    ensures new { Answers (source_of context.now) result (λ tag. IsNewTag tag (map variant_bytes rows.now)) }
 {
     let tag = discriminant_of(context, explicit, variant, next, left)?;
     let name = variant.name.as_str();
@@ -308,7 +309,7 @@ fn add_variants(
     output: &mut Output<'_>,
 ) -> Result<Vec<Row>, CompileError>
     requires { IsIndexed context.now }
-    ensures { IfOk result (λ rows. Brings (SomeVariantsBring (source_of context.now)
+    ensures { Answers (source_of context.now) result (λ rows. Brings (SomeVariantsBring (source_of context.now)
         (parameters_of scope.entry) (given_in scope.entry) item.now explicit variants.now
         (map variant_bytes rows.items)) output.old output.new) }
 {
@@ -350,7 +351,8 @@ fn push_row(
 
 // Whether a variant has a discriminant.
 fn has_discriminant(variants: &[Variant]) -> bool
-    ensures { (result ≡ false) → HaveNone variants.now }
+    ensures none { (result ≡ false) → HaveNone variants.now }
+    ensures some { IsTrue result → HaveNone variants.now → ⊥ }
 {
     for variant in variants {
         if variant.discriminant.is_some() {
@@ -367,8 +369,7 @@ pub fn add_item(
     output: &mut Output<'_>,
 ) -> Result<(), CompileError>
     requires { IsIndexed context.now }
-    ensures { OnOk result
-        (Brings (Defines (source_of context.now) (used_of used.now)) output.old output.new) }
+    ensures { Answers (source_of context.now) result (λ _. Brings (Defines (source_of context.now) (used_of used.now)) output.old output.new) }
 {
     let Some(item) = element(&context.source.items, used.item) else {
         return Err(nowhere(context));
@@ -408,7 +409,8 @@ pub fn add_item(
 
 // Whether the discriminants are the tags, if that is said, or there are none.
 fn explicit_tags(said: Option<bool>, variants: &[Variant]) -> Option<bool>
-    ensures { IfSome result (λ b. IsDecided said variants.now × (b ≡ is_explicit said)) }
+    ensures { MatchOption result ((said ≡ None) × (HaveNone variants.now → ⊥))
+        (λ b. IsDecided said variants.now × (b ≡ is_explicit said)) }
 {
     match said {
         Some(explicit) => Some(explicit),

@@ -4,34 +4,8 @@ use std::alloc::{AllocError, Global};
 use strsim::levenshtein;
 
 // The names of the format that are likely to be misspelled: the others differ in digits.
-const LIKELY: [&str; 26] = [
-    "bool",
-    "usize",
-    "isize",
-    "String",
-    "str",
-    "Option",
-    "Result",
-    "Vec",
-    "VecDeque",
-    "LinkedList",
-    "BTreeMap",
-    "BTreeSet",
-    "HashMap",
-    "HashSet",
-    "IndexMap",
-    "IndexSet",
-    "Box",
-    "Rc",
-    "Arc",
-    "Cow",
-    "PhantomData",
-    "Range",
-    "RangeInclusive",
-    "Uuid",
-    "IpAddr",
-    "SocketAddr",
-];
+const LIKELY: &str =
+    "bool usize isize String str Option Result Vec VecDeque LinkedList BTreeMap BTreeSet HashMap HashSet IndexMap IndexSet Box Rc Arc Cow PhantomData Range RangeInclusive Uuid IpAddr SocketAddr";
 
 // The nearer of two names, by how many edits lead to each; the first of equals.
 fn nearer<'a>(
@@ -66,7 +40,7 @@ pub fn nearest_name(
     for item in &source.items {
         best = nearer(alloc, name, item.name.as_str(), best)?;
     }
-    for known in LIKELY {
+    for known in LIKELY.split(' ') {
         best = nearer(alloc, name, known, best)?;
     }
     match best {

@@ -1,5 +1,6 @@
 // The values of expressions.
 ghost use Rattle.std.specs.Prelude.{IfOk, IfSome};
+ghost use Rattle.borsh_source.specs.Errors.{Answers};
 ghost use Rattle.borsh_source.specs.Numbers.{Applies, Evaluates, IsNumber};
 ghost use Rattle.borsh_source.specs.Views.{IsIndexed, given_in, parameters_of, source_of};
 
@@ -44,7 +45,7 @@ pub fn value_of(
     left: &mut u64,
 ) -> Result<u64, CompileError>
     requires { IsIndexed context.now }
-    ensures { IfOk result (λ n. Evaluates (source_of context.now)
+    ensures { Answers (source_of context.now) result (λ n. Evaluates (source_of context.now)
         (parameters_of scope.entry) (given_in scope.entry) at n) }
 {
     let Some(written) = element(&context.source.expressions, at) else {
@@ -89,7 +90,7 @@ pub fn number_named(
     left: &mut u64,
 ) -> Result<u64, CompileError>
     requires { IsIndexed context.now }
-    ensures { IfOk result (λ n. IsNumber (source_of context.now)
+    ensures { Answers (source_of context.now) result (λ n. IsNumber (source_of context.now)
         (parameters_of scope.entry) (given_in scope.entry) name.now n) }
 {
     if let Some(given) = given_as(scope.parameters, scope.given, name) {

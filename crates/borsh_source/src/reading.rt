@@ -1,6 +1,7 @@
 // Which parameters an item reads: those that it names outside of a `PhantomData` and of skipped fields.
 ghost use Rattle.std.specs.Prelude.{◌≡◌, IfOk};
 ghost use Rattle.std.specs.List.{list_any};
+ghost use Rattle.borsh_source.specs.Errors.{Answers};
 ghost use Rattle.borsh_source.specs.Reading.{fields_in, fields_name, names, path_names, reads, variants_name};
 ghost use Rattle.borsh_source.specs.Views.{source_of};
 
@@ -17,7 +18,7 @@ fn names(
     depth: u32,
     left: &mut u64,
 ) -> Result<bool, CompileError>
-    ensures { IfOk result (λ b. b ≡ names (source_of context.now) depth parameter.now at) }
+    ensures { Answers (source_of context.now) result (λ b. b ≡ names (source_of context.now) depth parameter.now at) }
 {
     let Some(written) = element(&context.source.types, at) else {
         return Ok(false);
@@ -56,7 +57,7 @@ fn path_names(
     depth: u32,
     left: &mut u64,
 ) -> Result<bool, CompileError>
-    ensures { IfOk result (λ b. b ≡ path_names
+    ensures { Answers (source_of context.now) result (λ b. b ≡ path_names
         (names (source_of context.now) depth parameter.now) parameter.now name.now arguments.now) }
 {
     match arguments {
@@ -74,7 +75,7 @@ fn any_names(
     depth: u32,
     left: &mut u64,
 ) -> Result<bool, CompileError>
-    ensures { IfOk result (λ b.
+    ensures { Answers (source_of context.now) result (λ b.
         b ≡ list_any (names (source_of context.now) depth parameter.now) types.now) }
 {
     for at in types {
@@ -103,7 +104,7 @@ pub fn fields_name(
     fields: &[Field],
     left: &mut u64,
 ) -> Result<bool, CompileError>
-    ensures { IfOk result (λ b. b ≡ fields_name (source_of context.now) parameter.now fields.now) }
+    ensures { Answers (source_of context.now) result (λ b. b ≡ fields_name (source_of context.now) parameter.now fields.now) }
 {
     for field in fields {
         if !field.skipped && names(context, parameter, field.written, DEEPEST, left)? {
@@ -120,7 +121,7 @@ fn variants_name(
     variants: &[Variant],
     left: &mut u64,
 ) -> Result<bool, CompileError>
-    ensures { IfOk result (λ b. b ≡ variants_name (source_of context.now) parameter.now variants.now) }
+    ensures { Answers (source_of context.now) result (λ b. b ≡ variants_name (source_of context.now) parameter.now variants.now) }
 {
     for variant in variants {
         if fields_name(context, parameter, fields_in(&variant.fields), left)? {
@@ -137,7 +138,7 @@ pub fn reads(
     parameter: &str,
     left: &mut u64,
 ) -> Result<bool, CompileError>
-    ensures { IfOk result (λ b. b ≡ reads (source_of context.now) parameter.now kind.now) }
+    ensures { Answers (source_of context.now) result (λ b. b ≡ reads (source_of context.now) parameter.now kind.now) }
 {
     match kind {
         ItemKind::Struct(fields) => fields_name(context, parameter, fields_in(fields), left),

@@ -1,6 +1,7 @@
 // The names of written types, and what they bring.
 ghost use Rattle.std.specs.Prelude.{◌≡◌, ◌++◌, ◌∷◌, [], IfOk, OnOk, map, string_bytes};
 ghost use Rattle.borsh_source.specs.Container.{AreThese, Brings};
+ghost use Rattle.borsh_source.specs.Errors.{Answers, IsTold};
 ghost use Rattle.borsh_source.specs.Heads.{ArrayMeans, FormBrings, IsForm, IsHead, IsOther, IsPathHead, use_of};
 ghost use Rattle.borsh_source.specs.Meaning.{Gives, GivesOne, IsNumberAt, ItemMeans, Means, MeansAll, name_with, names_of};
 ghost use Rattle.borsh_source.specs.Views.{IsIndexed, given_in, named, parameters_of, source_of, stands, texts_of};
@@ -31,14 +32,14 @@ enum Head<'a, 'b> {
 
 // A type of the format with one argument.
 fn head_of_one<'a, 'b>(
-    alloc: Global,
+    context: &Context<'_>,
     stem: &'static str,
     kind: Kind,
     argument: usize,
 ) -> Result<Head<'a, 'b>, CompileError>
-    ensures { IfOk result (IsForm stem.now kind (argument ∷ [])) }
+    ensures { Answers (source_of context.now) result (IsForm stem.now kind (argument ∷ [])) }
 {
-    Ok(Head::Format(stem, kind, vec![in alloc; argument]?))
+    Ok(Head::Format(stem, kind, vec![in context.alloc; argument]?))
 }
 
 // What a path is: a parameter, an item, or a type of the format.
@@ -50,7 +51,7 @@ fn head_of_path<'a, 'b>(
     place: Place,
 ) -> Result<Head<'a, 'b>, CompileError>
     requires { IsIndexed context.now }
-    ensures { IfOk result (IsPathHead (source_of context.now)
+    ensures { Answers (source_of context.now) result (IsPathHead (source_of context.now)
         (parameters_of scope.entry) (given_in scope.entry) name.now arguments.now) }
 {
     if let Some(given) = given_as(scope.parameters, scope.given, name) {
@@ -82,7 +83,9 @@ fn other_number(
     name: &str,
     expected: usize,
     found: usize,
-) -> CompileError {
+) -> CompileError
+    ensures { IsTold (source_of context.now) result }
+{
     refused(
         context.alloc,
         place,
@@ -98,7 +101,7 @@ fn head_of<'a, 'b>(
     written: &'a Type,
 ) -> Result<Head<'a, 'b>, CompileError>
     requires { IsIndexed context.now }
-    ensures { IfOk result (IsHead (source_of context.now)
+    ensures { Answers (source_of context.now) result (IsHead (source_of context.now)
         (parameters_of scope.entry) (given_in scope.entry) written.now.kind) }
 {
     if let TypeKind::Path { name, arguments } = &written.kind {
@@ -110,33 +113,39 @@ fn head_of<'a, 'b>(
             written.place,
         );
     }
-    head_of_other(context.alloc, written)
+    head_of_other(context, written)
 }
 
 // What isn't a path is a type of the format.
-fn head_of_other<'a, 'b>(alloc: Global, written: &Type) -> Result<Head<'a, 'b>, CompileError>
-    ensures { IfOk result (IsOther written.now.kind) }
+fn head_of_other<'a, 'b>(
+    context: &Context<'_>,
+    written: &Type,
+) -> Result<Head<'a, 'b>, CompileError>
+    ensures { Answers (source_of context.now) result (IsOther written.now.kind) }
 {
     if let TypeKind::Reference(to) = &written.kind {
-        return head_of_one(alloc, "", Kind::Through, *to);
+        return head_of_one(context, "", Kind::Through, *to);
     }
     if let TypeKind::Slice(element) = &written.kind {
-        return head_of_one(alloc, "Vec", Kind::List, *element);
+        return head_of_one(context, "Vec", Kind::List, *element);
     }
     if let TypeKind::Array { element, length } = &written.kind {
         return Ok(Head::Array(*element, *length));
     }
     if let TypeKind::Tuple(parts) = &written.kind {
-        return head_of_tuple(alloc, parts.as_slice());
+        return head_of_tuple(context, parts.as_slice());
     }
-    Err(refused(alloc, written.place, Cause::NoType, ""))
+    Err(refused(context.alloc, written.place, Cause::NoType, ""))
 }
 
 // A tuple.
-fn head_of_tuple<'a, 'b>(alloc: Global, parts: &[usize]) -> Result<Head<'a, 'b>, CompileError>
-    ensures { IfOk result (IsForm [] Kind.Tuple parts.now) }
+fn head_of_tuple<'a, 'b>(
+    context: &Context<'_>,
+    parts: &[usize],
+) -> Result<Head<'a, 'b>, CompileError>
+    ensures { Answers (source_of context.now) result (IsForm [] Kind.Tuple parts.now) }
 {
-    Ok(Head::Format("", Kind::Tuple, Vec::from_slice(alloc, parts)?))
+    Ok(Head::Format("", Kind::Tuple, Vec::from_slice(context.alloc, parts)?))
 }
 
 // What a type of the format brings beside its arguments, whose names these are.
@@ -148,7 +157,7 @@ fn add_form(
     names: &[Declaration],
     output: &mut Output<'_>,
 ) -> Result<Declaration, CompileError>
-    ensures { IfOk result (λ n. Brings
+    ensures { Answers (source_of context.now) result (λ n. Brings
         (FormBrings stem.now kind (texts_of names.now) (string_bytes n)) output.old output.new) }
 {
     let mut entries = Vec::new(context.alloc);
@@ -214,7 +223,7 @@ pub fn named(
     output: &mut Output<'_>,
 ) -> Result<Declaration, CompileError>
     requires { IsIndexed context.now }
-    ensures { IfOk result (λ n. Brings (Means (source_of context.now)
+    ensures { Answers (source_of context.now) result (λ n. Brings (Means (source_of context.now)
         (parameters_of scope.entry) (given_in scope.entry) at (string_bytes n)) output.old output.new) }
 {
     let Some(written) = element(&context.source.types, at) else {
@@ -251,7 +260,7 @@ fn array_named(
     output: &mut Output<'_>,
 ) -> Result<Declaration, CompileError>
     requires { IsIndexed context.now }
-    ensures { IfOk result (λ n. Brings (ArrayMeans (source_of context.now)
+    ensures { Answers (source_of context.now) result (λ n. Brings (ArrayMeans (source_of context.now)
         (parameters_of scope.entry) (given_in scope.entry) element length (string_bytes n))
         output.old output.new) }
 {
@@ -274,7 +283,7 @@ fn given_name(
     given: &Given,
     place: Place,
 ) -> Result<Declaration, CompileError>
-    ensures { IfOk result (λ n. stands given.now ≡ named (string_bytes n)) }
+    ensures { Answers (source_of context.now) result (λ n. stands given.now ≡ named (string_bytes n)) }
 {
     match given {
         Given::Named(name) => Ok(String::from_str(context.alloc, name.as_str())?),
@@ -291,7 +300,7 @@ fn used_named(
     place: Place,
     output: &mut Output<'_>,
 ) -> Result<Declaration, CompileError>
-    ensures { let hs = map stands given.items in IfOk result (λ n. (string_bytes n
+    ensures { let hs = map stands given.items in Answers (source_of context.now) result (λ n. (string_bytes n
         ≡ name_with (string_bytes item.now.name) hs)
         × Brings (AreThese [] (use_of at hs ∷ [])) output.old output.new) }
 {
@@ -313,7 +322,7 @@ fn item_named(
     output: &mut Output<'_>,
 ) -> Result<Declaration, CompileError>
     requires { IsIndexed context.now }
-    ensures { let hs = map stands given.items in IfOk result (λ n. Brings
+    ensures { let hs = map stands given.items in Answers (source_of context.now) result (λ n. Brings
         (ItemMeans (source_of context.now) at item.now hs (string_bytes n)) output.old output.new) }
 {
     match &item.kind {
@@ -342,7 +351,7 @@ pub fn all_named(
     output: &mut Output<'_>,
 ) -> Result<Vec<Declaration>, CompileError>
     requires { IsIndexed context.now }
-    ensures { IfOk result (λ ns. Brings (MeansAll (source_of context.now)
+    ensures { Answers (source_of context.now) result (λ ns. Brings (MeansAll (source_of context.now)
         (parameters_of scope.entry) (given_in scope.entry) types.now (texts_of ns.items))
         output.old output.new) }
 {
@@ -363,7 +372,7 @@ fn number_given(
     left: &mut u64,
 ) -> Result<u64, CompileError>
     requires { IsIndexed context.now }
-    ensures { IfOk result (IsNumberAt (source_of context.now)
+    ensures { Answers (source_of context.now) result (IsNumberAt (source_of context.now)
         (parameters_of scope.entry) (given_in scope.entry) at) }
 {
     let Some(written) = element(&context.source.types, at) else {
@@ -390,7 +399,7 @@ fn one_given(
     output: &mut Output<'_>,
 ) -> Result<Given, CompileError>
     requires { IsIndexed context.now }
-    ensures { IfOk result (λ h. Brings (GivesOne (source_of context.now)
+    ensures { Answers (source_of context.now) result (λ h. Brings (GivesOne (source_of context.now)
         (parameters_of scope.entry) (given_in scope.entry) item.now.kind parameter.now at (stands h))
         output.old output.new) }
 {
@@ -422,7 +431,7 @@ fn all_given(
     output: &mut Output<'_>,
 ) -> Result<Vec<Given>, CompileError>
     requires { IsIndexed context.now }
-    ensures { IfOk result (λ hs. Brings (Gives (source_of context.now)
+    ensures { Answers (source_of context.now) result (λ hs. Brings (Gives (source_of context.now)
         (parameters_of scope.entry) (given_in scope.entry) item.now.kind
         item.now.parameters.items arguments.now (map stands hs.items)) output.old output.new) }
 {

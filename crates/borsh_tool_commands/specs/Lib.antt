@@ -11,5 +11,6 @@ pub mod Failures
 pub mod Lines
 pub mod Fronts
 pub mod Many
+pub mod Items
 pub mod Replies
 pub mod Comparisons

@@ -1,5 +1,5 @@
 -- What each command replies.
-use Rattle.std.specs.Prelude.{◌≡◌, ◌⊎◌, ℕ, Bool, true, List, [], ◌++◌, Result, IfOk, IfErr, flat_map, if◌then◌else◌, string_bytes}
+use Rattle.std.specs.Prelude.{◌≡◌, ◌⊎◌, ⊤, ℕ, Bool, true, List, [], ◌++◌, Result, IfOk, IfErr, flat_map, if◌then◌else◌, string_bytes}
 use Rattle.borsh_io.specs.Sink.{WriterModel}
 use Rattle.borsh_walks.specs.Definitions.{definitions_in}
 use Rattle.borsh_tool_commands.specs.declared.command.Action.{Action}
@@ -11,6 +11,8 @@ use Rattle.borsh_tool_commands.specs.declared.replies.Reply.{Reply}
 use Rattle.borsh_tool_commands.specs.declared.values.Schema.{Schema}
 use Rattle.borsh_tool_commands.specs.Answers.{AnswersMember, line_of}
 use Rattle.borsh_tool_commands.specs.Failures.{IsNoAnswer, IsNoJson, IsNoValue}
+use Rattle.borsh_tool_commands.specs.Items.{AreItems}
+use Rattle.borsh_texts.specs.declared.printing.Items.{Items}
 use Rattle.borsh_tool_commands.specs.Json.{IsJsonLine, layout_if}
 use Rattle.borsh_tool_commands.specs.Many.{IsWriteFailure}
 use Rattle.borsh_tool_commands.specs.Plain.{digits}
@@ -38,6 +40,10 @@ IsNoReply Show s path value f = f ≡ NoCommand
 abbrev pub IsSchemaReply : List ℕ → Bool → List ℕ → Type 0
 IsSchemaReply bytes is_yes out = (is_yes ≡ true) × IsContainer bytes × IsSchemaJson bytes out
 
+-- `schema --rust` replies the text of items of the container's bytes, as a yes
+abbrev pub IsRustReply : List ℕ → Bool → List ℕ → Type 0
+IsRustReply bytes is_yes out = (is_yes ≡ true) × ((i : Items) × AreItems bytes i × (out ≡ string_bytes i.text))
+
 -- `compile` replies the bytes of a container alone, or their digits, as a yes
 abbrev pub IsContainerReply : Schema → Bool → Bool → List ℕ → Type 0
 IsContainerReply s is_hex is_yes out = (is_yes ≡ true) × ((bytes : List ℕ) × IsSent s [] bytes × (out ≡ in_digits is_hex bytes))
@@ -47,6 +53,10 @@ IsContainerReply s is_hex is_yes out = (is_yes ≡ true) × ((bytes : List ℕ) 
 -- it is this reply
 abbrev pub IsReplyOf : Reply → Bool → List ℕ → Type 0
 IsReplyOf reply is_yes out = (is_yes ≡ reply.is_yes) × (out ≡ reply.output.items)
+
+-- any failure may be
+abbrev pub Any : Failure → Type 0
+Any f = ⊤
 
 -- there is no such failure
 abbrev pub Never : Failure → Type 0

@@ -18,7 +18,7 @@ const AFTER_SIZE: &str =
     "Prints the number of bytes in decimal; `overflow` above 18446744073709551615; `recursive` where a definition\ncontains itself; `missing` and a name without a definition.\n\nExample: borsh size a.borsh";
 
 const AFTER_SCHEMA: &str =
-    "One definition a line: the root's first, the others by name. Names that aren't identifiers are quoted; bytes of\nnames that aren't printable ASCII are `\\x` and two digits. With --json the container as JSON, which `encode self` takes.\n\nExample: borsh schema a.borsh";
+    "One definition a line: the root's first, the others by name. Names that aren't identifiers are quoted; bytes of\nnames that aren't printable ASCII are `\\x` and two digits. With --json the container as JSON, which `encode self` takes; with\n--rust as Rust items, which `compile` takes: the first line names the type.\n\nExample: borsh schema a.borsh";
 
 const AFTER_DECODE: &str =
     "The JSON is what serde_json prints for the same type, where that and the container determine the bytes: a struct with one\nunnamed field is that field; an Option is null or its value, or an enum where the value may itself be null; a variant is\n\"Name\" or {\"Name\": value}; a map with texts or numbers as keys is an object. Lists of u8 and other primitives are\nhexadecimal strings, \"0x..\"; numbers of 128 bits are decimal strings; infinities are \"inf\" and \"-inf\"; a value without bytes is\nnull. A NaN is refused, and sets and maps whose keys don't ascend, where the order is known: of numbers, bool, texts, and tuples,\narrays, lists and options of these, and not of structs and enums.\n\nExample: borsh decode --compact a.borsh value.borsh";
@@ -136,6 +136,8 @@ pub struct Request<'a> {
     pub is_hex: bool,
     /// Whether the definitions are printed as JSON.
     pub is_json: bool,
+    /// Whether they are printed as Rust items.
+    pub is_rust: bool,
     /// The type whose container it is, in place of a path.
     pub written: Option<WrittenType<'a>>,
 }
@@ -246,11 +248,9 @@ fn compile_command<'a>(alloc: Global) -> Result<Command<'a>, AllocError> {
 }
 
 fn schema_command<'a>(alloc: Global) -> Result<Command<'a>, AllocError> {
-    on_container(alloc, "schema", SCHEMA, AFTER_SCHEMA)?.arg(flag(
-        alloc,
-        "json",
-        "Prints the container as JSON",
-    ))
+    on_container(alloc, "schema", SCHEMA, AFTER_SCHEMA)?
+        .arg(flag(alloc, "json", "Prints the container as JSON"))?
+        .arg(flag(alloc, "rust", "Prints the container as Rust items").conflicts_with("json")?)
 }
 
 fn compare_command<'a>(alloc: Global) -> Result<Command<'a>, AllocError> {
@@ -447,6 +447,7 @@ pub fn request_from<'a>(matches: &ArgMatches<'a>) -> Option<Request<'a>> {
         path,
         is_hex: inner.get_flag("hex"),
         is_json: inner.get_flag("json"),
+        is_rust: inner.get_flag("rust"),
         written,
     })
 }

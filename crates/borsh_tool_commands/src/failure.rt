@@ -5,7 +5,7 @@ ghost use Rattle.std.specs.Prelude.{◌≡◌};
 use super::lines::MOST_LINE;
 use super::plain_text::PlainText;
 use hex::FromHexError;
-use std::alloc::{AllocError, Global};
+use std::alloc::{AllocError, AllocFailed, Global};
 use std::{fmt, io};
 
 /// Why a command has no answer.
@@ -58,6 +58,14 @@ impl<'a> From<AllocError> for Failure<'a> {
     ghost from_gives = { λ _ e. e ≡ OutOfMemory };
 
     fn from(_: AllocError) -> Failure<'a> {
+        Failure::OutOfMemory
+    }
+}
+
+impl<'a, T: Drop> From<AllocFailed<T>> for Failure<'a> {
+    ghost from_gives = { λ _ e. e ≡ OutOfMemory };
+
+    fn from(_: AllocFailed<T>) -> Failure<'a> {
         Failure::OutOfMemory
     }
 }

@@ -4,12 +4,13 @@ ghost use Rattle.borsh_tool_commands.specs.Failures.{IsNoContainer, IsNoContaine
 ghost use Rattle.borsh_tool_commands.specs.Json.{layout_if};
 ghost use Rattle.borsh_tool_commands.specs.Printed.{printed};
 ghost use Rattle.borsh_tool_commands.specs.Questions.{AnswersRequest};
-ghost use Rattle.borsh_tool_commands.specs.Replies.{IsContainerReply, IsNoReply, IsReplyOf, IsSchemaReply, Never, Prints, Replies};
+ghost use Rattle.borsh_tool_commands.specs.Replies.{Any, IsContainerReply, IsNoReply, IsReplyOf, IsRustReply, IsSchemaReply, Never, Prints, Replies};
 
 use super::answers::{Answer, answer_to, container_from};
 use super::command::{Action, Request, ValueRequest};
 use super::failure::Failure;
 use super::output::write_made;
+use super::types::items_of;
 use super::values::{
     Schema, encoded, hex_line, json_text, member, no_container, schema_json, strict_member,
     with_schema,
@@ -158,6 +159,23 @@ pub fn write_schema_json<'a, W: Write>(
 {
     let text = schema_json(alloc, path, bytes)?;
     write_whole(yes(text.into_bytes()), out)
+}
+
+/// [`write_reply`] of the text of [`items_of`].
+///
+/// ```
+/// assert!(rt; write_rust(alloc, "readme.borsh", bytes.as_slice(), &mut out)?);
+/// ```
+pub fn write_rust<'a, W: Write>(
+    alloc: Global,
+    path: &'a str,
+    bytes: &[u8],
+    out: &mut W,
+) -> Result<bool, Failure<'a>>
+    ensures { Prints (IsRustReply bytes.now) Any W.writing out.old out.new result }
+{
+    let items = items_of(alloc, path, bytes)?;
+    write_whole(yes(items.text.into_bytes()), out)
 }
 
 /// Writes the encoding of a container, or its digits as a line. Errors as of [`write_reply`].

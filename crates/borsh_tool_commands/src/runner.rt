@@ -9,7 +9,9 @@ use super::fronts::read_value;
 use super::many::{Many, answer_many};
 use super::output::Remembering;
 use super::progress::Progress;
-use super::replies::{style_of, write_answer, write_container, write_reply, write_schema_json};
+use super::replies::{
+    style_of, write_answer, write_container, write_reply, write_rust, write_schema_json,
+};
 use super::types::{WrittenType, schema_of_type};
 use super::values::{
     Schema, own_schema, schema_from, schema_in_front, schema_read, show, with_schema,
@@ -149,6 +151,9 @@ fn perform<'a, R: Files + Env + Input + Eprint + AllocGlobal + Drop, W: Write>(
     let bytes = container_bytes(rt, &request)?;
     if request.is_json {
         return write_schema_json(rt.alloc(), request.path, bytes.as_slice(), out);
+    }
+    if request.is_rust {
+        return write_rust(rt.alloc(), request.path, bytes.as_slice(), out);
     }
     write_answer(rt.alloc(), &request, bytes.as_slice(), out)
 }

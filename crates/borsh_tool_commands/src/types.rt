@@ -1,12 +1,14 @@
 // A type by its Rust text, in place of a container.
 ghost use Rattle.borsh_walks.specs.Container.{IsValid};
 ghost use Rattle.borsh_walks.specs.Definitions.{definitions_in as shapes_in};
-ghost use Rattle.std.specs.Prelude.{◌≡◌, IfOk, string_bytes};
+ghost use Rattle.borsh_tool_commands.specs.Items.{AreItems, compiled_encoding};
+ghost use Rattle.std.specs.Prelude.{◌≡◌, IfOk, IsTrue, Some, string_bytes};
 
 use super::failure::Failure;
-use super::values::Schema;
+use super::values::{Schema, schema_from};
+use borsh::ser::write_two;
 use borsh_source::{Cause, CompileError, Compiled, Source, compile, nearest_name};
-use borsh_texts::{TextError, parse_items, parse_type};
+use borsh_texts::{Items, NoItems, TextError, parse_items, parse_type, print_items};
 use std::alloc::{AllocError, Global};
 use std::str;
 
@@ -59,6 +61,46 @@ fn schema_made(compiled: Compiled) -> Schema
         root: compiled.declaration,
         definitions: compiled.definitions,
     }
+}
+
+/// The Rust items whose container the bytes are: as of [`print_items`], whose refusals are `NotType` with the path.
+///
+/// Determined: the tree of the items means the container of these bytes. Left open: memory; which containers are refused: tested.
+///
+/// ```
+/// let items = items_of(alloc, "a.borsh", bytes.as_slice())?;
+/// println!(rt; "{}", items.text)?;
+/// ```
+pub fn items_of<'a>(alloc: Global, path: &'a str, bytes: &[u8]) -> Result<Items, Failure<'a>>
+    ensures { IfOk result (AreItems bytes.now) }
+{
+    let given = schema_from(alloc, path, bytes)?;
+    let items = match print_items(alloc, given.root.as_str(), &given.definitions) {
+        Ok(items) => items,
+        Err(NoItems::Refused(why)) => return Err(Failure::NotType(path, why)),
+        Err(NoItems::OutOfMemory) => return Err(Failure::OutOfMemory),
+    };
+    if is_encoding(alloc, &items.compiled, bytes)? {
+        Ok(items)
+    } else {
+        Err(no_type(path, said(alloc, &"no Rust type has this container")))
+    }
+}
+
+/// Whether the bytes are the encoding of what was compiled.
+fn is_encoding(alloc: Global, compiled: &Compiled, bytes: &[u8]) -> Result<bool, AllocError>
+    ensures { IfOk result (λ b. IsTrue b → compiled_encoding compiled.now ≡ Some bytes.now) }
+{
+    let mut made = Vec::new(alloc);
+    let Ok(()) = write_two(
+        &compiled.declaration,
+        &compiled.definitions,
+        alloc,
+        &mut made,
+    ) else {
+        return Err(AllocError);
+    };
+    Ok(made.as_slice() == bytes)
 }
 
 /// The items of a file.

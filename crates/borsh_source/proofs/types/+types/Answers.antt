@@ -28,28 +28,28 @@ all_given-arguments-preserved t c =
     given_more (source_of c.args.context.now) (parameters_of c.args.scope) (given_in c.args.scope) c.args.item.now.kind c.args.item.now.parameters.items c.args.arguments.now c.arguments.at _ c.parameter-item.result (map stands c.arguments.given.items) _ (stands c.in_ok-stands.stands) p (get_some c.args.arguments.now c.arguments.at 0 k) (ap (map stands) c.in_ok-push.ensures.items ∙ map_snoc stands c.arguments.given.items c.in_ok-stands.stands) c.arguments.invariant c.in_ok-stands.ensures
 
 pub array_named-returns : goal.array_named-returns
-array_named-returns t c = ok_map c.add_form.result (λ n h. array_brought (source_of c.args.context.now) (parameters_of c.args.scope) (given_in c.args.scope) c.args.element c.args.length c.in_ok-count.count (texts_of c.in_ok-names.names.items) (texts_of c.as_slice.result.now) (string_bytes n) c.in_ok-count.ensures (ap texts_of c.as_slice.ensures.value) c.in_ok-names.ensures h) c.add_form.ensures
+array_named-returns t c = ok_map _ c.add_form.result (λ n h. array_brought (source_of c.args.context.now) (parameters_of c.args.scope) (given_in c.args.scope) c.args.element c.args.length c.in_ok-count.count (texts_of c.in_ok-names.names.items) (texts_of c.as_slice.result.now) (string_bytes n) c.in_ok-count.ensures (ap texts_of c.as_slice.ensures.value) c.in_ok-names.ensures h) c.add_form.ensures
 
 pub item_named-returns-in-Alias : goal.item_named-returns-in-Alias
-item_named-returns-in-Alias t c = ok_map c.named.result (λ n p. named_alias (source_of c.args.context.now) c.args.at c.args.item.now (map stands c.args.given.items) c.in-Alias.to (string_bytes n) c.as_slice.result.now (map stands c.as_slice-in-Alias.result.now) c.in-Alias.is c.as_slice.ensures.value (ap (map stands) c.as_slice-in-Alias.ensures.value) p) c.named.ensures
+item_named-returns-in-Alias t c = ok_map _ c.named.result (λ n p. named_alias (source_of c.args.context.now) c.args.at c.args.item.now (map stands c.args.given.items) c.in-Alias.to (string_bytes n) c.as_slice.result.now (map stands c.as_slice-in-Alias.result.now) c.in-Alias.is c.as_slice.ensures.value (ap (map stands) c.as_slice-in-Alias.ensures.value) p) c.named.ensures
 
 pub item_named-returns-in-Struct : goal.item_named-returns-in-Struct
-item_named-returns-in-Struct t c = ok_map c.used_named.result (λ n h. named_own (source_of c.args.context.now) c.args.at c.args.item.now (map stands c.args.given.items) (string_bytes n) (subst (λ k. IsOwn k) (sym c.in-Struct.is) tt) h.0 h.1) c.used_named.ensures
+item_named-returns-in-Struct t c = ok_map _ c.used_named.result (λ n h. named_own (source_of c.args.context.now) c.args.at c.args.item.now (map stands c.args.given.items) (string_bytes n) (subst (λ k. IsOwn k) (sym c.in-Struct.is) tt) h.0 h.1) c.used_named.ensures
 
 pub item_named-returns-in-Enum : goal.item_named-returns-in-Enum
-item_named-returns-in-Enum t c = ok_map c.used_named-in-Enum.result (λ n h. named_own (source_of c.args.context.now) c.args.at c.args.item.now (map stands c.args.given.items) (string_bytes n) (subst (λ k. IsOwn k) (sym c.in-Enum.is) tt) h.0 h.1) c.used_named-in-Enum.ensures
+item_named-returns-in-Enum t c = ok_map _ c.used_named-in-Enum.result (λ n h. named_own (source_of c.args.context.now) c.args.at c.args.item.now (map stands c.args.given.items) (string_bytes n) (subst (λ k. IsOwn k) (sym c.in-Enum.is) tt) h.0 h.1) c.used_named-in-Enum.ensures
 
 pub named-returns-in-Given : goal.named-returns-in-Given
-named-returns-in-Given t c = ok_map c.given_name.result (λ n e. named_given (source_of c.args.context.now) (parameters_of c.args.scope) (given_in c.args.scope) c.args.at c.in-Some.written.now (sym c.in-Some.ensures) c.in-Given.given (string_bytes n) (definitions_in c.args.output.now) (uses_in c.args.output.now) (subst (λ z. IsHead (source_of c.args.context.now) (parameters_of c.args.scope) (given_in c.args.scope) c.in-Some.written.now.kind z) c.in-Given.is c.in_ok-given.ensures) e) c.given_name.ensures
+named-returns-in-Given t c = ok_map _ c.given_name.result (λ n e. named_given (source_of c.args.context.now) (parameters_of c.args.scope) (given_in c.args.scope) c.args.at c.in-Some.written.now (sym c.in-Some.ensures) c.in-Given.given (string_bytes n) (definitions_in c.args.output.now) (uses_in c.args.output.now) (subst (λ z. IsHead (source_of c.args.context.now) (parameters_of c.args.scope) (given_in c.args.scope) c.in-Some.written.now.kind z) c.in-Given.is c.in_ok-given.ensures) e) c.given_name.ensures
 
 pub named-returns-in_ok-names-in-Format : goal.named-returns-in_ok-names-in-Format
-named-returns-in_ok-names-in-Format t c = ok_map c.add_form.result (λ n f. named_form (source_of c.args.context.now) (parameters_of c.args.scope) (given_in c.args.scope) c.args.at c.in-Some.written.now (sym c.in-Some.ensures) c.in-Format.stem c.in-Format.kind c.in-Format.parts c.as_slice.result.now (texts_of c.in_ok-names-in-Format.names.items) (texts_of c.as_slice-in-Format.result.now) (string_bytes n) (subst (λ z. IsHead (source_of c.args.context.now) (parameters_of c.args.scope) (given_in c.args.scope) c.in-Some.written.now.kind z) c.in-Format.is c.in_ok-given.ensures) c.as_slice.ensures.value (ap texts_of c.as_slice-in-Format.ensures.value) c.in_ok-names-in-Format.ensures f) c.add_form.ensures
+named-returns-in_ok-names-in-Format t c = ok_map _ c.add_form.result (λ n f. named_form (source_of c.args.context.now) (parameters_of c.args.scope) (given_in c.args.scope) c.args.at c.in-Some.written.now (sym c.in-Some.ensures) c.in-Format.stem c.in-Format.kind c.in-Format.parts c.as_slice.result.now (texts_of c.in_ok-names-in-Format.names.items) (texts_of c.as_slice-in-Format.result.now) (string_bytes n) (subst (λ z. IsHead (source_of c.args.context.now) (parameters_of c.args.scope) (given_in c.args.scope) c.in-Some.written.now.kind z) c.in-Format.is c.in_ok-given.ensures) c.as_slice.ensures.value (ap texts_of c.as_slice-in-Format.ensures.value) c.in_ok-names-in-Format.ensures f) c.add_form.ensures
 
 pub named-returns-in-Array : goal.named-returns-in-Array
-named-returns-in-Array t c = ok_map c.array_named.result (λ n p. named_array (source_of c.args.context.now) (parameters_of c.args.scope) (given_in c.args.scope) c.args.at c.in-Some.written.now (sym c.in-Some.ensures) c.in-Array.element c.in-Array.length (string_bytes n) (subst (λ z. IsHead (source_of c.args.context.now) (parameters_of c.args.scope) (given_in c.args.scope) c.in-Some.written.now.kind z) c.in-Array.is c.in_ok-given.ensures) p) c.array_named.ensures
+named-returns-in-Array t c = ok_map _ c.array_named.result (λ n p. named_array (source_of c.args.context.now) (parameters_of c.args.scope) (given_in c.args.scope) c.args.at c.in-Some.written.now (sym c.in-Some.ensures) c.in-Array.element c.in-Array.length (string_bytes n) (subst (λ z. IsHead (source_of c.args.context.now) (parameters_of c.args.scope) (given_in c.args.scope) c.in-Some.written.now.kind z) c.in-Array.is c.in_ok-given.ensures) p) c.array_named.ensures
 
 pub named-returns-in_ok-given-in-Item : goal.named-returns-in_ok-given-in-Item
-named-returns-in_ok-given-in-Item t c = ok_map c.item_named.result (λ n m. named_item (source_of c.args.context.now) (parameters_of c.args.scope) (given_in c.args.scope) c.args.at c.in-Some.written.now (sym c.in-Some.ensures) c.in-Item.at c.in-Item.item c.in-Item.arguments (map stands c.in_ok-given-in-Item.given.items) (string_bytes n) (subst (λ z. IsHead (source_of c.args.context.now) (parameters_of c.args.scope) (given_in c.args.scope) c.in-Some.written.now.kind z) c.in-Item.is c.in_ok-given.ensures) c.in_ok-given-in-Item.ensures m) c.item_named.ensures
+named-returns-in_ok-given-in-Item t c = ok_map _ c.item_named.result (λ n m. named_item (source_of c.args.context.now) (parameters_of c.args.scope) (given_in c.args.scope) c.args.at c.in-Some.written.now (sym c.in-Some.ensures) c.in-Item.at c.in-Item.item c.in-Item.arguments (map stands c.in_ok-given-in-Item.given.items) (string_bytes n) (subst (λ z. IsHead (source_of c.args.context.now) (parameters_of c.args.scope) (given_in c.args.scope) c.in-Some.written.now.kind z) c.in-Item.is c.in_ok-given.ensures) c.in_ok-given-in-Item.ensures m) c.item_named.ensures
 
 pub one_given-returns-then-parameter : goal.one_given-returns-then-parameter
 one_given-returns-then-parameter t c = brought_none _ _ (gives_number c.if-parameter.true c.in_ok-number.ensures)
