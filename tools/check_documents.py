@@ -15,7 +15,7 @@ TOP = pathlib.Path(__file__).resolve().parent.parent
 # How many words a page may have, those beside the others together, and all of them but the changelog.
 WORDS = {
     "README.md": 1500,
-    "docs/TRUST.md": 2700,
+    "docs/TRUST.md": 2705,
     "docs/TUTORIAL.md": 2200,
     "docs/TOOL.md": 2720,
     "docs/CALLING.md": 1500,
@@ -33,8 +33,8 @@ BESIDE = (
     "bench/README.md",
     "conformance/replay/README.md",
 )
-BESIDE_WORDS = 5000
-ALL_WORDS = 23140
+BESIDE_WORDS = 5010
+ALL_WORDS = 23270
 README_LINES = 150
 TABLE_COLUMNS = 200
 
