@@ -1,7 +1,10 @@
 // What is checked of a value by its definitions.
 use super::definitions::{Definitions, text};
 use super::wrong::{Wrong, check, expect};
-use borsh_json::{JsonError, LongNumbers, Rows, Style, check_strict, from_json, to_json, value_of};
+use borsh_json::{
+    JsonError, LongNumbers, Rows, Style, check_strict, from_json, json_gives_back, to_json,
+    value_of,
+};
 use borsh_values::{
     Front, Membership, Node, Plan, Preorder, RecordError, Records, count_of, elements_of, front_of,
     is_member, is_member_of, variant_of,
@@ -59,7 +62,30 @@ impl<'a> Root<'a> {
         let alloc = self.alloc;
         expect(alloc, "check_strict", self.strict(bytes)?.as_str(), strict)?;
         let written = self.json(bytes, Style::COMPACT)?;
-        expect(alloc, "to_json", written.as_str(), json)
+        expect(alloc, "to_json", written.as_str(), json)?;
+        if json.starts_with("! ") {
+            return Ok(());
+        }
+        self.expect_given_back(bytes)
+    }
+
+    /// That the JSON of the bytes gives these back.
+    fn expect_given_back(&self, bytes: &[u8]) -> Result<(), Wrong> {
+        let alloc = self.alloc;
+        match json_gives_back(alloc, self.name, self.map, bytes, Style::PRETTY) {
+            Ok(back) => check(
+                alloc,
+                back.as_slice() == bytes,
+                "json_gives_back",
+                "other bytes",
+            ),
+            Err(error) => check(
+                alloc,
+                false,
+                "json_gives_back",
+                told(alloc, &error)?.as_str(),
+            ),
+        }
     }
 
     /// That the bytes are a value with this JSON where numbers of 64 bits are texts.
