@@ -83,7 +83,10 @@ pub fn items_of<'a>(alloc: Global, path: &'a str, bytes: &[u8]) -> Result<Items,
     if is_encoding(alloc, &items.compiled, bytes)? {
         Ok(items)
     } else {
-        Err(no_type(path, said(alloc, &"no Rust type has this container")))
+        Err(no_type(
+            path,
+            String::from_str(alloc, "no Rust type has this container"),
+        ))
     }
 }
 
