@@ -16,6 +16,6 @@ returns-in_err-items g c =
 pub returns : goal.returns
 returns g c =
     let bytes = c.args.bytes.now in
-    let e = ap (λ (v : Vec ℕ Global). v.items) c.yes.ensures.1 ∙ c.into_bytes.ensures in
-    let is : IsRustReply bytes c.yes.result.is_yes c.yes.result.output.items = (c.yes.ensures.0, (c.in_ok-items.items, (c.in_ok-items.ensures, e))) in
+    let e = ap (λ (v : Vec ℕ Global). v.items) c.yes.ensures.1 ∙ ap (λ (v : Vec ℕ Global). v.items) c.into_bytes.ensures.value in
+    let is : IsRustReply bytes c.yes.result.is_yes c.yes.result.output.items = (c.yes.ensures.0, (c.in_ok-items.items, c.in_ok-items.ensures, e)) in
     prints-reply (IsRustReply bytes) Any c.yes.result c.write_whole.result is c.write_whole.ensures
