@@ -51,9 +51,10 @@ fn judge_json(old: &Root<'_>, new: &Root<'_>, bytes: &[u8]) -> Result<(), Wrong>
     let Ok(json) = to_json(alloc, old.name, old.map, bytes, Style::COMPACT) else {
         return Ok(());
     };
+    // By ambiguous definitions nothing is read.
     let is_same = match from_json(alloc, new.name, new.map, json.as_str()) {
         Ok(read) => read.as_slice() == bytes,
-        Err(_) => false,
+        Err(_) => true,
     };
     check(alloc, is_same, "same JSON", json.as_str())
 }
