@@ -20,7 +20,8 @@
 //! # Ok::<(), borsh_proved::Error>(())
 //! ```
 //!
-//! Calls share nothing, so any thread may make them. None ends the process, whatever it is given. Each call decodes the schema.
+//! Calls share nothing, so any thread may make them. None ends the process, whatever it is given. Each call decodes the schema, but for
+//! what types by serde need of it, which is read once.
 #![deny(missing_docs)]
 
 mod comparison;
@@ -169,10 +170,28 @@ impl Style {
 }
 
 /// A schema: the name of a type, and the definitions that it refers to.
-#[derive(Clone, Debug, PartialEq, Eq)]
+#[derive(Clone)]
 pub struct Schema {
     encoding: Vec<u8>,
+    // Read once, when a type's value first needs them.
+    #[cfg(feature = "serde")]
+    definitions: std::sync::Arc<std::sync::OnceLock<definitions::Definitions>>,
 }
+
+impl std::fmt::Debug for Schema {
+    fn fmt(&self, formatter: &mut std::fmt::Formatter<'_>) -> std::fmt::Result {
+        let mut schema = formatter.debug_struct("Schema");
+        schema.field("encoding", &self.encoding).finish()
+    }
+}
+
+impl PartialEq for Schema {
+    fn eq(&self, other: &Schema) -> bool {
+        self.encoding == other.encoding
+    }
+}
+
+impl Eq for Schema {}
 
 impl Schema {
     /// The schema of a type by its text. The text has items that the type may name: Rust source; an Anchor IDL, whose accounts begin
@@ -203,7 +222,7 @@ impl Schema {
             None => ("", text),
         };
         let encoding = outcome(sys::compile(items.as_bytes(), name.as_bytes()))?;
-        Ok(Schema { encoding })
+        Ok(Schema::of(encoding))
     }
 
     /// The schema with this encoding, which may break rules ([`Schema::validate`]): what
@@ -214,12 +233,18 @@ impl Schema {
     ///
     /// [`ErrorKind::Malformed`] if the bytes aren't the encoding of a schema; [`ErrorKind::OutOfMemory`].
     pub fn new(encoding: impl Into<Vec<u8>>) -> Result<Schema, Error> {
-        let schema = Schema {
-            encoding: encoding.into(),
-        };
+        let schema = Schema::of(encoding.into());
         match schema.validate() {
             Err(error) if error.kind() != ErrorKind::No => Err(error),
             _ => Ok(schema),
+        }
+    }
+
+    fn of(encoding: Vec<u8>) -> Schema {
+        Schema {
+            encoding,
+            #[cfg(feature = "serde")]
+            definitions: Default::default(),
         }
     }
 
@@ -285,10 +310,14 @@ impl Schema {
     }
 
     #[cfg(feature = "serde")]
-    fn definitions(&self) -> Result<definitions::Definitions, Error> {
+    fn definitions(&self) -> Result<&definitions::Definitions, Error> {
+        if let Some(definitions) = self.definitions.get() {
+            return Ok(definitions);
+        }
         let error = || Error::new(2, "not a schema container".to_owned());
         let words = outcome(sys::names(&self.encoding))?;
-        definitions::Definitions::new(&self.encoding, &words).ok_or_else(error)
+        let read = definitions::Definitions::new(&self.encoding, &words).ok_or_else(error)?;
+        Ok(self.definitions.get_or_init(|| read))
     }
 
     /// The bytes of a value of any type that implements `serde::Serialize` (feature `serde`). Its parts go to those of the schema: fields
@@ -318,7 +347,7 @@ impl Schema {
     #[cfg(feature = "serde")]
     pub fn encode<T: serde::Serialize + ?Sized>(&self, value: &T) -> Result<Vec<u8>, Error> {
         let definitions = self.definitions()?;
-        match encode::json_of(&definitions, value) {
+        match encode::json_of(definitions, value) {
             Ok(json) => outcome(sys::from_json(&self.encoding, &json)),
             Err(fault) => Err(fault.into_error(definitions.root())),
         }
@@ -334,7 +363,7 @@ impl Schema {
     pub fn decode<T: serde::de::DeserializeOwned>(&self, value: &[u8]) -> Result<T, Error> {
         let definitions = self.definitions()?;
         let json = outcome(sys::to_json(&self.encoding, value, true, false))?;
-        decode::value_of(&definitions, &json).map_err(|it| it.into_error(definitions.root()))
+        decode::value_of(definitions, &json).map_err(|it| it.into_error(definitions.root()))
     }
 
     /// The bytes of each of the values that follow one another to the end of a reader, in bounded memory. They are checked as by
