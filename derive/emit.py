@@ -9,7 +9,7 @@ from groups import TUPLE, Node, flat_fields, ghost_parts, grouped, parts, shaped
 from layout import (Group, arm, binding, block_arm, call, chain, chain_fits, conjunction, doc_line, flat,
                     function_head, impl_head, import_lines, pattern, statement, struct_of, tuple_of, tuple_type,
                     type_layout, type_text, within)
-from rust_types import Array, Path, arrays_in, grows, heads, is_never_empty
+from rust_types import GROWING, WALKED, Array, Path, arrays_in, heads, is_never_empty, mentions
 from source import Fields
 
 NUMBERS = ('zero', 'one', 'two', 'three', 'four', 'five', 'six', 'seven', 'eight', 'nine', 'ten', 'eleven',
@@ -430,7 +430,7 @@ def struct_encoding(writer):
     else:
         whole = 'self' if holds_whole(writer) else ''
         body = '\n'.join(written_node(writer, grouped(writer.marked.fields.encoded())[0], ['&' + name for name in names], whole))
-    rows = [serialize_head(writer, used=bool(names)), body, '    }'] + struct_put(writer, names)
+    rows = [serialize_head(writer, used=bool(names))] + by_room(writer) + [body, '    }'] + struct_put(writer, names)
     block = writer.block('BorshSerialize', 'BorshSerialize', rows)
     return '\n\n'.join(part_blocks(writer, grouped(writer.marked.fields.encoded())[1:]) + [block])
 
@@ -493,17 +493,49 @@ def part_blocks(writer, nodes, variant=''):
 # the head of the method by which a list writes many elements at a time
 PUT = '    fn put(&self, room: &mut [u8]) -> Option<usize> {'
 
+# the first statements of `serialize`: what fits in a room is written at once
+BY_ROOM = '''        let mut room = [0u8; 256];
+        if let Some(n) = self.put(&mut room) {
+            return %s(&room[..n], writer);
+        }'''
+
+LENGTH = '    fn encoded_length(&self) -> Option<u32> {'
+
+
+def has_put(writer):
+    """Whether a struct has the method `put`: none of its fields is a map, say, which has none."""
+    fields = writer.marked.fields.encoded()
+    return not writer.is_paired and 0 < len(fields) <= TUPLE and not any(mentions(field.type, WALKED) for field in fields)
+
+
+def by_room(writer):
+    """The statements that write all fields at once. Without a text or a list LLVM makes few stores of `serialize`, and a room
+    gains nothing."""
+    fields = writer.marked.fields.encoded()
+    gains = has_put(writer) and len(fields) > 1 and any(mentions(field.type, GROWING) for field in fields)
+    return [BY_ROOM % writer.lib('write_bytes')] if gains else []
+
 
 def struct_put(writer, names):
-    """The method `put`, which a struct with a text, a list or a map gains nothing from."""
-    if writer.is_paired or not 0 < len(names) <= TUPLE or any(grows(field.type) for field in writer.marked.fields.encoded()):
+    """The methods `put` and `encoded_length`."""
+    if not has_put(writer):
         return []
     if len(names) == 1:
-        body = chain('self', [names[0][len('self'):], '.put(room)'], 8)
-    else:
-        arguments = ['&' + name for name in names] + ['room']
-        body = statement('', call(writer.lib('put_' + NUMBERS[len(names)]), arguments), '', 8)
-    return ['', PUT, body, '    }']
+        field = names[0][len('self'):]
+        length = ['', LENGTH, chain('self', [field, '.encoded_length()'], 8), '    }']
+        return ['', PUT, chain('self', [field, '.put(room)'], 8), '    }'] + length
+    arguments = ['&' + name for name in names] + ['room']
+    body = statement('', call(writer.lib('put_' + NUMBERS[len(names)]), arguments), '', 8)
+    return ['', PUT, body, '    }'] + struct_length(writer, names)
+
+
+def struct_length(writer, names):
+    """The method `encoded_length` of two fields or more: that of a tuple of references, which isn't covered where a type has a
+    lifetime."""
+    if any("'" in flat(type_layout(field.type)) for field in writer.marked.fields.encoded()):
+        return []
+    fields = statement('let fields = ', tuple_of(['&' + name for name in names]), ';', 8)
+    return ['', LENGTH, fields, '        fields.encoded_length()', '    }']
 
 
 def serialize_head(writer, used):
@@ -678,21 +710,29 @@ def enum_meaning(writer):
 
 
 def enum_encoding(writer):
-    used = any(variant.fields.encoded() for variant in writer.marked.variants)
-    rows = [serialize_head(writer, used), '        match self {']
-    rows += [written_variant(writer, variant) for variant in writer.marked.variants]
-    rows += ['        }', '    }'] + ([] if used else enum_put(writer))
+    fields = [field for variant in writer.marked.variants for field in variant.fields.encoded()]
     wide = [variant for variant in writer.marked.variants if len(variant.fields.encoded()) >= TUPLE]
+    has_put = not wide and not any(mentions(field.type, WALKED) for field in fields)
+    rows = [serialize_head(writer, bool(fields))]
+    rows += [BY_ROOM % writer.lib('write_bytes')] if has_put and any(mentions(field.type, GROWING) for field in fields) else []
+    rows += ['        match self {'] + [written_variant(writer, variant) for variant in writer.marked.variants]
+    rows += ['        }', '    }'] + (enum_put(writer) if has_put else [])
     blocks = [part_blocks(writer, grouped(variant.fields.encoded()), variant.name) for variant in wide]
     return '\n\n'.join(sum(blocks, []) + [writer.block('BorshSerialize', 'BorshSerialize', rows)])
 
 
 def enum_put(writer):
-    """The method `put` of an enum of which no variant has fields."""
+    """The method `put` of an enum."""
     rows = ['', PUT, '        match self {']
     for variant in writer.marked.variants:
-        node = matched('%s::%s' % (writer.marked.name, variant.name), variant.fields, {})
-        rows.append(arm(node, call(writer.lib('put_bytes'), ['&[%d]' % variant.tag, 'room']), 12))
+        encoded = variant.fields.encoded()
+        names = local_names(encoded, ('room',))
+        node = matched('%s::%s' % (writer.marked.name, variant.name), variant.fields, dict(zip(encoded, names)))
+        if names:
+            put, first = 'put_' + NUMBERS[len(names) + 1], '&%s(%d)' % (writer.lib('Tag'), variant.tag)
+        else:
+            put, first = 'put_bytes', '&[%d]' % variant.tag
+        rows.append(arm(node, call(writer.lib(put), [first] + names + ['room']), 12))
     return rows + ['        }', '    }']
 
 

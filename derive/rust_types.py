@@ -249,20 +249,22 @@ def names_on_the_heap(tree):
 
 
 # types whose encodings may have any length
-GROWING = {'String', 'BoxedStr', 'RcStr', 'ArcStr', 'Vec', 'VecDeque', 'LinkedList', 'BTreeMap', 'BTreeSet', 'HashMap',
-           'HashSet', 'IndexMap', 'IndexSet', 'BoxedSlice', 'RcSlice', 'ArcSlice', 'CowStr', 'CowSlice', 'Bytes', 'BytesMut'}
+GROWING = {'String', 'BoxedStr', 'RcStr', 'ArcStr', 'Vec', 'BoxedSlice', 'RcSlice', 'ArcSlice', 'CowStr', 'CowSlice'}
+
+# those that have no `put`
+WALKED = {'VecDeque', 'LinkedList', 'BTreeMap', 'BTreeSet', 'HashMap', 'HashSet', 'IndexMap', 'IndexSet', 'Bytes', 'BytesMut'}
 
 
-def grows(tree):
-    """Whether a type's encoding has a text, a list or a map in it, as far as its own text says."""
+def mentions(tree, names):
+    """Whether the encoding of a type has one of these in it; a `str` and a slice are among those that grow."""
     if isinstance(tree, Path):
         name, arguments = tree.segments[-1]
-        return name in GROWING or name != 'PhantomData' and any(grows(argument) for argument in arguments)
+        return name in names or name != 'PhantomData' and any(mentions(argument, names) for argument in arguments)
     if isinstance(tree, Tuple):
-        return any(grows(item) for item in tree.items)
+        return any(mentions(item, names) for item in tree.items)
     if isinstance(tree, Reference):
-        return is_counted(tree.type) or grows(tree.type)
-    return isinstance(tree, Array) and grows(tree.element)
+        return names is GROWING and is_counted(tree.type) or mentions(tree.type, names)
+    return isinstance(tree, Array) and mentions(tree.element, names)
 
 
 def is_counted(tree):

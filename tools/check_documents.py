@@ -17,7 +17,7 @@ WORDS = {
     "README.md": 1500,
     "docs/TRUST.md": 2705,
     "docs/TUTORIAL.md": 2200,
-    "docs/TOOL.md": 2720,
+    "docs/TOOL.md": 2740,
     "docs/CALLING.md": 1500,
     "docs/IMPLEMENTING.md": 2150,
     "docs/DESIGN.md": 3300,
@@ -33,8 +33,8 @@ BESIDE = (
     "bench/README.md",
     "conformance/replay/README.md",
 )
-BESIDE_WORDS = 5010
-ALL_WORDS = 23270
+BESIDE_WORDS = 5070
+ALL_WORDS = 23285
 README_LINES = 150
 TABLE_COLUMNS = 200
 
@@ -44,6 +44,7 @@ RUN = {
     "docs/TUTORIAL.md": ("console",),
     "docs/TOOL.md": ("console",),
     "docs/CALLING.md": ("console",),
+    "bench/README.md": ("asm",),
     "bindings/c/README.md": ("c",),
     "bindings/python/README.md": ("python",),
     "bindings/python/MACHINES.md": ("python",),

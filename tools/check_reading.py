@@ -1,17 +1,19 @@
 #!/usr/bin/env python3
-"""Checks docs/TRUST.md: its tables of what to read have each file of specs/ of the library and the programs once, with its lines, and
-the text names their sums. With --write it writes all numbers; which row a file stands in is decided by hand.
+"""Checks docs/TRUST.md: its tables of what to read have what of specs/ public calls need, each file once, with its lines, and the text
+names their sums. With --write it writes all numbers; which row a file stands in is decided by hand.
 
-The first table has a file in each row, `| `CRATE/FILE` | LINES | ..`, the second `| .. | `CRATE/FILE` LINES, .. |`. Files that only list
-modules, or names of other files, have no entry.
+The first table has whole files, one in each row, `| `CRATE/FILE` | LINES | ..`; the second, `| .. | `CRATE/FILE` LINES, .. |`, the lines of
+those definitions of a file that clauses of public calls lead to (tools/reached.py).
 """
 import pathlib
 import re
 import sys
 
+from reached import reached_of
+
 CRATES = (
-    "borsh_io borsh_codec borsh_de borsh_arrays borsh_enums borsh_walks borsh_plan borsh_values borsh_json borsh_compare borsh_definitions "
-    "borsh_source borsh_schema borsh borsh_check_lines borsh_tool_commands borsh_c"
+    "borsh_io borsh_codec borsh_types borsh_ser borsh_de borsh_arrays borsh_enums borsh_walks borsh_plan borsh_values borsh_json "
+    "borsh_compare borsh_definitions borsh_source borsh_texts borsh_schema borsh borsh_check_lines borsh_tool_commands borsh_c"
 ).split()
 
 FIRST = re.compile(r"^\| `(\w+/[\w/]+)` \| (\d+) \|", re.M)
@@ -19,21 +21,14 @@ SECOND = re.compile(r"`(\w+/[\w/]+)` (\d+)")
 top = pathlib.Path(__file__).resolve().parent.parent
 
 
-def is_list(text):
-    """Whether a file has nothing but comments, modules and names of other files."""
-    lines = [line for line in text.splitlines() if line.strip() and not line.startswith("--")]
-    return all(line.startswith(("pub mod ", "pub use ")) for line in lines)
-
-
-def actual():
-    """The lines of each file of specs/, by `CRATE/FILE`."""
+def whole(names):
+    """The lines of these files."""
     files = {}
-    for crate in CRATES:
-        folder = top / "crates" / crate / "specs"
-        for file in folder.rglob("*.antt"):
-            text = file.read_text(encoding="utf-8")
-            if not is_list(text):
-                files[f"{crate}/{file.relative_to(folder).with_suffix('')}"] = len(text.splitlines())
+    for name in names:
+        crate, _, file = name.partition("/")
+        path = top / "crates" / crate / "specs" / f"{file}.antt"
+        if path.is_file():
+            files[name] = len(path.read_text(encoding="utf-8").splitlines())
     return files
 
 
@@ -52,12 +47,14 @@ def with_numbers(text, readme, files):
 
 def main():
     pages = [top / "docs/TRUST.md", top / "README.md"]
-    before, files = [page.read_text(encoding="utf-8") for page in pages], actual()
+    before, reached = [page.read_text(encoding="utf-8") for page in pages], reached_of(CRATES)
+    first = [name for name, _ in FIRST.findall(before[0])]
+    files = {**{name: lines for name, lines in reached.items() if name.partition("/")[0] in CRATES}, **whole(first)}
     after = with_numbers(*before, files)
-    names = [name for pattern in (FIRST, SECOND) for name, _ in pattern.findall(before[0])]
+    names = [*first, *(name for name, _ in SECOND.findall(before[0]))]
     wrong = [f"`{name}` stands there twice" for name in sorted(set(names)) if names.count(name) > 1]
     wrong += [f"`{name}` isn't there" for name in sorted(files.keys() - set(names))]
-    wrong += [f"there is no file `{name}`" for name in sorted(set(names) - files.keys())]
+    wrong += [f"no public call needs `{name}`" for name in sorted(set(names) - files.keys())]
     if sys.argv[1:] == ["--write"]:
         for page, text in zip(pages, after):
             page.write_text(text, encoding="utf-8")
@@ -67,7 +64,7 @@ def main():
         print(f"docs/TRUST.md, what to read: {it}")
     if wrong:
         sys.exit(1)
-    print(f"docs/TRUST.md lists all files of specs/: {sum(files.values())} lines")
+    print(f"docs/TRUST.md lists all that public calls need of specs/: {sum(files.values())} lines")
 
 
 main()

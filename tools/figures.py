@@ -36,7 +36,7 @@ TOGETHER = {
     "borsh_source, borsh_texts": (2200, 830, 1450),
     "borsh_compare": (900, 180, 920),
 }
-KEPT = ()
+KEPT = ("borsh_plan, borsh_values",)
 
 
 def count(files):

@@ -41,7 +41,10 @@ class Wrapped:
         return text[1:-1].split(", ") if text.startswith("(self.") else [text]
 
 
-WRAPPED = [Wrapped("Wrapping<T>", "std::num::Wrapping", "T", "(λ w. w.0)", "Wrapping(parts)")]
+# tools/new_type adds a row.
+WRAPPED = [
+    Wrapped("Wrapping<T>", "std::num::Wrapping", "T", "(λ w. w.0)", "Wrapping(parts)"),
+]
 
 
 def types_wrapped(it):

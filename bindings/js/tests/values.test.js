@@ -72,7 +72,6 @@ function judge({ kind, columns, schema }) {
   switch (kind) {
     case "value":
       return text.startsWith("! ") ? assertNoMember(it, bytesOf(first), text.slice(2)) : assertValue(it, bytesOf(first), text);
-    case "nojson":
     case "refused": {
       it.check(bytesOf(first));
       // A part within 128 others has a row, also if it is a list, which in JSON would be one more.

@@ -62,8 +62,6 @@ class Rows(unittest.TestCase):
         self.refused(text, schema.to_json, value)
         self.refused(text, schema.decode, value)
 
-    row_nojson = row_refused
-
     def row_quoted(self, schema, columns):
         value, text = rows.bytes_of(columns[0]), rows.text_of(columns[1:])
         self.assertEqual(schema.to_json(value, quoted=True), text)
@@ -95,16 +93,16 @@ class Rows(unittest.TestCase):
         self.assertEqual("".join(told), wanted if data else "end")  # of no bytes nothing is asked
 
     def test_members(self):
-        self.run_file("members.tsv", {"value", "member", "nojson", "refused", "records", "text"})
+        self.run_file("members.tsv", {"value", "member", "refused", "records", "text"})
 
     def test_nodes(self):
         self.run_file("nodes.tsv", {"nodes"})
 
     def test_json(self):
-        self.run_file("json.tsv", {"value", "nojson", "refused", "text"})
+        self.run_file("json.tsv", {"value", "refused", "text"})
 
     def test_formats(self):
-        self.run_file("formats.tsv", {"value", "nojson", "refused", "quoted", "text"})
+        self.run_file("formats.tsv", {"value", "refused", "quoted", "text"})
 
     def test_containers(self):
         self.run_file("types.tsv", {"value"})

@@ -16,7 +16,7 @@ use Rattle.borsh_walks.specs.Definitions.{shape_of}
 use Rattle.borsh_schema.specs.declared.container.BorshSchemaContainer.{BorshSchemaContainer}
 use Rattle.borsh_schema.specs.Containers.{DescribesRoot, IsContainerOf, language_of, map_of, root_of}
 use Rattle.borsh_schema.proofs.Laws.Containers.{shape_described}
-use Rattle.borsh.specs.WellFormed.{DecodesToMembers, definition_or, shape_in, is_defined_in, definition_count, all_pass, may_be_zero_size, is_range, has_distinct_tags, is_kept_in, is_well_formed_in, all_definitions, are_well_formed, IsWellFormed}
+use Rattle.borsh.specs.WellFormed.{DecodesToMembers, definition_or, shape_in, is_defined_in, tree_size, all_pass, may_be_zero_size, is_range, has_distinct_tags, is_kept_in, is_well_formed_in, all_definitions, are_well_formed, IsWellFormed}
 
 or_true : (a b : Bool) → a || b ≡ true → (a ≡ true) ⊎ (b ≡ true)
 or_true true b e = inl refl
@@ -179,9 +179,9 @@ module _ (C : List ℕ → Option Shape) (root : List ℕ) (ps : DefinitionTree)
       ∙ ap (all_pass (may_be_zero_size steps ps)) f
       ∙ in_all (may_be_zero_size steps ps) ns (λ n h. maybe_zero (each n h) steps)
 
-  keeps_range : {x e : List ℕ} {w lo hi : ℕ} → C x ≡ Some (sequence w lo hi e) → KeepsRange w lo hi × ((eqb w 0 || not (may_be_zero_size (definition_count ps) ps e)) ≡ true)
+  keeps_range : {x e : List ℕ} {w lo hi : ℕ} → C x ≡ Some (sequence w lo hi e) → KeepsRange w lo hi × ((eqb w 0 || not (may_be_zero_size (tree_size ps) ps e)) ≡ true)
   keeps_range {x} {e} {w} {lo} {hi} f =
-      let h = and_true (is_range w lo hi) (eqb w 0 || not (may_be_zero_size (definition_count ps) ps e)) (passes x (sequence w lo hi e) f).0 in
+      let h = and_true (is_range w lo hi) (eqb w 0 || not (may_be_zero_size (tree_size ps) ps e)) (passes x (sequence w lo hi e) f).0 in
       (range w lo hi h.0, h.1)
 
   keeps_tags : {x : List ℕ} {w : ℕ} {vs : List (ℤ × List ℕ)} → C x ≡ Some (choice w vs) → (w ≤ 8) × DistinctTags w vs
@@ -201,9 +201,9 @@ module _ (C : List ℕ → Option Shape) (root : List ℕ) (ps : DefinitionTree)
   no_rule_broken x h r (is_too_narrow e f g) = range_narrow (keeps_range e).0 f g
   no_rule_broken x h r (is_zst_sequence {w = w} {e = e} f g z) =
       let k = keeps_range f in
-      elim (or_true (eqb w 0) (not (may_be_zero_size (definition_count ps) ps e)) k.1) [
+      elim (or_true (eqb w 0) (not (may_be_zero_size (tree_size ps) ps e)) k.1) [
         | inl l ↦ g (range_fixed k.0 l)
-        | inr l ↦ true≢false (sym (maybe_zero z (definition_count ps)) ∙ not_true (may_be_zero_size (definition_count ps) ps e) l)
+        | inr l ↦ true≢false (sym (maybe_zero z (tree_size ps)) ∙ not_true (may_be_zero_size (tree_size ps) ps e) l)
       ]
   no_rule_broken x h r (is_wide_choice e f) = let k = (keeps_tags e).0 in omega (arith, k, f)
 

@@ -22,10 +22,10 @@ abbrev pub is_defined_in : DefinitionTree → List ℕ → Bool
 is_defined_in ps n = is_some (definition_or None ps n)
 
 -- how many definitions the tree has
-abbrev pub definition_count : DefinitionTree → ℕ
-definition_count none = 0
-definition_count (defined n d ps) = suc (definition_count ps)
-definition_count (both ps qs) = definition_count ps + definition_count qs
+abbrev pub tree_size : DefinitionTree → ℕ
+tree_size none = 0
+tree_size (defined n d ps) = suc (tree_size ps)
+tree_size (both ps qs) = tree_size ps + tree_size qs
 
 -- whether all of the names pass, if there are names
 abbrev pub all_pass : (List ℕ → Bool) → Option (List (List ℕ)) → Bool
@@ -49,7 +49,7 @@ has_distinct_tags w (v ∷ vs) = list_all (λ u. not (bytes_eq (tag w v.0) (tag 
 -- whether the definition keeps the rules and is unambiguous, among those of the tree
 abbrev pub is_kept_in : DefinitionTree → Shape → Bool
 is_kept_in ps (primitive n) = true
-is_kept_in ps (sequence w lo hi e) = is_range w lo hi && (eqb w 0 || not (may_be_zero_size (definition_count ps) ps e))
+is_kept_in ps (sequence w lo hi e) = is_range w lo hi && (eqb w 0 || not (may_be_zero_size (tree_size ps) ps e))
 is_kept_in ps (product ns) = true
 is_kept_in ps (choice w vs) = nat_le w 8 && has_distinct_tags w vs
 

@@ -44,7 +44,7 @@ pub record HasClash (parts : DefinitionTree) : Type 0 where
   pub clash : Conflicts nothing_defined parts name
 
 -- the type's container, its definitions by ascending name, has no encoding
-pub record HasNoBytes (name : List ℕ) (parts : DefinitionTree) : Type 0 where
+pub record HasNoEncoding (name : List ℕ) (parts : DefinitionTree) : Type 0 where
   pub own : BorshSchemaContainer
   pub is : IsContainerOf name parts own
   pub ascending : IsOrdered string_cmp (map_of own)
@@ -53,7 +53,7 @@ pub record HasNoBytes (name : List ℕ) (parts : DefinitionTree) : Type 0 where
 -- why container and value aren't written
 pub data WhyNotWritten (name : List ℕ) (parts : DefinitionTree) (encoding : Option (List ℕ)) (kind : ErrorKind) : Type 0 where
   clashes : IsInvalidData true kind → HasClash parts → WhyNotWritten name parts encoding kind
-  no_container : kind ≡ InvalidData → HasNoBytes name parts → WhyNotWritten name parts encoding kind
+  no_container : kind ≡ InvalidData → HasNoEncoding name parts → WhyNotWritten name parts encoding kind
   no_encoding : kind ≡ InvalidData → encoding ≡ None → WhyNotWritten name parts encoding kind
   no_memory : kind ≡ OutOfMemory → WhyNotWritten name parts encoding kind
 

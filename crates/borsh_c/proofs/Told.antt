@@ -1,15 +1,9 @@
 -- A refusal says what is right.
-use Rattle.std.proofs.Common.{◌≡◌, ◌^◌, ◌<◌, inr, ℕ, List, Option, Some, String, string_bytes, codes, refl, subst, sym}
+use Rattle.std.proofs.Common.{◌≡◌, inr, ℕ, List, Option, Some, String, string_bytes, codes, refl, subst, sym}
 use Rattle.std.specs.Global.{Global}
 use Rattle.borsh_definitions.specs.Codecs.{root_and_map}
-use Rattle.borsh_walks.specs.Container.{Shape, MaxSize, zst_sequence, tag_too_wide, tag_too_narrow, tag_not_power_of_two, missing_definition, empty_length_range}
+use Rattle.borsh_walks.specs.Container.{Shape}
 use Rattle.borsh_walks.specs.Definitions.{definitions_in}
-use Rattle.borsh_walks.specs.RulesAnswer.{RulesFault}
-use Rattle.borsh_walks.specs.SizeAnswer.{SizeFault}
-use Rattle.borsh_walks.specs.declared.error.SchemaContainerValidateError.{SchemaContainerValidateError}
-use Rattle.borsh_walks.specs.declared.error.SchemaContainerValidateError.TheVariants.{ZSTSequence, TagTooWide, TagTooNarrow, TagNotPowerOfTwo, MissingDefinition, EmptyLengthRange, OutOfMemory as NoRules}
-use Rattle.borsh_walks.specs.declared.error.SchemaMaxSerializedSizeError.{SchemaMaxSerializedSizeError}
-use Rattle.borsh_walks.specs.declared.error.SchemaMaxSerializedSizeError.TheVariants.{Overflow, Recursive, MissingDefinition as Missing, OutOfMemory as NoMemory, Redefinition}
 use Rattle.borsh_values.specs.Membership.{IsUndecided}
 use Rattle.borsh_values.proofs.Answers.{none_ambiguous}
 use Rattle.borsh_json.specs.declared.error.JsonError.{JsonError}
@@ -18,14 +12,13 @@ use Rattle.borsh_json.specs.Errors.{IsNoJsonReason, IsTextReason}
 use Rattle.borsh_json.specs.Forms.{forms_in}
 use Rattle.borsh_json.specs.NoJson.{ShowsNoJson}
 use Rattle.borsh_json.specs.NoValue.{ShowsNoValue}
-use Rattle.borsh_c.specs.declared.refusal.Refusal.{Refusal}
-use Rattle.borsh_c.specs.declared.refusal.Refusal.TheVariants.{No, Malformed, OutOfMemory, Undecided}
+use Rattle.borsh_c.specs.declared.refusal.NoAnswer.{NoAnswer}
+use Rattle.borsh_c.specs.declared.refusal.NoAnswer.TheVariants.{No, Malformed, OutOfMemory, Undecided}
 use Rattle.borsh_c.specs.declared.refusal.Said.{Said}
-use Rattle.borsh_c.specs.Answers.{Answers, Definitions, Saying, About, Gives, HasNoJson, HasNoSize, IsInvalid, IsNo, IsNoText, IsRefused, IsShort, IsUnclear, IsUnsized, Tells, code_of, offset_in, told_offset, told_text, unclear_text}
+use Rattle.borsh_c.specs.Answers.{Answers, Definitions, Saying, About, Gives, HasNoJson, IsNo, IsNoText, IsRefused, IsShort, IsUnclear, Tells, code_of, offset_in, told_offset, told_text, unclear_text}
 use Rattle.borsh_c.specs.Answers.Answers.{yes, no, malformed, out_of_memory, undecided}
-use Rattle.borsh_c.specs.Answers.IsUnsized.{overflows, recurs, misses}
 use Rattle.borsh_c.specs.Room.{IsGiven}
-use Rattle.borsh_c.specs.Texts.{TellsBroken, TellsNoSize, TellsNoValue}
+use Rattle.borsh_c.specs.Texts.{TellsNoValue}
 
 -- ---- what is said of the container whose encoding the bytes are, and of the name of its root
 
@@ -36,26 +29,7 @@ module _ {schema : List ℕ} (c : String Global × Definitions) (encoded : root_
   pub about_told : (P : Saying) → P c.1 root → About schema P
   about_told P p = (c, encoded, subst (λ (r : List ℕ). P c.1 r) named p)
 
-  pub broken_told : {text : List ℕ} (e : SchemaContainerValidateError) → RulesFault C root e → TellsBroken e text → IsInvalid text c.1 root
-  broken_told (ZSTSequence m) f t = (string_bytes m, zst_sequence, f.0, f.1, t)
-  broken_told (TagTooWide m) f t = (string_bytes m, tag_too_wide, f.0, f.1, t)
-  broken_told (TagTooNarrow m) f t = (string_bytes m, tag_too_narrow, f.0, f.1, t)
-  broken_told (TagNotPowerOfTwo m) f t = (string_bytes m, tag_not_power_of_two, f.0, f.1, t)
-  broken_told (MissingDefinition m) f t = (string_bytes m, missing_definition, f.0, f.1, t)
-  broken_told (EmptyLengthRange m) f t = (string_bytes m, empty_length_range, f.0, f.1, t)
-  broken_told NoRules f t = absurd t
-
-  unsized : {text : List ℕ} (e : SchemaMaxSerializedSizeError) → SizeFault C root e → TellsNoSize e text → IsUnsized C root text
-  unsized Overflow f t = overflows f.0 f.1 f.2 t
-  unsized Recursive f t = recurs f t
-  unsized (Missing m) f t = misses (string_bytes m) f.0 f.1 t
-  unsized NoMemory f t = absurd t
-  unsized (Redefinition m) f t = absurd t
-
-  pub size_told : {text : List ℕ} (e : SchemaMaxSerializedSizeError) → ((n : ℕ) → MaxSize C root n → n < 2 ^ 64 → e ≡ NoMemory) → SizeFault C root e → TellsNoSize e text → HasNoSize text c.1 root
-  size_told {text} e answered f t = (λ n m l. subst (λ (e : SchemaMaxSerializedSizeError). TellsNoSize e text) (answered n m l) t, unsized e f t)
-
-  pub no_told : (N : Option ℕ → List ℕ → Saying) (U : List ℕ → Saying) {offset : Option ℕ} {text : List ℕ} → N offset text c.1 root → (r : Refusal) → Tells offset text r → IsRefused schema N U r
+  pub no_told : (N : Option ℕ → List ℕ → Saying) (U : List ℕ → Saying) {offset : Option ℕ} {text : List ℕ} → N offset text c.1 root → (r : NoAnswer) → Tells offset text r → IsRefused schema N U r
   no_told N U {text = text} n (No t) told =
       about_told (N t.offset (string_bytes t.text)) (subst (λ (x : List ℕ). N t.offset x c.1 root) (sym told.1) (subst (λ (o : Option ℕ). N o text c.1 root) (sym told.0) n))
   no_told N U n (Malformed t) told = absurd told
@@ -78,14 +52,14 @@ module _ {schema : List ℕ} (c : String Global × Definitions) (encoded : root_
   no_json value text (NotJson offset) reason shows told short = absurd reason
   no_json value text (Refused path refusal) reason shows told short = (reason.0, (refusal, shows), short)
 
-  pub bytes_refused : (value : List ℕ) (e : JsonError) → IsNoJsonReason C root value e → ShowsNoJson (forms_in c.1) root value e → (r : Refusal) → TellsNoValue e r → IsRefused schema (HasNoJson value) IsUnclear r
+  pub bytes_refused : (value : List ℕ) (e : JsonError) → IsNoJsonReason C root value e → ShowsNoJson (forms_in c.1) root value e → (r : NoAnswer) → TellsNoValue e r → IsRefused schema (HasNoJson value) IsUnclear r
   bytes_refused value e reason shows (No t) told =
       about_told (HasNoJson value t.offset (string_bytes t.text)) (subst (λ (o : Option ℕ). HasNoJson value o (string_bytes t.text) c.1 root) (sym told.0) (no_json value (string_bytes t.text) e reason shows told.1 told.2))
   bytes_refused value e reason shows (Malformed t) told = absurd told
   bytes_refused value e reason shows OutOfMemory told = tt
   bytes_refused value e reason shows (Undecided t) told = unclear_told (subst (IsNoJsonReason C root value) told.1 reason) told.2
 
-  pub text_refused : (json : List ℕ) (e : JsonError) → IsTextReason C root json e → ShowsNoValue (forms_in c.1) root json e → (r : Refusal) → TellsNoValue e r → IsRefused schema (IsNoText json) IsUnclear r
+  pub text_refused : (json : List ℕ) (e : JsonError) → IsTextReason C root json e → ShowsNoValue (forms_in c.1) root json e → (r : NoAnswer) → TellsNoValue e r → IsRefused schema (IsNoText json) IsUnclear r
   text_refused json e reason denies (No t) told = about_told (IsNoText json t.offset (string_bytes t.text)) (told.2, inr (e, told.1, told.0, reason, denies))
   text_refused json e reason denies (Malformed t) told = absurd told
   text_refused json e reason denies OutOfMemory told = tt
@@ -94,7 +68,7 @@ module _ {schema : List ℕ} (c : String Global × Definitions) (encoded : root_
 -- ---- what is told
 
 -- a refusal that is right is an answer that is right, with its code, its offset and its text
-pub refused_answers : (schema : List ℕ) (Yes : List ℕ → Saying) (N : Option ℕ → List ℕ → Saying) (U : List ℕ → Saying) (r : Refusal) → IsRefused schema N U r → {code : ℕ} → code ≡ code_of r → {offset : Option ℕ} → offset ≡ told_offset r → {room : List ℕ} {needed : ℕ} → IsGiven (told_text r) room needed → Gives (Answers schema Yes (N offset) U code) room needed
+pub refused_answers : (schema : List ℕ) (Yes : List ℕ → Saying) (N : Option ℕ → List ℕ → Saying) (U : List ℕ → Saying) (r : NoAnswer) → IsRefused schema N U r → {code : ℕ} → code ≡ code_of r → {offset : Option ℕ} → offset ≡ told_offset r → {room : List ℕ} {needed : ℕ} → IsGiven (told_text r) room needed → Gives (Answers schema Yes (N offset) U code) room needed
 refused_answers schema Yes N U (No t) right code offset given =
     (string_bytes t.text, no (subst (λ (o : Option ℕ). About schema (N o (string_bytes t.text))) (sym offset) right) code, given)
 refused_answers schema Yes N U (Malformed t) right code offset given = (string_bytes t, malformed right code, given)

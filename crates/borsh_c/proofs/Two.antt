@@ -11,13 +11,15 @@ use Rattle.borsh_walks.specs.Definitions.{definitions_in}
 use Rattle.borsh_plan.specs.Plan.{IsPlanOf, map_of, root_of}
 use Rattle.borsh_plan.specs.declared.plan.Plan.{Plan}
 use Rattle.borsh_c.specs.Answers.{About, Definitions, Gives, IsShort, code_of, told_text}
-use Rattle.borsh_c.specs.Pairs.{AboutTwo, AnswersCompared, AreAny, IsLost, IsOneMalformed, IsStillRead, OfPlans, RefusesTwo, SayingOfTwo}
+use Rattle.borsh_compare.specs.Walks.{IsStillRead}
+use Rattle.borsh_c.specs.Pairs.{AboutTwo, AnswersCompared, AreAny, IsLost, IsOneMalformed, OfPlans, RefusesTwo, SayingOfTwo}
+use Rattle.borsh_compare.specs.Walks.{IsStillRead}
 use Rattle.borsh_c.specs.Pairs.AnswersCompared.{lost, malformed, not_known, out_of_memory, still_read}
 use Rattle.borsh_c.specs.Room.{IsGiven}
 use Rattle.borsh_c.specs.Types.{AnswersContainer, AreEncodingOf, IsOfType, TellsNoType}
 use Rattle.borsh_c.specs.Types.AnswersContainer.{compiled, refused, out_of_memory as no_memory}
-use Rattle.borsh_c.specs.declared.refusal.Refusal.{Refusal}
-use Rattle.borsh_c.specs.declared.refusal.Refusal.TheVariants.{No, Malformed, OutOfMemory, Undecided}
+use Rattle.borsh_c.specs.declared.refusal.NoAnswer.{NoAnswer}
+use Rattle.borsh_c.specs.declared.refusal.NoAnswer.TheVariants.{No, Malformed, OutOfMemory, Undecided}
 use Rattle.borsh_c.proofs.Records.{by_plan}
 
 -- what holds by two plans holds by the containers that they were made of
@@ -32,13 +34,13 @@ pub compiled_about : {bytes : List ℕ} {S : Source} {t : ℕ} (c : Compiled) �
 compiled_about {S = S} {t = t} c m v e = (((c.declaration, c.definitions), e.0, (v, (S, t, m))), e.1)
 
 -- what follows from what a refusal says
-pub refuses_more : {M K : List ℕ → Type 0} {N L U V : Type 0} → ((text : List ℕ) → M text → K text) → (N → L) → (U → V) → (r : Refusal) → RefusesTwo M N U r → RefusesTwo K L V r
+pub refuses_more : {M K : List ℕ → Type 0} {N L U V : Type 0} → ((text : List ℕ) → M text → K text) → (N → L) → (U → V) → (r : NoAnswer) → RefusesTwo M N U r → RefusesTwo K L V r
 refuses_more f g h (No t) told = (told.0, g told.1)
 refuses_more f g h (Malformed t) told = f (string_bytes t) told
 refuses_more f g h OutOfMemory told = tt
 refuses_more f g h (Undecided t) told = (told.0, h told.1)
 
-pub compared_told : (old new : List ℕ) (r : Refusal) → RefusesTwo (IsOneMalformed old new) (AboutTwo old new IsLost) (AboutTwo old new AreAny) r → {code : ℕ} → code ≡ code_of r → {room : List ℕ} {needed : ℕ} → IsGiven (told_text r) room needed → Gives (AnswersCompared old new code) room needed
+pub compared_told : (old new : List ℕ) (r : NoAnswer) → RefusesTwo (IsOneMalformed old new) (AboutTwo old new IsLost) (AboutTwo old new AreAny) r → {code : ℕ} → code ≡ code_of r → {room : List ℕ} {needed : ℕ} → IsGiven (told_text r) room needed → Gives (AnswersCompared old new code) room needed
 compared_told old new (No t) told code given = (string_bytes t.text, lost told.0 told.1 code, given)
 compared_told old new (Malformed t) told code given = (string_bytes t, malformed told code, given)
 compared_told old new OutOfMemory told code given = (codes "out of memory", out_of_memory refl code, given)
@@ -50,7 +52,7 @@ compared_given old new {bytes} right same given = (bytes, still_read (subst IsSh
 pub type_given : {bytes container : List ℕ} → About container IsOfType × IsShort container → bytes ≡ container → {room : List ℕ} {needed : ℕ} → IsGiven bytes room needed → Gives (AnswersContainer 0) room needed
 type_given {bytes} right same given = (bytes, compiled (subst (λ (c : List ℕ). About c IsOfType × IsShort c) (sym same) right) refl, given)
 
-pub type_told : (r : Refusal) → TellsNoType r → {code : ℕ} → code ≡ code_of r → {room : List ℕ} {needed : ℕ} → IsGiven (told_text r) room needed → Gives (AnswersContainer code) room needed
+pub type_told : (r : NoAnswer) → TellsNoType r → {code : ℕ} → code ≡ code_of r → {room : List ℕ} {needed : ℕ} → IsGiven (told_text r) room needed → Gives (AnswersContainer code) room needed
 type_told (No t) told code given = (string_bytes t.text, refused told code, given)
 type_told (Malformed t) told code given = absurd told
 type_told OutOfMemory told code given = (codes "out of memory", no_memory refl code, given)

@@ -1,24 +1,25 @@
 -- What the calls answer about the container whose encoding the bytes are.
-use Rattle.std.specs.Prelude.{◌≡◌, ◌⊎◌, ◌^◌, ◌<◌, ◌≤◌, ◌++◌, ⊤, ℕ, List, [], length, Bool, true, false, Option, None, Some, String, Vec, string_bytes, codes, IsUtf8}
+use Rattle.std.specs.Prelude.{◌≡◌, ◌⊎◌, ◌≤◌, ◌++◌, ⊤, ℕ, List, [], length, Bool, true, false, Option, None, Some, String, Vec, string_bytes, codes, IsUtf8}
 use Rattle.std.specs.Global.{Global}
 use Rattle.std.specs.BTreeMap.{BTreeMap}
 use Rattle.borsh_json.specs.Errors.{IsTextReason}
 use Rattle.borsh_json.specs.Forms.{forms_in}
 use Rattle.borsh_json.specs.InOrder.{TextRepresents}
-use Rattle.borsh_json.specs.Printed.{IsPrinted}
+use Rattle.borsh_json.specs.Printed.{HasShortNumbers, IsPrinted, layout_if, numbers_if}
 use Rattle.borsh_json.specs.Names.{TellsNames}
 use Rattle.borsh_json.specs.NoJson.{RefusesBytes}
 use Rattle.borsh_json.specs.NoValue.{ShowsNoValue}
 use Rattle.borsh_json.specs.declared.error.JsonError.{JsonError}
 use Rattle.borsh_json.specs.declared.error.JsonError.TheVariants.{OutOfMemory as NoJsonRoom, NoMember, NoValue, Ambiguous, NotJson, Refused}
-use Rattle.borsh_json.specs.declared.error.Refusal.{Refusal as JsonRefusal}
+use Rattle.borsh_json.specs.declared.error.Refusal.{Refusal}
 use Rattle.borsh_json.specs.declared.output.Layout.{Layout}
-use Rattle.borsh_json.specs.declared.output.Layout.TheVariants.{Compact, Pretty}
+use Rattle.borsh_json.specs.declared.output.LongNumbers.{LongNumbers}
+use Rattle.borsh_json.specs.declared.output.LongNumbers.TheVariants.{Quoted}
 use Rattle.borsh_codec.specs.Codec.{IsDecodable}
 use Rattle.borsh_definitions.specs.Codecs.{root_and_map}
-use Rattle.borsh_walks.specs.Container.{Shape, Rule, Breaks, Member, MaxSize, PartialSize, IsRecursive, IsValid, Reached, SizeReaches}
+use Rattle.borsh_walks.specs.Answers.{IsSaid, SaysRules, SaysSize, spoken}
+use Rattle.borsh_walks.specs.Container.{Shape, Member, MaxSize, IsValid}
 use Rattle.borsh_walks.specs.Definitions.{definitions_in}
-use Rattle.borsh_walks.specs.Errors.{rule_name}
 use Rattle.borsh_walks.specs.declared.definition.Definition.{Definition}
 use Rattle.borsh_plan.specs.Names.{IsPlanned}
 use Rattle.borsh_plan.specs.declared.named.Named.{Named}
@@ -26,8 +27,8 @@ use Rattle.borsh_values.specs.Membership.{IsUndecided, IsFault}
 use Rattle.borsh_values.specs.Unambiguous.{IsUnambiguous}
 use Rattle.borsh_values.specs.declared.faults.Fault.{Fault}
 use Rattle.borsh_c.specs.Room.{IsGiven}
-use Rattle.borsh_c.specs.declared.refusal.Refusal.{Refusal}
-use Rattle.borsh_c.specs.declared.refusal.Refusal.TheVariants.{No, Malformed, OutOfMemory, Undecided}
+use Rattle.borsh_c.specs.declared.refusal.NoAnswer.{NoAnswer}
+use Rattle.borsh_c.specs.declared.refusal.NoAnswer.TheVariants.{No, Malformed, OutOfMemory, Undecided}
 
 -- the definitions of a container, by their names
 abbrev pub Definitions : Type 0
@@ -56,28 +57,28 @@ Gives P room needed = (bytes : List ℕ) × P bytes × IsGiven bytes room needed
 -- ---- codes
 
 -- the code of each refusal
-abbrev pub code_of : Refusal → ℕ
+abbrev pub code_of : NoAnswer → ℕ
 code_of (No t) = 1
 code_of (Malformed t) = 2
 code_of OutOfMemory = 3
 code_of (Undecided t) = 5
 
 -- the offset that a refusal tells
-abbrev pub told_offset : Refusal → Option ℕ
+abbrev pub told_offset : NoAnswer → Option ℕ
 told_offset (No t) = t.offset
 told_offset (Malformed t) = None
 told_offset OutOfMemory = None
 told_offset (Undecided t) = None
 
 -- the text that a refusal tells
-abbrev pub told_text : Refusal → List ℕ
+abbrev pub told_text : NoAnswer → List ℕ
 told_text (No t) = string_bytes t.text
 told_text (Malformed t) = string_bytes t
 told_text OutOfMemory = codes "out of memory"
 told_text (Undecided t) = string_bytes t
 
 -- the refusal is a no, with this offset and this text
-abbrev pub Tells : Option ℕ → List ℕ → Refusal → Type 0
+abbrev pub Tells : Option ℕ → List ℕ → NoAnswer → Type 0
 Tells offset text (No t) = (t.offset ≡ offset) × (string_bytes t.text ≡ text)
 Tells offset text (Malformed t) = ⊥
 Tells offset text OutOfMemory = ⊥
@@ -92,7 +93,7 @@ pub data Answers (schema : List ℕ) (Yes No Undecided : List ℕ → Saying) (c
   undecided : About schema (Undecided given) → code ≡ 5 → Answers schema Yes No Undecided code given
 
 -- a refusal is right; what a no says depends on the offset and the text that it tells
-abbrev pub IsRefused : List ℕ → (Option ℕ → List ℕ → Saying) → (List ℕ → Saying) → Refusal → Type 0
+abbrev pub IsRefused : List ℕ → (Option ℕ → List ℕ → Saying) → (List ℕ → Saying) → NoAnswer → Type 0
 IsRefused schema N U (No t) = About schema (N t.offset (string_bytes t.text))
 IsRefused schema N U (Malformed t) = IsMalformed schema (string_bytes t)
 IsRefused schema N U OutOfMemory = ⊤
@@ -112,23 +113,17 @@ wherever P offset = P
 abbrev pub Never : List ℕ → Saying
 Never text m root = ⊥
 
--- that a name breaks a rule
-abbrev pub invalid_text : List ℕ → List ℕ → List ℕ
-invalid_text rule name = codes "invalid " ++ (rule ++ (codes " " ++ name))
+-- words, and a name behind them, if there is one
+abbrev pub in_plain : List ℕ × Option (List ℕ) → List ℕ
+in_plain = spoken (λ name. name)
 
 -- a reached name breaks a rule, and the text says which
 abbrev pub IsInvalid : List ℕ → Saying
-IsInvalid text m root = (x : List ℕ) × (r : Rule) × Reached (definitions_in m) root x × Breaks (definitions_in m) r x × (text ≡ invalid_text (rule_name r) x)
-
--- why there is no size below 2^64, and the text that says so
-pub data IsUnsized (C : List ℕ → Option Shape) (root text : List ℕ) : Type 0 where
-  overflows : (k : ℕ) → PartialSize C [] root k → 2 ^ 64 ≤ k → text ≡ codes "overflow" → IsUnsized C root text
-  recurs : IsRecursive C root → text ≡ codes "recursive" → IsUnsized C root text
-  misses : (x : List ℕ) → SizeReaches C root x → C x ≡ None → text ≡ codes "missing " ++ x → IsUnsized C root text
+IsInvalid text m root = IsSaid in_plain (SaysRules (definitions_in m) root false) text
 
 -- there is no size below 2^64, and the text says why
 abbrev pub HasNoSize : List ℕ → Saying
-HasNoSize text m root = ((n : ℕ) → MaxSize (definitions_in m) root n → n < 2 ^ 64 → ⊥) × IsUnsized (definitions_in m) root text
+HasNoSize text m root = IsSaid in_plain (SaysSize (definitions_in m) root None) text
 
 -- the text says how the values of each name are written that the root leads to
 abbrev pub TellsKinds : List ℕ → Saying
@@ -143,18 +138,13 @@ IsNoMember value (Some offset) text m root = (Member (definitions_in m) root val
 abbrev pub AreBytesOf : List ℕ → List ℕ → Saying
 AreBytesOf json value m root = TextRepresents (forms_in m) root json value
 
--- on one line, or in several
-abbrev pub layout_if : Bool → Layout
-layout_if true = Compact
-layout_if false = Pretty
-
--- the text is JSON that says these bytes, which are a member of the root, its keys in order, with no white space but that of the layout
-abbrev pub IsJsonOf : Layout → List ℕ → List ℕ → Saying
-IsJsonOf layout value text m root = TextRepresents (forms_in m) root text value × IsPrinted layout text
+-- the text is JSON that says these bytes, which are a member of the root, its keys in order, with no white space but that of the layout, and where numbers of 64 bits are strings, with no whole number that needs so many
+abbrev pub IsJsonOf : Layout → LongNumbers → List ℕ → List ℕ → Saying
+IsJsonOf layout long value text m root = TextRepresents (forms_in m) root text value × IsPrinted layout text × (long ≡ Quoted → HasShortNumbers text)
 
 -- an offset is told only where the bytes are no member of the root, and is then that of a fault; without one they are a member, and there is a reason why it has no JSON
 abbrev pub HasNoJson : List ℕ → Option ℕ → List ℕ → Saying
-HasNoJson value None text m root = Member (definitions_in m) root value × ((r : JsonRefusal) × RefusesBytes (forms_in m) root value r) × IsShort text
+HasNoJson value None text m root = Member (definitions_in m) root value × ((r : Refusal) × RefusesBytes (forms_in m) root value r) × IsShort text
 HasNoJson value (Some offset) text m root = IsNoMember value (Some offset) text m root
 
 -- the offset that an error has
@@ -210,9 +200,9 @@ AnswersNames schema = Answers schema TellsKinds Never Never
 abbrev pub AnswersMember : List ℕ → List ℕ → Option ℕ → ℕ → List ℕ → Type 0
 AnswersMember schema value offset = Answers schema (Alone (λ C root. Member C root value)) (IsNoMember value offset) IsUnclear
 
--- code 0: JSON of the value is given, on one line or in several; undecided only where the container breaks a rule or is ambiguous
-abbrev pub AnswersJson : List ℕ → List ℕ → Bool → Option ℕ → ℕ → List ℕ → Type 0
-AnswersJson schema value compact offset = Answers schema (IsJsonOf (layout_if compact) value) (HasNoJson value offset) IsUnclear
+-- code 0: JSON of the value is given, on one line or in several, with quoted numbers or not; undecided only where the container breaks a rule or is ambiguous
+abbrev pub AnswersJson : List ℕ → List ℕ → (compact quoted : Bool) → Option ℕ → ℕ → List ℕ → Type 0
+AnswersJson schema value compact quoted offset = Answers schema (IsJsonOf (layout_if compact) (numbers_if quoted) value) (HasNoJson value offset) IsUnclear
 
 -- code 0: the bytes of the JSON are given; undecided only where the container breaks a rule or is ambiguous
 abbrev pub AnswersBytes : List ℕ → List ℕ → Option ℕ → ℕ → List ℕ → Type 0

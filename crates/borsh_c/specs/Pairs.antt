@@ -4,9 +4,10 @@ use Rattle.borsh_plan.specs.declared.plan.Plan.{Plan}
 use Rattle.borsh_plan.specs.Plan.{map_of, root_of}
 use Rattle.borsh_walks.specs.Container.{Member}
 use Rattle.borsh_walks.specs.Definitions.{definitions_in}
+use Rattle.borsh_compare.specs.Walks.{IsStillRead}
 use Rattle.borsh_c.specs.Answers.{About, Definitions, Saying, IsMalformed, IsShort}
-use Rattle.borsh_c.specs.declared.refusal.Refusal.{Refusal}
-use Rattle.borsh_c.specs.declared.refusal.Refusal.TheVariants.{No, Malformed, OutOfMemory, Undecided}
+use Rattle.borsh_c.specs.declared.refusal.NoAnswer.{NoAnswer}
+use Rattle.borsh_c.specs.declared.refusal.NoAnswer.TheVariants.{No, Malformed, OutOfMemory, Undecided}
 
 -- what may be said of two containers, the old one first
 abbrev pub SayingOfTwo : Type 1
@@ -15,10 +16,6 @@ SayingOfTwo = Definitions → List ℕ → Saying
 -- the bytes are the encodings of containers of which this holds
 abbrev pub AboutTwo : List ℕ → List ℕ → SayingOfTwo → Type 0
 AboutTwo old new P = About old (λ m x. About new (P m x))
-
--- each member of the old root is one of the new
-abbrev pub IsStillRead : SayingOfTwo
-IsStillRead m x n y = (bytes : List ℕ) → Member (definitions_in m) x bytes → Member (definitions_in n) y bytes
 
 -- some bytes are a member of the old root and none of the new
 abbrev pub IsLost : SayingOfTwo
@@ -42,7 +39,7 @@ IsOneMalformed old new text = IsMalformedAs (codes "old") old text ⊎ IsMalform
 
 -- a refusal says what is right: what is so after a no, and where it is undecided
 module _ (M : List ℕ → Type 0) (N U : Type 0) where
-  abbrev pub RefusesTwo : Refusal → Type 0
+  abbrev pub RefusesTwo : NoAnswer → Type 0
   RefusesTwo (No t) = IsShort (string_bytes t.text) × N
   RefusesTwo (Malformed t) = M (string_bytes t)
   RefusesTwo OutOfMemory = ⊤

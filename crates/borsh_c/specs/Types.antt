@@ -8,8 +8,8 @@ use Rattle.borsh_source.specs.declared.tree.Source.{Source}
 use Rattle.borsh_walks.specs.Container.{IsValid}
 use Rattle.borsh_walks.specs.Definitions.{definitions_in}
 use Rattle.borsh_c.specs.Answers.{About, Saying, IsShort}
-use Rattle.borsh_c.specs.declared.refusal.Refusal.{Refusal}
-use Rattle.borsh_c.specs.declared.refusal.Refusal.TheVariants.{No, Malformed, OutOfMemory, Undecided}
+use Rattle.borsh_c.specs.declared.refusal.NoAnswer.{NoAnswer}
+use Rattle.borsh_c.specs.declared.refusal.NoAnswer.TheVariants.{No, Malformed, OutOfMemory, Undecided}
 
 -- it keeps the rules, and has the definitions of a type of some tree of items, and no others
 abbrev pub IsOfType : Saying
@@ -20,7 +20,7 @@ abbrev pub AreEncodingOf : Compiled → List ℕ → Type 0
 AreEncodingOf c bytes = root_and_map.encoding (c.declaration, c.definitions) ≡ Some bytes
 
 -- no, or want of memory
-abbrev pub TellsNoType : Refusal → Type 0
+abbrev pub TellsNoType : NoAnswer → Type 0
 TellsNoType (No t) = IsShort (string_bytes t.text)
 TellsNoType (Malformed t) = ⊥
 TellsNoType OutOfMemory = ⊤

@@ -1,25 +1,20 @@
 // What is asked of a container, and of bytes by it.
 ghost use Rattle.std.specs.Prelude.{[], ◌≡◌, IfErr, IfOk, None, OnOk, Some, string_bytes};
-ghost use Rattle.borsh_c.specs.Answers.{About, Alone, AreBytesOf, HasNoJson, HasNoSize, IsInvalid, IsJsonOf, IsNoMember, IsNoText, IsRefused, IsShort, IsUnclear, Never, Tells, TellsKinds, unclear_text, wherever};
-ghost use Rattle.borsh_c.specs.Texts.{TellsBroken, TellsNoSize, TellsNoValue, TellsUnread};
+ghost use Rattle.borsh_c.specs.Answers.{About, Alone, AreBytesOf, HasNoJson, HasNoSize, IsInvalid, IsJsonOf, IsNoMember, IsNoText, IsRefused, IsShort, IsUnclear, Never, Tells, TellsKinds, in_plain, unclear_text, wherever};
+ghost use Rattle.borsh_c.specs.Texts.{TellsNoValue, TellsUnread};
 ghost use Rattle.borsh_definitions.specs.Codecs.{root_and_map};
 ghost use Rattle.borsh_json.specs.declared.output.Characters.TheVariants.{Any};
 ghost use Rattle.borsh_io.specs.Errors.{error_kind};
+ghost use Rattle.borsh_walks.specs.Answers.{words_of};
 ghost use Rattle.borsh_walks.specs.Container.{IsValid, MaxSize, Member};
-ghost use Rattle.borsh_walks.specs.Definitions.{definitions_in};
-ghost use Rattle.borsh_walks.specs.RulesAnswer.{AcceptsIfValid, JudgesRules};
-ghost use Rattle.borsh_walks.specs.SizeOutcome.{AnswersSize};
 
 use super::place::Span;
-use super::refusal::{Refusal, Said};
+use super::refusal::{NoAnswer, Said};
 use borsh_de::BorshDeserialize;
 use borsh_io::{Error, ErrorKind};
 use borsh_json::{Json, JsonError, Style, from_json, to_json};
 use borsh_values::{Fault, Membership, Path, Plan, is_member};
-use borsh_walks::{
-    Counted, Definition, Expansions, SchemaContainerValidateError, SchemaMaxSerializedSizeError,
-    check_rules, root_size,
-};
+use borsh_walks::{Definition, Words, rules_in_words, size_in_words};
 use std::alloc::{AllocError, Global};
 use std::collections::BTreeMap;
 use std::str;
@@ -31,13 +26,13 @@ pub const MOST_TEXT: usize = 1073741824;
 pub type Container = (String, BTreeMap<String, Definition>);
 
 /// The container whose encoding the bytes are.
-pub fn container_from(alloc: Global, schema: &[u8]) -> Result<Container, Refusal>
+pub fn container_from(alloc: Global, schema: &[u8]) -> Result<Container, NoAnswer>
     ensures ok { IfOk result (λ c. root_and_map.encoding c ≡ Some schema.now) }
     ensures err { IfErr result (λ e. IsRefused schema.now (wherever Never) Never e) }
 {
     match <(String, BTreeMap<String, Definition>)>::try_from_slice(alloc, schema) {
         Ok(container) => Ok(container),
-        Err(error) => Err(Refusal::Malformed(unread(alloc, &error)?)),
+        Err(error) => Err(NoAnswer::Malformed(unread(alloc, &error)?)),
     }
 }
 
@@ -61,46 +56,34 @@ pub fn cut(mut text: String) -> String
 }
 
 /// Whether the container keeps the rules of schemas.
-pub fn rules(alloc: Global, schema: &[u8]) -> Result<(), Refusal>
+pub fn rules(alloc: Global, schema: &[u8]) -> Result<(), NoAnswer>
     ensures ok { OnOk result (About schema.now (Alone IsValid [])) }
     ensures err { IfErr result (λ e. IsRefused schema.now (wherever IsInvalid) Never e) }
 {
     let (root, definitions) = container_from(alloc, schema)?;
-    match rules_of(alloc, root.as_str(), &definitions) {
-        Ok(()) => Ok(()),
-        Err(error) => Err(no(broken(alloc, &error)?, None)),
+    let (is_valid, words) = rules_in_words(alloc, root.as_str(), &definitions)?;
+    if is_valid {
+        return Ok(());
     }
+    Err(no(text_of(alloc, &words)?, None))
 }
 
-/// Whether the names that the root refers to keep the rules.
-fn rules_of(
-    alloc: Global,
-    root: &str,
-    map: &BTreeMap<String, Definition>,
-) -> Result<(), SchemaContainerValidateError>
-    ensures answer { JudgesRules (definitions_in map.now) root.now result }
-    ensures complete { AcceptsIfValid (definitions_in map.now) root.now result }
+/// Words, and a name behind them, if there is one.
+fn text_of(alloc: Global, words: &Words) -> Result<String, AllocError>
+    ensures { IfOk result (λ text. string_bytes text ≡ in_plain (words_of words.now)) }
 {
-    let mut counts = Expansions::NONE;
-    let mut counted = Counted::new(map, &mut counts);
-    check_rules(alloc, root, &mut counted)
-}
-
-/// The rule that is broken, and the name that breaks it, unless an allocation failed.
-fn broken(alloc: Global, error: &SchemaContainerValidateError) -> Result<String, AllocError>
-    ensures { IfOk result (λ text. TellsBroken error.now (string_bytes text)) }
-{
-    match error.broken_rule() {
-        Some((rule, name)) => format!(in alloc; "invalid {rule} {name}"),
-        None => Err(AllocError),
+    let text = words.text.as_str();
+    match &words.name {
+        Some(name) => format!(in alloc; "{text} {name}"),
+        None => String::from_str(alloc, text),
     }
 }
 
 /// No, with a text that names no part.
-pub fn no(text: String, offset: Option<usize>) -> Refusal
+pub fn no(text: String, offset: Option<usize>) -> NoAnswer
     ensures { Tells offset (string_bytes text) result }
 {
-    Refusal::No(Said {
+    NoAnswer::No(Said {
         text,
         offset,
         path: None,
@@ -138,43 +121,20 @@ pub fn said_of(alloc: Global, before: &str, fault: &Fault<'_>) -> Result<Said, A
 }
 
 /// The greatest size of the root: no encoding is longer.
-pub fn greatest_size(alloc: Global, schema: &[u8]) -> Result<usize, Refusal>
+pub fn greatest_size(alloc: Global, schema: &[u8]) -> Result<usize, NoAnswer>
     ensures ok { IfOk result (λ n. About schema.now (Alone (λ C root. MaxSize C root n) [])) }
     ensures err { IfErr result (λ e. IsRefused schema.now (wherever HasNoSize) Never e) }
 {
     let (root, definitions) = container_from(alloc, schema)?;
-    match size_of_root(alloc, root.as_str(), &definitions) {
-        Ok(size) => Ok(size),
-        Err(error) => Err(no(no_size(alloc, &error)?, None)),
-    }
-}
-
-fn size_of_root(
-    alloc: Global,
-    root: &str,
-    map: &BTreeMap<String, Definition>,
-) -> Result<usize, SchemaMaxSerializedSizeError>
-    ensures { AnswersSize (definitions_in map.now) root.now result }
-{
-    let mut counts = Expansions::NONE;
-    let mut counted = Counted::new(map, &mut counts);
-    root_size(alloc, root, &mut counted)
-}
-
-/// Why there is no size, unless an allocation failed.
-fn no_size(alloc: Global, error: &SchemaMaxSerializedSizeError) -> Result<String, AllocError>
-    ensures { IfOk result (λ text. TellsNoSize error.now (string_bytes text)) }
-{
-    match error.reason() {
-        Some((word, None)) => String::from_str(alloc, word),
-        Some((word, Some(name))) => format!(in alloc; "{word} {name}"),
-        // The size of a container never has two definitions of one name: only that of a type has.
-        None => Err(AllocError),
+    let (size, words) = size_in_words(alloc, root.as_str(), &definitions)?;
+    match size {
+        Some(size) => Ok(size),
+        None => Err(no(text_of(alloc, &words)?, None)),
     }
 }
 
 /// How the values of each name are written that the root leads to.
-pub fn kinds_of(alloc: Global, schema: &[u8]) -> Result<String, Refusal>
+pub fn kinds_of(alloc: Global, schema: &[u8]) -> Result<String, NoAnswer>
     ensures ok { IfOk result (λ text. About schema.now (TellsKinds (string_bytes text))) }
     ensures err { IfErr result (λ e. IsRefused schema.now (wherever Never) Never e) }
 {
@@ -184,15 +144,15 @@ pub fn kinds_of(alloc: Global, schema: &[u8]) -> Result<String, Refusal>
 }
 
 /// Whether all of the bytes are a value of the root.
-pub fn membership(alloc: Global, schema: &[u8], value: &[u8]) -> Result<(), Refusal>
+pub fn membership(alloc: Global, schema: &[u8], value: &[u8]) -> Result<(), NoAnswer>
     ensures ok { OnOk result (About schema.now (Alone (λ C root. Member C root value.now) [])) }
     ensures err { IfErr result (λ e. IsRefused schema.now (IsNoMember value.now) IsUnclear e) }
 {
     let (root, definitions) = container_from(alloc, schema)?;
     match is_member(alloc, root.as_str(), &definitions, value)? {
         Membership::Member => Ok(()),
-        Membership::NoMember(fault) => Err(Refusal::No(said_of(alloc, "no member: ", &fault)?)),
-        Membership::Ambiguous(name) => Err(Refusal::Undecided(unclear(alloc, name)?)),
+        Membership::NoMember(fault) => Err(NoAnswer::No(said_of(alloc, "no member: ", &fault)?)),
+        Membership::Ambiguous(name) => Err(NoAnswer::Undecided(unclear(alloc, name)?)),
     }
 }
 
@@ -204,9 +164,9 @@ pub fn unclear(alloc: Global, name: &str) -> Result<String, AllocError>
 }
 
 /// The JSON of the value that the bytes are.
-pub fn json_of(alloc: Global, schema: &[u8], value: &[u8], style: Style) -> Result<String, Refusal>
+pub fn json_of(alloc: Global, schema: &[u8], value: &[u8], style: Style) -> Result<String, NoAnswer>
     requires { style.characters ≡ Any }
-    ensures ok { IfOk result (λ text. About schema.now (IsJsonOf style.layout value.now (string_bytes text))) }
+    ensures ok { IfOk result (λ text. About schema.now (IsJsonOf style.layout style.long_numbers value.now (string_bytes text))) }
     ensures err { IfErr result (λ e. IsRefused schema.now (HasNoJson value.now) IsUnclear e) }
 {
     let (root, definitions) = container_from(alloc, schema)?;
@@ -217,7 +177,7 @@ pub fn json_of(alloc: Global, schema: &[u8], value: &[u8], style: Style) -> Resu
 }
 
 /// The bytes of the value that JSON says.
-pub fn value_of(alloc: Global, schema: &[u8], json: &[u8]) -> Result<Vec<u8>, Refusal>
+pub fn value_of(alloc: Global, schema: &[u8], json: &[u8]) -> Result<Vec<u8>, NoAnswer>
     ensures ok { IfOk result (λ bytes. About schema.now (AreBytesOf json.now bytes.items)) }
     ensures err { IfErr result (λ e. IsRefused schema.now (IsNoText json.now) IsUnclear e) }
 {
@@ -232,17 +192,17 @@ pub fn value_of(alloc: Global, schema: &[u8], json: &[u8]) -> Result<Vec<u8>, Re
 }
 
 /// Why there is no JSON, or no value, unless an allocation failed.
-pub fn no_value(alloc: Global, error: &JsonError<'_>) -> Result<Refusal, AllocError>
+pub fn no_value(alloc: Global, error: &JsonError<'_>) -> Result<NoAnswer, AllocError>
     ensures { IfOk result (λ r. TellsNoValue error.now r) }
 {
     match error {
         JsonError::OutOfMemory => Err(AllocError),
-        JsonError::Ambiguous(name) => Ok(Refusal::Undecided(unclear(alloc, name)?)),
-        JsonError::NoMember(fault) => Ok(Refusal::No(said_of(alloc, "", fault)?)),
+        JsonError::Ambiguous(name) => Ok(NoAnswer::Undecided(unclear(alloc, name)?)),
+        JsonError::NoMember(fault) => Ok(NoAnswer::No(said_of(alloc, "", fault)?)),
         JsonError::NotJson(offset) => Ok(no(cut(format!(in alloc; "{error}")?), Some(*offset))),
         JsonError::Refused(path, _) => {
             let text = format!(in alloc; "{error}")?;
-            Ok(Refusal::No(said_of_part(alloc, text, None, 0, path)?))
+            Ok(NoAnswer::No(said_of_part(alloc, text, None, 0, path)?))
         }
         JsonError::NoValue => Ok(no(cut(format!(in alloc; "{error}")?), None)),
     }

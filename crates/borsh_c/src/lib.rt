@@ -19,7 +19,8 @@ mod tests;
 mod types;
 
 ghost use Rattle.std.specs.Prelude.{◌≡◌, ◌≢◌, ◌+◌, ◌≤◌};
-ghost use Rattle.borsh_c.specs.Answers.{AnswersBytes, AnswersJson, AnswersMember, AnswersNames, AnswersSize, AnswersValid, Gives, layout_if};
+ghost use Rattle.borsh_json.specs.Printed.{layout_if, numbers_if};
+ghost use Rattle.borsh_c.specs.Answers.{AnswersBytes, AnswersJson, AnswersMember, AnswersNames, AnswersSize, AnswersValid, Gives};
 ghost use Rattle.borsh_c.specs.Many.{AnswersLines, AnswersRecords};
 ghost use Rattle.borsh_c.specs.Pairs.{AnswersCompared};
 ghost use Rattle.borsh_c.specs.Places.{IsNowhere, offset_of};
@@ -40,6 +41,10 @@ use types::container_of;
 
 /// Whether the container keeps the rules of schemas; after code 1 the text says `invalid`, a rule, and a name that breaks it. Left open:
 /// code 3.
+///
+/// ```c
+/// uint32_t code = borsh_c_valid(schema, schema_length, room, room_length, &needed);
+/// ```
 #[unsafe(no_mangle)]
 pub extern "C" fn borsh_c_valid(
     alloc: Global,
@@ -61,6 +66,10 @@ pub extern "C" fn borsh_c_valid(
 
 /// The greatest size of the container's root in bytes, which is written to `size`: no encoding is longer. After any other
 /// code than [`YES`] `size` is unchanged, and after 1 the text says why there is none. Left open: code 3.
+///
+/// ```c
+/// uint32_t code = borsh_c_size(schema, schema_length, &size, room, room_length, &needed);
+/// ```
 #[unsafe(no_mangle)]
 pub extern "C" fn borsh_c_size(
     alloc: Global,
@@ -85,6 +94,10 @@ pub extern "C" fn borsh_c_size(
 
 /// How the values of each name that the container's root leads to are written as JSON, as `borsh_json::Json::names` says it. Left
 /// open: code 3; as there.
+///
+/// ```c
+/// uint32_t code = borsh_c_names(schema, schema_length, room, room_length, &needed);
+/// ```
 #[unsafe(no_mangle)]
 pub extern "C" fn borsh_c_names(
     alloc: Global,
@@ -106,6 +119,10 @@ pub extern "C" fn borsh_c_names(
 
 /// Whether all of `value` is a value of the container's root; after code 1 the offset in `place` is that of a fault. Left open: code 3;
 /// code 5 for a container that breaks a rule or is ambiguous; the text after 1; the path.
+///
+/// ```c
+/// uint32_t code = borsh_c_member(schema, schema_length, value, value_length, &place, room, room_length, &needed);
+/// ```
 #[unsafe(no_mangle)]
 pub extern "C" fn borsh_c_member(
     alloc: Global,
@@ -133,10 +150,14 @@ pub extern "C" fn borsh_c_member(
 
 /// Gives the JSON of the value that all of `value` is; on one line if `is_compact`, and with numbers of 64 bits as strings if
 /// `has_quoted_numbers`. Determined: after code 0 the JSON says `value`, a member of the root, and no other bytes, and has no white space
-/// but that of one line or of several; after 2 `schema` is no container, and after 0, 1 and 5 it is one; after 5 it breaks a rule or is
-/// ambiguous; an offset after 1 is that of a fault of `value`, which is no member; without one `value` is a member, and there is a reason
-/// why it has no JSON, of those that `borsh_json::to_json` has. Left open: code 3; code 5 for such a container; which reason it is; the
-/// text after 1; the path; `has_quoted_numbers`.
+/// but that of one line or of several, nor with quoted numbers a whole number of more than eleven characters; after 2 `schema` is no
+/// container, and after 0, 1 and 5 it is one; after 5 it breaks a rule or is ambiguous; an offset after 1 is that of a fault of `value`,
+/// which is no member; without one `value` is a member, and there is a reason why it has no JSON, of those that `borsh_json::to_json`
+/// has. Left open: code 3; code 5 for such a container; which reason it is; the text after 1; the path.
+///
+/// ```c
+/// uint32_t code = borsh_c_to_json(schema, schema_length, value, value_length, true, false, &place, room, room_length, &needed);
+/// ```
 #[unsafe(no_mangle)]
 pub extern "C" fn borsh_c_to_json(
     alloc: Global,
@@ -149,7 +170,7 @@ pub extern "C" fn borsh_c_to_json(
     needed: &mut usize,
 ) -> u32
     ensures answer { let offset = offset_of place.new in
-        Gives (AnswersJson schema.now value.now is_compact offset result) room.new needed.new }
+        Gives (AnswersJson schema.now value.now is_compact has_quoted_numbers offset result) room.new needed.new }
     ensures nowhere { result ≢ 1 → IsNowhere place.new }
     ensures within { place.new.path_start + place.new.path_length ≤ needed.new }
     ensures kept { IsKept room.old room.new needed.new }
@@ -167,6 +188,10 @@ pub extern "C" fn borsh_c_to_json(
 /// Gives the bytes of the value that `json` says, which is UTF-8. Determined: after code 0 `json` says the bytes, a member of the root,
 /// and no others, and the keys of its sets and maps ascend where their order is known; the other codes as of [`borsh_c_to_json`], but after 1 `json` isn't UTF-8, or there is a reason of those that
 /// `borsh_json::from_json` has, and an offset only if it isn't JSON. Left open: as there; the offset.
+///
+/// ```c
+/// uint32_t code = borsh_c_from_json(schema, schema_length, json, json_length, &place, room, room_length, &needed);
+/// ```
 #[unsafe(no_mangle)]
 pub extern "C" fn borsh_c_from_json(
     alloc: Global,
@@ -193,7 +218,8 @@ pub extern "C" fn borsh_c_from_json(
 }
 
 fn style(is_compact: bool, has_quoted_numbers: bool) -> Style
-    ensures { (result.layout ≡ layout_if is_compact) × (result.characters ≡ Any) }
+    ensures { (result.layout ≡ layout_if is_compact) × (result.characters ≡ Any)
+        × (result.long_numbers ≡ numbers_if has_quoted_numbers) }
 {
     Style {
         layout: if is_compact {
@@ -216,6 +242,10 @@ fn style(is_compact: bool, has_quoted_numbers: bool) -> Style
 /// value, and the offset is that of the fault; after 1 none are, whatever bytes follow, or without an offset the root has the empty value.
 /// Left open: code 3; code 5, or fewer lengths, for a container that breaks a rule or is ambiguous; whether more bytes help after 6; what is behind the
 /// first `count` lengths; the text after 1 with an offset, and after 6; the path.
+///
+/// ```c
+/// uint32_t code = borsh_c_records(schema, schema_length, bytes, length, lengths, lengths_room, &count, &place, room, room_length, &needed);
+/// ```
 #[unsafe(no_mangle)]
 pub extern "C" fn borsh_c_records(
     alloc: Global,
@@ -254,9 +284,13 @@ pub extern "C" fn borsh_c_records(
 
 /// Gives the JSON of each of the values that lie one after another in `values` and have these lengths, and a line end behind it, up to one
 /// that has none; how many have a line is written to `count`, and is 0 after any other code than [`YES`]. A length that reaches beyond the
-/// bytes is cut. Determined: after code 0 the lines say the first `count` values, each a member of the root, in one line each; there is
-/// one, unless there are no lengths; if there is a value behind them, there is a reason why it has no JSON; after 1 and 5 as of
-/// [`borsh_c_to_json`] for the first. Left open: as there.
+/// bytes is cut. Determined: after code 0 the lines say the first `count` values, each a member of the root, in one line each, with
+/// numbers as [`borsh_c_to_json`] has them; there is one, unless there are no lengths; if there is a value behind them, there is a
+/// reason why it has no JSON; after 1 and 5 as of [`borsh_c_to_json`] for the first. Left open: as there.
+///
+/// ```c
+/// uint32_t code = borsh_c_json_lines(schema, schema_length, values, length, lengths, lengths_count, false, &count, &place, room, room_length, &needed);
+/// ```
 #[unsafe(no_mangle)]
 pub extern "C" fn borsh_c_json_lines(
     alloc: Global,
@@ -270,7 +304,7 @@ pub extern "C" fn borsh_c_json_lines(
     needed: &mut usize,
 ) -> u32
     ensures answer { let offset = offset_of place.new in
-        Gives (AnswersLines schema.now values.now lengths.now count.new offset result)
+        Gives (AnswersLines schema.now values.now lengths.now has_quoted_numbers count.new offset result)
         room.new needed.new }
     ensures none { result ≢ 0 → count.new ≡ 0 }
     ensures nowhere { result ≢ 1 → IsNowhere place.new }
@@ -299,6 +333,10 @@ pub extern "C" fn borsh_c_json_lines(
 /// code 0 the container keeps the rules, and has the definitions of a type of some tree of items, as `borsh_source::compile` says, and no
 /// others. Left open: code 3; how the texts are read, so which tree and type these are, and which texts have none: tested; the text after
 /// 1; the place.
+///
+/// ```c
+/// uint32_t code = borsh_c_compile(text, text_length, type_text, type_text_length, &place, room, room_length, &needed);
+/// ```
 #[unsafe(no_mangle)]
 pub extern "C" fn borsh_c_compile(
     alloc: Global,
@@ -326,6 +364,10 @@ pub extern "C" fn borsh_c_compile(
 /// Whether each value of the old container's root is a value of the new one's, and what changed. Determined: after code 0 each is; after 1
 /// some bytes are a value of the old alone; after 2 the first container that is none, by `old` or `new`. Left open: code 3; code 5 in
 /// place of 0 and 1; the text after 0, 1 and 5: tested.
+///
+/// ```c
+/// uint32_t code = borsh_c_compare(old_schema, old_length, new_schema, new_length, room, room_length, &needed);
+/// ```
 #[unsafe(no_mangle)]
 pub extern "C" fn borsh_c_compare(
     alloc: Global,

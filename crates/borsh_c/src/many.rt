@@ -1,13 +1,13 @@
 // Many values of one schema, which is decoded once.
 ghost use Rattle.borsh_plan.specs.Plan.{definitions_of, map_of, root_of};
 ghost use Rattle.borsh_c.specs.Answers.{About, IsRefused, IsUnclear};
-ghost use Rattle.borsh_c.specs.Many.{AreLines, BeginWith, HaveLines, HasNoLine, IsNoLine, IsNoRecord, IsStop, IsWhole, behind};
+ghost use Rattle.borsh_c.specs.Many.{AreLines, BeginWithLengths, HaveLines, HasNoLine, IsNoLine, IsNoRecord, IsStop, CountsValues, behind};
 ghost use Rattle.borsh_json.specs.declared.output.Characters.TheVariants.{Any};
 ghost use Rattle.borsh_json.specs.declared.output.Layout.TheVariants.{Compact};
 ghost use Rattle.std.specs.Prelude.{◌≡◌, ◌≤◌, IfErr, IfOk, drop, length, take};
 
 use super::answers::{container_from, no, no_value, said_of, unclear};
-use super::refusal::{Refusal, Said};
+use super::refusal::{NoAnswer, Said};
 use borsh_json::{Json, JsonError, Style};
 use borsh_values::{Fault, Front, Plan, front_of};
 use std::alloc::{AllocError, Global};
@@ -69,7 +69,7 @@ fn measure<'a>(
 ) -> Result<Measured<'a>, AllocError>
     ensures room { IfOk result (λ m. m.count ≤ length lengths.new) }
     ensures values { let C = definitions_of plan.now in
-        IfOk result (λ m. BeginWith C (root_of plan.now) (take m.count lengths.new) bytes.now) }
+        IfOk result (λ m. BeginWithLengths C (root_of plan.now) (take m.count lengths.new) bytes.now) }
     ensures stop { let C = definitions_of plan.now in
         let left = λ (m : Measured). behind (take m.count lengths.new) bytes.now in
         IfOk result (λ m. IsStop C (root_of plan.now) (length lengths.new) m.count (left m) m.stop) }
@@ -130,8 +130,8 @@ pub fn whole_values(
     schema: &[u8],
     bytes: &[u8],
     lengths: &mut [usize],
-) -> Result<Whole, Refusal>
-    ensures ok { IfOk result (λ w. IsWhole schema.now bytes.now lengths.new w) }
+) -> Result<Whole, NoAnswer>
+    ensures ok { IfOk result (λ w. CountsValues schema.now bytes.now lengths.new w) }
     ensures err { IfErr result (λ e. IsRefused schema.now (IsNoRecord bytes.now) IsUnclear e) }
 {
     let (root, definitions) = container_from(alloc, schema)?;
@@ -147,8 +147,8 @@ pub fn whole_values(
             let said = said_of(alloc, "", &fault)?;
             Ok(Whole::Short(said))
         }
-        Stop::NoMember(fault) => Err(Refusal::No(said_of(alloc, "", &fault)?)),
-        Stop::Ambiguous(name) => Err(Refusal::Undecided(unclear(alloc, name)?)),
+        Stop::NoMember(fault) => Err(NoAnswer::No(said_of(alloc, "", &fault)?)),
+        Stop::Ambiguous(name) => Err(NoAnswer::Undecided(unclear(alloc, name)?)),
     }
 }
 
@@ -171,7 +171,7 @@ fn write_lines<'a>(
     requires { (style.layout ≡ Compact) × (style.characters ≡ Any) }
     ensures room { IfOk result (λ w. w.count ≤ length lengths.now) }
     ensures lines { let l = json.now.plan.now in
-        IfOk result (λ w. HaveLines (map_of l) (root_of l) (take w.count lengths.now) values.now w.text.items) }
+        IfOk result (λ w. HaveLines style.long_numbers (map_of l) (root_of l) (take w.count lengths.now) values.now w.text.items) }
     ensures stop { let l = json.now.plan.now in
         IfOk result (λ w. IsNoLine (map_of l) (root_of l) lengths.now values.now w.count w.stop) }
 {
@@ -217,9 +217,9 @@ pub fn lines_of(
     values: &[u8],
     lengths: &[usize],
     style: Style,
-) -> Result<Lines, Refusal>
+) -> Result<Lines, NoAnswer>
     requires { (style.layout ≡ Compact) × (style.characters ≡ Any) }
-    ensures ok { let lines = λ (l : Lines). AreLines values.now lengths.now l.count l.text.items in
+    ensures ok { let lines = λ (l : Lines). AreLines style.long_numbers values.now lengths.now l.count l.text.items in
         IfOk result (λ l. About schema.now (lines l)) }
     ensures err { IfErr result (λ e. IsRefused schema.now (HasNoLine values.now lengths.now) IsUnclear e) }
 {

@@ -1,17 +1,22 @@
 // Two containers compared.
 ghost use Rattle.borsh_c.specs.Answers.{IsShort};
-ghost use Rattle.borsh_c.specs.Pairs.{AboutTwo, AreAny, IsLost, IsMalformedAs, IsOneMalformed, IsStillRead, NoText, OfPlans, RefusesTwo};
+ghost use Rattle.borsh_compare.specs.Walks.{IsStillRead};
+ghost use Rattle.borsh_c.specs.Pairs.{AboutTwo, AreAny, IsLost, IsMalformedAs, IsOneMalformed, NoText, OfPlans, RefusesTwo};
 ghost use Rattle.borsh_definitions.specs.Codecs.{root_and_map};
 ghost use Rattle.std.specs.Prelude.{◌≡◌, ⊤, IfErr, IfOk, Some, string_bytes};
 
 use super::answers::{Container, container_from, cut, no};
-use super::refusal::Refusal;
+use super::refusal::NoAnswer;
 use borsh_compare::{Answer, Comparison, compare_plans, comparison_lines};
 use borsh_values::Plan;
 use std::alloc::{AllocError, Global};
 
 /// What the comparison of two containers says, where each value of the old one is one of the new.
-pub fn comparison_of(alloc: Global, old_schema: &[u8], new_schema: &[u8]) -> Result<String, Refusal>
+pub fn comparison_of(
+    alloc: Global,
+    old_schema: &[u8],
+    new_schema: &[u8],
+) -> Result<String, NoAnswer>
     ensures ok { let read = AboutTwo old_schema.now new_schema.now IsStillRead in
         IfOk result (λ text. IsShort (string_bytes text) × read) }
     ensures err { let malformed = IsOneMalformed old_schema.now new_schema.now in
@@ -26,7 +31,7 @@ pub fn comparison_of(alloc: Global, old_schema: &[u8], new_schema: &[u8]) -> Res
 }
 
 /// The same of two plans.
-fn compared_text<'a>(alloc: Global, old: &Plan<'a>, new: &Plan<'a>) -> Result<String, Refusal>
+fn compared_text<'a>(alloc: Global, old: &Plan<'a>, new: &Plan<'a>) -> Result<String, NoAnswer>
     ensures ok { let read = OfPlans IsStillRead old.now new.now in
         IfOk result (λ text. IsShort (string_bytes text) × read) }
     ensures err { let lost = OfPlans IsLost old.now new.now in
@@ -37,23 +42,23 @@ fn compared_text<'a>(alloc: Global, old: &Plan<'a>, new: &Plan<'a>) -> Result<St
     match &compared.answer {
         Answer::Same | Answer::Compatible => Ok(text),
         Answer::Incompatible(_) => Err(no(text, None)),
-        Answer::NotKnown => Err(Refusal::Undecided(text)),
+        Answer::NotKnown => Err(NoAnswer::Undecided(text)),
     }
 }
 
 /// The container whose encoding the bytes are; an error's text begins with the word.
-fn container_named(alloc: Global, word: &str, schema: &[u8]) -> Result<Container, Refusal>
+fn container_named(alloc: Global, word: &str, schema: &[u8]) -> Result<Container, NoAnswer>
     ensures ok { IfOk result (λ c. root_and_map.encoding c ≡ Some schema.now) }
     ensures err { let malformed = IsMalformedAs word.now schema.now in
         IfErr result (λ e. RefusesTwo malformed ⊥ ⊥ e) }
 {
     match container_from(alloc, schema) {
-        Err(Refusal::Malformed(why)) => {
-            Err(Refusal::Malformed(format!(in alloc; "{word}: {why}")?))
+        Err(NoAnswer::Malformed(why)) => {
+            Err(NoAnswer::Malformed(format!(in alloc; "{word}: {why}")?))
         }
         Ok(container) => Ok(container),
         // It has no other refusal.
-        Err(_) => Err(Refusal::OutOfMemory),
+        Err(_) => Err(NoAnswer::OutOfMemory),
     }
 }
 

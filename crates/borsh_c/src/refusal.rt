@@ -3,7 +3,7 @@ ghost use Rattle.std.specs.Prelude.{◌≡◌, ◌≢◌, ◌+◌, ◌≤◌, st
 ghost use Rattle.borsh_c.specs.Answers.{code_of, told_offset, told_text};
 ghost use Rattle.borsh_c.specs.Places.{IsNowhere, offset_of};
 ghost use Rattle.borsh_c.specs.Room.{IsGiven, IsKept};
-ghost use Rattle.borsh_c.specs.declared.refusal.Refusal.TheVariants.{OutOfMemory};
+ghost use Rattle.borsh_c.specs.declared.refusal.NoAnswer.TheVariants.{OutOfMemory};
 
 use super::codes::{MALFORMED, NO, OUT_OF_MEMORY, UNDECIDED};
 use super::place::{NOWHERE, Place, Span, place_in};
@@ -21,7 +21,7 @@ pub struct Said {
 
 /// Why a call has no answer, or the answer is no, with a text that says why.
 #[derive(Debug, Drop)]
-pub enum Refusal {
+pub enum NoAnswer {
     /// The answer is no.
     No(Said),
     /// The bytes aren't the encoding of a container.
@@ -32,11 +32,11 @@ pub enum Refusal {
     Undecided(String),
 }
 
-impl From<AllocError> for Refusal {
+impl From<AllocError> for NoAnswer {
     ghost from_gives = { λ _ r. r ≡ OutOfMemory };
 
-    fn from(_: AllocError) -> Refusal {
-        Refusal::OutOfMemory
+    fn from(_: AllocError) -> NoAnswer {
+        NoAnswer::OutOfMemory
     }
 }
 
@@ -53,7 +53,7 @@ impl Said {
     }
 }
 
-impl Refusal {
+impl NoAnswer {
     /// Gives the text and the place, and returns the code.
     pub fn tell(&self, place: &mut Place, room: &mut [u8], needed: &mut usize) -> u32
         ensures code { result ≡ code_of self.now }
@@ -65,19 +65,19 @@ impl Refusal {
     {
         *place = NOWHERE;
         match self {
-            Refusal::No(said) => {
+            NoAnswer::No(said) => {
                 said.tell(place, room, needed);
                 NO
             }
-            Refusal::Malformed(text) => {
+            NoAnswer::Malformed(text) => {
                 give(text.as_bytes(), room, needed);
                 MALFORMED
             }
-            Refusal::OutOfMemory => {
+            NoAnswer::OutOfMemory => {
                 give(b"out of memory", room, needed);
                 OUT_OF_MEMORY
             }
-            Refusal::Undecided(text) => {
+            NoAnswer::Undecided(text) => {
                 give(text.as_bytes(), room, needed);
                 UNDECIDED
             }

@@ -5,7 +5,7 @@ ghost use Rattle.std.specs.Prelude.{IfErr, IfOk};
 
 use super::answers::{MOST_TEXT, cut};
 use super::place::Span;
-use super::refusal::{Refusal, Said};
+use super::refusal::{NoAnswer, Said};
 use borsh_ser::write_two;
 use borsh_source::{Cause, CompileError, Compiled, Place, Source, compile, nearest_name};
 use borsh_texts::{TextError, parse_items, parse_type};
@@ -21,7 +21,7 @@ struct Input<'a> {
 }
 
 /// The encoding of the container of a type by its text, which may name the items of another.
-pub fn container_of(alloc: Global, text: &[u8], type_text: &[u8]) -> Result<Vec<u8>, Refusal>
+pub fn container_of(alloc: Global, text: &[u8], type_text: &[u8]) -> Result<Vec<u8>, NoAnswer>
     ensures ok { IfOk result (λ bytes. About bytes.items IsOfType × IsShort bytes.items) }
     ensures err { IfErr result TellsNoType }
 {
@@ -41,7 +41,7 @@ pub fn container_of(alloc: Global, text: &[u8], type_text: &[u8]) -> Result<Vec<
     }
 }
 
-fn input_of<'a>(alloc: Global, name: &'static str, text: &'a [u8]) -> Result<Input<'a>, Refusal>
+fn input_of<'a>(alloc: Global, name: &'static str, text: &'a [u8]) -> Result<Input<'a>, NoAnswer>
     ensures { IfErr result TellsNoType }
 {
     match str::from_utf8(text) {
@@ -59,7 +59,7 @@ fn refusal_in<D: Display>(
     name: &str,
     offset: Option<usize>,
     why: &D,
-) -> Result<Refusal, AllocError>
+) -> Result<NoAnswer, AllocError>
     ensures { IfOk result TellsNoType }
 {
     let path = Some(Span {
@@ -67,10 +67,10 @@ fn refusal_in<D: Display>(
         length: name.len(),
     });
     let text = cut(format!(in alloc; "{name}: {why}")?);
-    Ok(Refusal::No(Said { text, offset, path }))
+    Ok(NoAnswer::No(Said { text, offset, path }))
 }
 
-fn no_tree(alloc: Global, input: Input<'_>, error: &TextError<'_>) -> Result<Refusal, AllocError>
+fn no_tree(alloc: Global, input: Input<'_>, error: &TextError<'_>) -> Result<NoAnswer, AllocError>
     ensures { IfOk result TellsNoType }
 {
     let offset = match error {
@@ -87,7 +87,7 @@ fn no_container(
     items: Input<'_>,
     written: Input<'_>,
     error: &CompileError,
-) -> Result<Refusal, AllocError>
+) -> Result<NoAnswer, AllocError>
     ensures { IfOk result TellsNoType }
 {
     let CompileError::Refused { place, cause, name } = error else {
@@ -135,7 +135,7 @@ fn offset_at(text: &str, first_line: u32, place: Place) -> Option<usize> {
     }
 }
 
-fn encoding_of(alloc: Global, compiled: &Compiled) -> Result<Vec<u8>, Refusal>
+fn encoding_of(alloc: Global, compiled: &Compiled) -> Result<Vec<u8>, NoAnswer>
     ensures ok { IfOk result (λ bytes. AreEncodingOf compiled.now bytes.items × IsShort bytes.items) }
     ensures err { IfErr result TellsNoType }
 {
@@ -144,6 +144,6 @@ fn encoding_of(alloc: Global, compiled: &Compiled) -> Result<Vec<u8>, Refusal>
     // What was compiled has an encoding, and fewer bytes.
     match write_two(root, definitions, alloc, &mut bytes) {
         Ok(()) if bytes.len() <= MOST_TEXT => Ok(bytes),
-        _ => Err(Refusal::OutOfMemory),
+        _ => Err(NoAnswer::OutOfMemory),
     }
 }

@@ -7,8 +7,8 @@ use Rattle.std.proofs.lemmas.Grind.{flat_map-append, common_steps}
 use Rattle.std.proofs.lemmas.Bool.{ne_eqb}
 use Rattle.std.proofs.lemmas.List.{take_more, map-append}
 use Rattle.borsh_check_lines.specs.Runs.{spaced}
-use Rattle.borsh_check_lines.specs.OneLine.{IsLine}
-use Rattle.borsh_check_lines.specs.Counts.{add_saturating}
+use Rattle.borsh_io.specs.Lines.{IsLine}
+use Rattle.borsh_walks.specs.Counts.{add_saturating}
 use Rattle.borsh_check_lines.specs.Lines.{with_feeds, onto_first, lines_of, ended_lines, OutputOf, Answered, Continues, Appends, AnswersChunk}
 
 -- a test that a length is 0, which failed

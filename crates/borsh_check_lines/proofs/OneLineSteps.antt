@@ -4,7 +4,8 @@ use Rattle.std.specs.List.{AllByRecursion}
 use Rattle.std.proofs.lemmas.List.Elements.{All-nil, All-push, All-append, All-from_recursion}
 use Rattle.hex.specs.Hex.{encode_with, encode_lower, lower_digits}
 use Rattle.borsh_check_lines.specs.Digits.{digits_of}
-use Rattle.borsh_check_lines.specs.OneLine.{IsLine, IsErrorLine}
+use Rattle.borsh_io.specs.Lines.{IsLine}
+use Rattle.borsh_check_lines.specs.Lines.{IsErrorLine}
 
 pub error_line_none : {out : List ℕ} → out ≡ codes "error " → IsErrorLine out
 error_line_none e = record { text = []; is = e ∙ sym (append-nil (codes "error ")); line = All-nil (λ b. b ≢ 10) }

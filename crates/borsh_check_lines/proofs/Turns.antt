@@ -10,7 +10,7 @@ use Rattle.borsh.specs.Stream.{ReaderState, Consumed, ReadFailedAfterRetries}
 use Rattle.borsh.specs.Sink.{WriterModel, WriterLaws, WroteBytes, WriteFailedAfterRetries, NotWrittenWhole}
 use Rattle.borsh.proofs.ReadLaws.{Takes-none, Takes-trans}
 use Rattle.borsh.proofs.WriteLaws.{Rose-after, Writes-none, Writes-trans, WriteFault-after, Refused-after}
-use Rattle.borsh_check_lines.specs.Counts.{add_saturating}
+use Rattle.borsh_walks.specs.Counts.{add_saturating}
 use Rattle.borsh_check_lines.specs.Lines.{lines_of, OutputOf, Answered, Appends, AnswersChunk}
 use Rattle.borsh_check_lines.specs.Runs.{known_bytes, RunsCounted}
 use Rattle.borsh_check_lines.specs.Runs.WhyStopped.{no_memory, reader_failed, writer_stopped}

@@ -2,7 +2,7 @@
 use Rattle.std.specs.Prelude.{◌≡◌, ℕ, Bool, List, ◌++◌, Some, MatchOption, codes}
 use Rattle.borsh.specs.Codec.{Codec, IsDecodable}
 use Rattle.borsh_check_lines.specs.Digits.{digits_of}
-use Rattle.borsh_check_lines.specs.OneLine.{IsErrorLine}
+use Rattle.borsh_check_lines.specs.Lines.{IsErrorLine}
 use Rattle.borsh_check_lines.specs.Requests.{Asked, asked}
 use Rattle.borsh_check_lines.specs.Requests.Asked.{value, schema, about}
 use Rattle.borsh_check_lines.specs.Schemas.{AnswersSchema}

@@ -1,45 +1,31 @@
 -- What answers a question about a container.
-use Rattle.std.specs.Prelude.{◌≡◌, ℕ, ◌^◌, ◌<◌, ◌≤◌, true, List, [], ◌++◌, Option, Some, None, codes, decimal}
+use Rattle.std.specs.Prelude.{◌≡◌, ℕ, ◌^◌, ◌<◌, Bool, true, List, ◌++◌, Option, Some, codes, decimal}
 use Rattle.std.specs.BTreeMap.{btree_map_len}
 use Rattle.borsh.specs.Codec.{IsDecodable}
-use Rattle.borsh_walks.specs.Container.{Shape, Rule, Breaks, IsValid, Reached, SizeReaches, IsRecursive, MaxSize, PartialSize}
-use Rattle.borsh_walks.specs.Errors.{rule_name}
+use Rattle.borsh_walks.specs.Answers.{IsSaid, SaysRules, SaysSize, spoken}
+use Rattle.borsh_walks.specs.Container.{Shape, IsValid, MaxSize}
+use Rattle.borsh_walks.specs.Counts.{SizeWork}
 use Rattle.borsh_walks.specs.declared.counted.Expansions.{Expansions}
-use Rattle.borsh_walks.specs.RulesState.{RulesWork}
+use Rattle.borsh_walks.specs.RulesState.{JudgedCounts, RulesWork}
 use Rattle.borsh_walks.specs.SizeAnswer.{VisitsNeeded}
 use Rattle.borsh_schema.specs.declared.container.BorshSchemaContainer.{BorshSchemaContainer}
 use Rattle.borsh_schema.specs.Codecs.{container}
 use Rattle.borsh_schema.specs.Containers.{language_of, map_of, root_of}
-use Rattle.borsh_schema.specs.Questions.{JudgedCounts, SizedCounts, SizeWork}
+use Rattle.borsh_schema.specs.Questions.{SizedCounts}
 use Rattle.borsh_check_lines.specs.declared.requests.Inquiry.{Inquiry}
 use Rattle.borsh_check_lines.specs.declared.requests.Inquiry.TheVariants.{Check, Size, Counts}
 use Rattle.borsh_check_lines.specs.Digits.{digits_of}
-use Rattle.borsh_check_lines.specs.OneLine.{IsErrorLine}
+use Rattle.borsh_check_lines.specs.Lines.{IsErrorLine}
 
--- ---- `check`
+-- ---- `check` and `size`
 
--- that a name breaks a rule
-abbrev pub broken_text : List ℕ → List ℕ → List ℕ
-broken_text rule name = codes "invalid " ++ (rule ++ (codes " " ++ digits_of name))
-
--- each reached name keeps its rules, or one breaks the rule that is named
-pub data IsRulesText (C : List ℕ → Option Shape) (root out : List ℕ) : Type 0 where
-  valid : IsValid C root → out ≡ codes "valid" → IsRulesText C root out
-  invalid : (x : List ℕ) (r : Rule) → Reached C root x → Breaks C r x → out ≡ broken_text (rule_name r) x → IsRulesText C root out
-
--- ---- `size`
-
--- a word, and a name, if there is one
-abbrev pub reason_text : List ℕ × Option (List ℕ) → List ℕ
-reason_text (word, None) = word
-reason_text (word, Some name) = word ++ (codes " " ++ digits_of name)
+-- `valid`, or a reached name breaks the rule that is named
+abbrev pub IsRulesText : (List ℕ → Option Shape) → List ℕ → List ℕ → Type 0
+IsRulesText C root out = (is_valid : Bool) × IsSaid (spoken digits_of) (SaysRules C root is_valid) out
 
 -- the size, or why there is none
-pub data IsSizeText (C : List ℕ → Option Shape) (root out : List ℕ) : Type 0 where
-  sized : (n : ℕ) → MaxSize C root n → n < 2 ^ 64 → out ≡ decimal n → IsSizeText C root out
-  overflows : (k : ℕ) → PartialSize C [] root k → 2 ^ 64 ≤ k → out ≡ codes "overflow" → IsSizeText C root out
-  recurs : IsRecursive C root → out ≡ codes "recursive" → IsSizeText C root out
-  misses : (x : List ℕ) → SizeReaches C root x → C x ≡ None → out ≡ reason_text (codes "missing", Some x) → IsSizeText C root out
+abbrev pub IsSizeText : (List ℕ → Option Shape) → List ℕ → List ℕ → Type 0
+IsSizeText C root out = (size : Option ℕ) × IsSaid (spoken digits_of) (SaysSize C root size) out
 
 -- ---- `counts`
 

@@ -1,11 +1,9 @@
-pub mod OneLine
 pub mod Words
 pub mod Digits
 pub mod Requests
 pub mod Meanings
 pub mod Schemas
 pub mod Containers
-pub mod ErrorTexts
 pub mod Answers
 pub mod Counts
 pub mod Lines

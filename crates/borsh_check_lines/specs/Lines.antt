@@ -1,8 +1,14 @@
 -- The lines of a list of bytes, and the output that answers them.
-use Rattle.std.specs.Prelude.{◌≡◌, ℕ, ◌==◌, cond, List, [], ◌∷◌, ◌++◌, length, Result, OnOk}
+use Rattle.std.specs.Prelude.{◌≡◌, ℕ, ◌==◌, cond, codes, List, [], ◌∷◌, ◌++◌, length, Result, OnOk}
 use Rattle.std.specs.List.{All, AllZip, flat_map}
-use Rattle.borsh_check_lines.specs.OneLine.{IsLine}
-use Rattle.borsh_check_lines.specs.Counts.{add_saturating}
+use Rattle.borsh_io.specs.Lines.{IsLine}
+use Rattle.borsh_walks.specs.Counts.{add_saturating}
+
+-- one line that has an error's text
+pub record IsErrorLine (out : List ℕ) : Type 0 where
+  pub text : List ℕ
+  pub is : out ≡ codes "error " ++ text
+  pub line : IsLine text
 
 -- each of these with a line feed behind it
 abbrev pub with_feeds : List (List ℕ) → List ℕ

@@ -1,5 +1,5 @@
 -- The meanings of types that words name.
-use Rattle.std.specs.Prelude.{◌≡◌, ℕ, ℤ, ⊤, Vec, Box, nat_eq, false}
+use Rattle.std.specs.Prelude.{◌≡◌, ℕ, ℤ, ⊤, Box, nat_eq, false}
 use Rattle.std.specs.Global.{Global}
 use Rattle.core.specs.declared.num.nonzero.NonZeroI16.{NonZeroI16}
 use Rattle.core.specs.declared.iter.ranges.Range.{Range}
@@ -28,6 +28,7 @@ use Rattle.std.specs.Int.NonZero.{non_zero_i16_get}
 use Rattle.std.specs.Range.{range_inclusive_start, range_inclusive_end, range_inclusive_exhausted}
 use Rattle.std.specs.Rc.{rc_str_bytes}
 use Rattle.borsh.specs.Codec.{Codec}
+use Rattle.borsh_walks.specs.Codecs.{vec_of}
 use Rattle.borsh.specs.Shapes.{contramap, decoded_with, unsigned, signed, unit, pair, allocated, list}
 use Rattle.borsh.specs.Maps.{index_map, index_set, btree_map, btree_set, hash_map, hash_set}
 use Rattle.borsh.specs.Types.Texts.{text}
@@ -71,9 +72,6 @@ abbrev pub shared_text : Codec (RcStr Global)
 shared_text = contramap rc_str_bytes text
 
 -- ---- lists
-
-abbrev pub vec_of : {X : Type 0} → Codec X → Codec (Vec X Global)
-vec_of c = contramap (λ v. v.items) (list c)
 
 abbrev pub deque : {X : Type 0} → Codec X → Codec (VecDeque X Global)
 deque c = contramap (λ v. v.items) (list c)

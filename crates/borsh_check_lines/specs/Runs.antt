@@ -7,7 +7,7 @@ use Rattle.borsh.specs.Sink.{WriterModel, WroteBytes, WriteAllFailure, NotWritte
 use Rattle.borsh_io.specs.declared.error.Error.{Error}
 use Rattle.borsh_io.specs.declared.error.ErrorKind.{ErrorKind}
 use Rattle.borsh_io.specs.declared.error.ErrorKind.TheVariants.{OutOfMemory}
-use Rattle.borsh_check_lines.specs.Counts.{add_saturating}
+use Rattle.borsh_walks.specs.Counts.{add_saturating}
 use Rattle.borsh_check_lines.specs.Lines.{lines_of, ended_lines, OutputOf}
 
 -- the bytes of a reader that knows them

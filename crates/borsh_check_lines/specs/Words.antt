@@ -14,7 +14,8 @@ use Rattle.borsh_samples.specs.OneOrZero.{one_or_zero}
 use Rattle.borsh_samples.specs.Schemas.{my_enum_definitions}
 use Rattle.borsh_check_lines.specs.declared.words.Word.{Word}
 use Rattle.borsh_check_lines.specs.declared.words.Word.TheVariants as word
-use Rattle.borsh_check_lines.specs.Meanings.{hash_map_u8, hash_set_u8, index_map_u8, index_set_u8, map_by_byte, map_unit, non_zero_i16, ranges, set_u8, stored_in_box, string, shared_text, vec_of, deque, boxed, readme, my_struct}
+use Rattle.borsh_walks.specs.Codecs.{vec_of}
+use Rattle.borsh_check_lines.specs.Meanings.{hash_map_u8, hash_set_u8, index_map_u8, index_set_u8, map_by_byte, map_unit, non_zero_i16, ranges, set_u8, stored_in_box, string, shared_text, deque, boxed, readme, my_struct}
 use Rattle.borsh_check_lines.specs.Schemas as schema
 use Rattle.borsh_check_lines.specs.Schemas.{Schema}
 

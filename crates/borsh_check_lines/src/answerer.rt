@@ -1,7 +1,8 @@
 // Lines are answered and counted. Left open of each call: none.
 ghost use Rattle.std.specs.Prelude.{◌≡◌, OnOk, IfErr};
 ghost use Rattle.borsh_check_lines.specs.Answers.{Answers};
-ghost use Rattle.borsh_check_lines.specs.Counts.{line_count, add_saturating};
+ghost use Rattle.borsh_walks.specs.Counts.{add_saturating};
+ghost use Rattle.borsh_check_lines.specs.Counts.{line_count};
 ghost use Rattle.borsh_check_lines.specs.Lines.{Appends};
 
 use super::answers::answer;

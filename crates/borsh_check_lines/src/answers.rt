@@ -2,7 +2,7 @@
 ghost use Rattle.std.specs.Prelude.{◌≡◌, true, codes, IfOk};
 ghost use Rattle.borsh_check_lines.specs.Requests.{asked_by};
 ghost use Rattle.borsh_check_lines.specs.Answers.{Answers, AnswersAsked};
-ghost use Rattle.borsh_check_lines.specs.OneLine.{IsLine};
+ghost use Rattle.borsh_io.specs.Lines.{IsLine};
 
 use super::containers::container_answer;
 use super::lines::line_of;

@@ -1,15 +1,16 @@
 // What is asked of a container that comes as bytes.
-ghost use Rattle.std.specs.Prelude.{◌≡◌, ◌++◌, codes, decimal, true, Some, IfOk, IfErr, OnOk, option_map, string_bytes};
+ghost use Rattle.std.specs.Prelude.{◌≡◌, true, Some, IfOk, IfErr, OnOk};
 ghost use Rattle.std.specs.BTreeMap.{btree_map_len};
 ghost use Rattle.borsh.specs.Errors.{error_kind};
 ghost use Rattle.borsh.specs.Reading.{WhyNotDecoded};
+ghost use Rattle.borsh_io.specs.Lines.{IsLine};
+ghost use Rattle.borsh_walks.specs.Answers.{spoken, words_of};
+ghost use Rattle.borsh_walks.specs.Counts.{SizeWork};
 ghost use Rattle.borsh_walks.specs.RulesState.{RulesWork};
 ghost use Rattle.borsh_schema.specs.Codecs.{container as container_codec};
 ghost use Rattle.borsh_schema.specs.Containers.{language_of, root_of, map_of};
-ghost use Rattle.borsh_schema.specs.Questions.{SizeWork};
-ghost use Rattle.borsh_check_lines.specs.Containers.{AnswersInquiry, CountsIfSized, CountsIfValid, OnlyNeeded, IsRulesText, IsSizeText, IsCountsText, broken_text, reason_text, counts_text};
-ghost use Rattle.borsh_check_lines.specs.OneLine.{IsLine};
-ghost use Rattle.borsh_check_lines.specs.ErrorTexts.{IsBrokenRuleText, IsNoSizeText};
+ghost use Rattle.borsh_check_lines.specs.Containers.{AnswersInquiry, CountsIfSized, CountsIfValid, OnlyNeeded, IsCountsText, counts_text};
+ghost use Rattle.borsh_check_lines.specs.Digits.{digits_of};
 
 use super::lines::{line_of, push_digits};
 use super::requests::Inquiry;
@@ -19,6 +20,7 @@ use borsh::io::Error;
 use borsh::schema::{
     BorshSchemaContainer, Expansions, SchemaContainerValidateError, SchemaMaxSerializedSizeError,
 };
+use borsh_walks::{Words, rules_in_words, size_in_words};
 use std::alloc::{AllocError, Global};
 
 /// The answer to a question about the container whose encoding the bytes are.
@@ -34,9 +36,16 @@ pub(crate) fn container_answer(
         Ok(container) => container,
         Err(e) => return error_answer(alloc, &e),
     };
+    let root = container.declaration().as_str();
     match inquiry {
-        Inquiry::Check => check_answer(alloc, &container),
-        Inquiry::Size => size_answer(alloc, &container),
+        Inquiry::Check => {
+            let (_, words) = rules_in_words(alloc, root, container.as_map())?;
+            words_line(alloc, &words)
+        }
+        Inquiry::Size => {
+            let (_, words) = size_in_words(alloc, root, container.as_map())?;
+            words_line(alloc, &words)
+        }
         Inquiry::Counts => counts_answer(alloc, &container),
     }
 }
@@ -49,86 +58,12 @@ fn container_from(alloc: Global, bytes: &[u8]) -> Result<BorshSchemaContainer, E
     from_slice(alloc, bytes)
 }
 
-// ---- `check`
-
-/// Whether the container keeps the rules.
-fn check_answer(alloc: Global, container: &BorshSchemaContainer) -> Result<Vec<u8>, AllocError>
-    ensures answers { IfOk result
-        (λ out. IsRulesText (language_of container.now) (root_of container.now) out.items) }
-    ensures line { IfOk result (λ out. IsLine out.items) }
+/// Words, and a name as digits behind them, if there is one.
+fn words_line(alloc: Global, words: &Words) -> Result<Vec<u8>, AllocError>
+    ensures { IfOk result (λ out. out.items ≡ spoken digits_of (words_of words.now)) }
 {
-    match container.validate(alloc) {
-        Ok(()) => line_of(alloc, b"valid"),
-        Err(e) => broken_rule(alloc, &e),
-    }
-}
-
-/// The rule that is broken, and the name that breaks it. Running out of memory is no answer, but an error.
-fn broken_rule(alloc: Global, error: &SchemaContainerValidateError) -> Result<Vec<u8>, AllocError>
-    ensures text { IfOk result (λ out. IsBrokenRuleText error.now out.items) }
-    ensures line { IfOk result (λ out. IsLine out.items) }
-{
-    match error.broken_rule() {
-        Some((rule, name)) => broken(alloc, rule, name),
-        None => Err(AllocError),
-    }
-}
-
-/// `invalid`, the rule and the name as digits.
-fn broken(alloc: Global, rule: &str, name: &str) -> Result<Vec<u8>, AllocError>
-    ensures { IfOk result (λ out. out.items ≡ broken_text rule.now name.now) }
-{
-    let mut out = Vec::new(alloc);
-    out.extend_from_slice(b"invalid ")?;
-    out.extend_from_slice(rule.as_bytes())?;
-    out.push(b' ')?;
-    push_digits(alloc, name.as_bytes(), &mut out)?;
-    Ok(out)
-}
-
-// ---- `size`
-
-/// How long the encodings may be that the container describes.
-fn size_answer(alloc: Global, container: &BorshSchemaContainer) -> Result<Vec<u8>, AllocError>
-    ensures answers { IfOk result
-        (λ out. IsSizeText (language_of container.now) (root_of container.now) out.items) }
-    ensures line { IfOk result (λ out. IsLine out.items) }
-{
-    match container.max_serialized_size(alloc) {
-        Ok(size) => number(alloc, size),
-        Err(e) => no_size(alloc, &e),
-    }
-}
-
-/// A number in decimal.
-fn number(alloc: Global, n: usize) -> Result<Vec<u8>, AllocError>
-    ensures is { IfOk result (λ out. out.items ≡ decimal n) }
-    ensures line { IfOk result (λ out. IsLine out.items) }
-{
-    let text = format!(in alloc; "{n}")?;
-    line_of(alloc, text.as_bytes())
-}
-
-/// Why there is no size. Running out of memory is no answer, but an error.
-fn no_size(alloc: Global, error: &SchemaMaxSerializedSizeError) -> Result<Vec<u8>, AllocError>
-    ensures text { IfOk result (λ out. IsNoSizeText error.now out.items) }
-    ensures line { IfOk result (λ out. IsLine out.items) }
-{
-    match error.reason() {
-        Some((word, name)) => reason_line(alloc, word, name),
-        // The size of a container never has two definitions of one name: only that of a type has.
-        None => Err(AllocError),
-    }
-}
-
-/// A word, and a name as digits, if there is one.
-fn reason_line(alloc: Global, word: &str, name: Option<&str>) -> Result<Vec<u8>, AllocError>
-    ensures { IfOk result
-        (λ out. out.items ≡ reason_text (word.now, option_map (λ name. name.now) name.entry)) }
-{
-    let mut out = Vec::new(alloc);
-    out.extend_from_slice(word.as_bytes())?;
-    let Some(name) = name else {
+    let mut out = line_of(alloc, words.text.as_bytes())?;
+    let Some(name) = &words.name else {
         return Ok(out);
     };
     out.push(b' ')?;

@@ -1,7 +1,7 @@
 // The schemas of the types that words name.
 ghost use Rattle.std.specs.Prelude.{◌≡◌, Some, codes, IfOk};
 ghost use Rattle.borsh_check_lines.specs.Digits.{digits_of};
-ghost use Rattle.borsh_check_lines.specs.OneLine.{IsLine};
+ghost use Rattle.borsh_io.specs.Lines.{IsLine};
 ghost use Rattle.borsh_check_lines.specs.Schemas.{AnswersSchema, AnswersSchemaOrClash};
 ghost use Rattle.borsh_check_lines.specs.Words.{meaning};
 

@@ -4,7 +4,8 @@ ghost use Rattle.borsh.specs.Errors.{error_kind};
 ghost use Rattle.borsh.specs.Reading.{WhyNotDecoded};
 ghost use Rattle.borsh_check_lines.specs.Digits.{digits_of};
 ghost use Rattle.borsh_check_lines.specs.Answers.{AnswersValue};
-ghost use Rattle.borsh_check_lines.specs.OneLine.{IsLine, IsErrorLine};
+ghost use Rattle.borsh_io.specs.Lines.{IsLine};
+ghost use Rattle.borsh_check_lines.specs.Lines.{IsErrorLine};
 
 use super::lines::push_digits;
 use super::words::Question;

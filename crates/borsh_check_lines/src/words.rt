@@ -1,6 +1,6 @@
 // The words that name a type.
 ghost use Rattle.std.specs.Prelude.{◌≡◌, map, List, ℕ, Some, None, IfOk};
-ghost use Rattle.borsh_check_lines.specs.OneLine.{IsLine};
+ghost use Rattle.borsh_io.specs.Lines.{IsLine};
 ghost use Rattle.borsh_check_lines.specs.Words.{Meaning, meaning, meaning_of, row, word_named, all_words};
 
 use borsh::schema::{BorshSchema, BorshSchemaContainer};

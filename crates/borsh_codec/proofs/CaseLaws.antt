@@ -1,14 +1,14 @@
 -- The laws of enums.
-use Rattle.std.proofs.Common.{◌≡◌, ℕ, Bool, true, false, not, ◌&&◌, ◌||◌, List, [], ◌∷◌, ◌++◌, length, nat_eq, ◌⊎◌, refl, sym, ◌∙◌, ap, subst, inl, inr, Some, append-nil, true≢false}
+use Rattle.std.proofs.Common.{◌≡◌, ℕ, Bool, true, false, not, ◌&&◌, ◌||◌, List, [], ◌∷◌, length, ◌⊎◌, refl, sym, ◌∙◌, ap, subst, inl, inr, Some, true≢false}
 use Rattle.std.specs.Cmp.{unsigned_Decides}
 use Rattle.borsh_codec.specs.Codec.{Codec, Lawful}
-use Rattle.borsh_codec.specs.Shapes.{contramap}
+use Rattle.borsh_codec.specs.Shapes.{contramap, behind_tag, either}
 use Rattle.borsh_codec.specs.Reading.{any_byte}
 use Rattle.borsh_codec.proofs.Laws.Conditional.{Conditional, from, from_two}
-use Rattle.borsh_codec.proofs.Laws.Exact.{contramap-lawful, by_encoding-lawful, never-lawful}
+use Rattle.borsh_codec.proofs.Laws.Exact.{contramap-lawful, by_encoding-lawful}
 use Rattle.borsh_codec.proofs.Laws.Lists.{and_true}
-use Rattle.borsh_codec.proofs.Laws.Variants.{Avoids, variant-lawful, nothing_avoids}
-use Rattle.borsh_codec.specs.Variants.{case_codec, either, NonEmpty, Tags, tag_of, both, has, apart, distinct}
+use Rattle.borsh_codec.proofs.Laws.Variants.{Avoids, tag_non_empty, tag_avoids, tag-lawful, either-lawful}
+use Rattle.borsh_codec.specs.Variants.{NonEmpty, Tags, tag_of, both, has, apart, distinct}
 
 -- ---- tags that are written
 
@@ -19,64 +19,6 @@ pub any_byte-lawful : Lawful ℕ any_byte
 any_byte-lawful = by_encoding-lawful (λ n. Some (n ∷ [])) 1
     (λ n x p. ap length (sym (some_tail (n ∷ []) x p)))
     (λ n m x p q. (let e : n ∷ [] ≡ m ∷ [] = some_tail (n ∷ []) x p ∙ sym (some_tail (m ∷ []) x q) in cc))
-
--- ---- one codec or another
-
-module _ {A B : Type 0} {a : Codec A} {b : Codec B} (la : Lawful A a) (lb : Lawful B b) (fa : NonEmpty a) (fb : NonEmpty b) (avoid : (t : ℕ) → Avoids t a ⊎ Avoids t b) where
-  mixed : (m : Bool) (x z : List ℕ) (v : A) (w : B) → a.decodes m x v → b.decodes m (x ++ z) w → ⊥
-  mixed m [] z v w p q = fa m v p
-  mixed m (t ∷ x) z v w p q = elim (avoid t) [ inl f ↦ f m x v p | inr g ↦ g m (x ++ z) w q ]
-
-  mixed_back : (m : Bool) (x z : List ℕ) (v : A) (w : B) → b.decodes m x w → a.decodes m (x ++ z) v → ⊥
-  mixed_back m [] z v w p q = fb m w p
-  mixed_back m (t ∷ x) z v w p q = elim (avoid t) [ inl f ↦ f m (x ++ z) v q | inr g ↦ g m x w p ]
-
-  equivalent_encoding : (v w : A ⊎ B) → (either a b).equivalent v w → (either a b).encoding v ≡ (either a b).encoding w
-  equivalent_encoding (inl v) (inl w) s = la.equivalent_encoding v w s
-  equivalent_encoding (inl v) (inr w) s = absurd s
-  equivalent_encoding (inr v) (inl w) s = absurd s
-  equivalent_encoding (inr v) (inr w) s = lb.equivalent_encoding v w s
-
-  prefix_free : (m : Bool) (x z : List ℕ) (v w : A ⊎ B) → (either a b).decodes m x v → (either a b).decodes m (x ++ z) w → z ≡ []
-  prefix_free m x z (inl v) (inl w) p q = la.prefix_free m x z v w p q
-  prefix_free m x z (inl v) (inr w) p q = absurd (mixed m x z v w p q)
-  prefix_free m x z (inr v) (inl w) p q = absurd (mixed_back m x z w v p q)
-  prefix_free m x z (inr v) (inr w) p q = lb.prefix_free m x z v w p q
-
-  non_empty : (m : Bool) (v : A ⊎ B) → (either a b).decodes m [] v → ⊥
-  non_empty m (inl v) p = fa m v p
-  non_empty m (inr v) p = fb m v p
-
-  round_trip : (m : Bool) (v : A ⊎ B) (x : List ℕ) → (either a b).encoding v ≡ Some x → (either a b).decodes m x v
-  round_trip m (inl v) x e = la.round_trip m v x e
-  round_trip m (inr v) x e = lb.round_trip m v x e
-
-  unambiguous : (m : Bool) (x : List ℕ) (v w : A ⊎ B) → (either a b).decodes m x v → (either a b).decodes m x w → (either a b).equivalent v w
-  unambiguous m x (inl v) (inl w) p q = la.unambiguous m x v w p q
-  unambiguous m x (inl v) (inr w) p q = mixed m x [] v w p (subst (λ y. b.decodes m y w) (sym (append-nil x)) q)
-  unambiguous m x (inr v) (inl w) p q = mixed m x [] w v q (subst (λ y. b.decodes m y v) (sym (append-nil x)) p)
-  unambiguous m x (inr v) (inr w) p q = lb.unambiguous m x v w p q
-
-  re_encodable : (m : Bool) (x : List ℕ) (v : A ⊎ B) → (either a b).decodes m x v → (y : List ℕ) × ((either a b).encoding v ≡ Some y)
-  re_encodable m x (inl v) p = la.re_encodable m x v p
-  re_encodable m x (inr v) p = lb.re_encodable m x v p
-
-  canonical : (x : List ℕ) (v : A ⊎ B) → a.is_canonical && b.is_canonical ≡ true → (either a b).decodes true x v → (either a b).encoding v ≡ Some x
-  canonical x (inl v) e p = la.canonical x v (and_true a.is_canonical b.is_canonical e).0 p
-  canonical x (inr v) e p = lb.canonical x v (and_true a.is_canonical b.is_canonical e).1 p
-
-  pub either-lawful : Lawful (A ⊎ B) (either a b)
-  either-lawful = record {
-    equivalent_encoding = equivalent_encoding;
-    prefix_free = prefix_free;
-    empty = λ m x v e p. absurd (true≢false (sym e));
-    non_empty = λ m v e p. non_empty m v p;
-    round_trip = round_trip;
-    unambiguous = unambiguous;
-    re_encodable = re_encodable;
-    canonical = canonical;
-    refused = λ v e. absurd (true≢false (sym e));
-  }
 
 -- ---- tags
 
@@ -121,22 +63,14 @@ pub record Variants {A : Type 0} (tags : Tags) (c : Codec A) : Type 1 where
   pub avoids : (t : ℕ) → has t tags ≡ false → Avoids t c
   pub lawful_if : Conditional (distinct tags ≡ true → Lawful A c)
 
-module _ {A B : Type 0} (view : B → A) (tag : ℕ) (c : Codec A) where
-  pub case_non_empty : NonEmpty (case_codec view tag c)
-  case_non_empty m v p = let e = p.whole in absurd (cc)
-
-  pub case_avoids : (t : ℕ) → nat_eq t tag ≡ false → Avoids t (case_codec view tag c)
-  case_avoids t e m x v p =
-      let same : t ≡ tag = (let w = p.whole in cc) in
-      true≢false (sym ((unsigned_Decides t tag).1 same) ∙ e)
-
-abbrev pub case_variants : {A B : Type 0} (view : B → A) (tag : ℕ) {c : Codec A} → Conditional (Lawful A c) → Variants (tag_of tag) (case_codec view tag c)
+-- a variant: its fields, seen through a view, behind a tag
+abbrev pub case_variants : {A B : Type 0} (view : B → A) (tag : ℕ) {c : Codec A} → Conditional (Lawful A c) → Variants (tag_of tag) (contramap view (behind_tag tag c))
 case_variants view tag {c = c} laws = record {
-  non_empty = case_non_empty view tag c;
+  non_empty = λ m v p. tag_non_empty tag c m (view v) p;
   reads = refl;
   texts = refl;
-  avoids = case_avoids view tag c;
-  lawful_if = from (λ l _. contramap-lawful (λ v. inl (view v)) (variant-lawful tag l never-lawful (nothing_avoids tag) refl)) laws;
+  avoids = λ t e m x v p. tag_avoids tag c t e m x (view v) p;
+  lawful_if = from (λ l _. contramap-lawful view (tag-lawful tag l)) laws;
 }
 
 module _ {A B : Type 0} {s t : Tags} {a : Codec A} {b : Codec B} (l : Variants s a) (r : Variants t b) where

@@ -1,5 +1,5 @@
 -- How many bytes encodings have that stand one behind another.
-use Rattle.std.proofs.Common.{◌≡◌, ℕ, ◌+◌, ◌<◌, List, ◌++◌, length, get_or, take, Option, Some, None, refl, sym, ◌∙◌, ap, subst, arith, length-append}
+use Rattle.std.proofs.Common.{◌≡◌, ℕ, ◌+◌, ◌<◌, List, ◌++◌, length, get_or, take, Option, subst, arith, length-append}
 use Rattle.borsh_codec.specs.Shapes.{append_encodings, concat_encodings}
 use Rattle.borsh_codec.specs.Writing.{IsLength, TellsLength}
 use Rattle.borsh_codec.proofs.Laws.Lists.{joined_is}

@@ -13,7 +13,6 @@ use Rattle.borsh_codec.proofs.Laws.Numbers.{number_fits, number_some, signed_bit
 -- ---- to bytes
 
 little_from : (i k n : ℕ) → little_endian k (n / 256 ^ i) ≡ bytes_low_first i k n
-unfolding little_endian
 little_from i zero n = refl
 little_from zero (suc k) n =
     let e : n / 256 ^ 0 ≡ n = div-one n in
@@ -34,7 +33,6 @@ pub byte_of : (n : ℕ) → n < 256 → unsigned_encoding 1 n ≡ Some (n ∷ []
 byte_of n fits = bytes_of 1 n fits (let e : n % 256 ≡ n = omega arith in cc)
 
 little_split : (a b r q : ℕ) → r < 256 ^ a → little_endian (a + b) (r + 256 ^ a * q) ≡ little_endian a r ++ little_endian b q
-unfolding little_endian
 little_split zero b r q h =
     let k : 0 + b ≡ b = omega arith in
     let e : r + 256 ^ 0 * q ≡ q = omega (arith, h) in
@@ -86,7 +84,6 @@ number_from-worth (b ∷ c ∷ bytes) zero l = absurd (omega arith)
 number_from-worth (b ∷ bytes) (suc k) l = one_more b bytes k ∙ ap (λ z. b + 256 * z) (number_from-worth bytes k (omega arith))
 
 little-number_from : (bytes : List ℕ) → ((i : ℕ) → get_or bytes i 0 < 256) → (number_from bytes < 256 ^ length bytes) × (little_endian (length bytes) (number_from bytes) ≡ bytes)
-unfolding little_endian
 little-number_from [] small = (omega arith, refl)
 little-number_from (b ∷ bytes) small =
     let h = little-number_from bytes (λ i. small (suc i)) in

@@ -9,7 +9,7 @@ use Rattle.borsh_io.specs.Stream.{ReaderState, CountedUp, Consumed, ConsumedSome
 use Rattle.borsh_io.proofs.WriteLaws.{Rose-after}
 use Rattle.borsh_codec.specs.Codec.{Codec, IsDecodable, Lawful}
 use Rattle.borsh_codec.proofs.Laws.Lists.{nil_of_length, nil_parts}
-use Rattle.borsh_codec.specs.Reading.{NoPrefix, ReadFailure, Decoded, NotDecoded, WhyNotDecoded, DecodedAll, IsWhole, NotDecodedAll}
+use Rattle.borsh_codec.specs.Reading.{NoPrefix, ReadFailure, Decoded, NotDecoded, WhyNotDecoded, DecodedAll, IsWholeInput, NotDecodedAll}
 use Rattle.borsh_codec.specs.Reading.ReadFailure.{malformed, no_memory, reader_failed}
 use Rattle.borsh_codec.specs.Reading.WhyNotDecoded.{malformed as not_reading, no_memory as not_memory}
 use Rattle.borsh_codec.proofs.ReadSteps.{told_after}
@@ -57,7 +57,7 @@ denied_more {A = A} {c = c} {s = s} {t = t} {u = u} {v = v} {b = b} l p q one is
   why = inl (q.faults ∙ p.took.takes.faults, none);
 })
   where
-    none : NoPrefix (IsWhole A c s) s.bytes
+    none : NoPrefix (IsWholeInput A c s) s.bytes
     none front rest e w =
         let f : s.bytes ≡ Some front = w.all in
         let o = told_after s.bytes t.bytes front p.took.front f p.took.takes.bytes in

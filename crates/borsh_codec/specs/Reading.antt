@@ -88,7 +88,7 @@ abbrev pub DecodedAll : (A : Type 0) → Codec A → ReaderState → ReaderState
 DecodedAll A c old new v = DecodedWhole A c old new v ⊎ DecodedThenFailed A c old new v
 
 -- the bytes decode to a value, and are all that is to come
-pub record IsWhole (A : Type 0) (c : Codec A) (s : ReaderState) (x : List ℕ) : Type 0 where
+pub record IsWholeInput (A : Type 0) (c : Codec A) (s : ReaderState) (x : List ℕ) : Type 0 where
   pub decodes : IsDecodable c s.strict_order x
   pub all : s.bytes ≡ Some x
 
@@ -99,7 +99,7 @@ pub record DecodedInPart (A : Type 0) (c : Codec A) (old new : ReaderState) (kin
   pub decoded : Decoded A c old mid value
   pub tail : ConsumedSome mid new
   pub invalid : kind ≡ InvalidData
-  pub why : ((new.faults ≡ old.faults) × NoPrefix (IsWhole A c old) old.bytes) ⊎ (CountedUp old.faults new.faults × (new.last_failure ≢ Some UnexpectedEof))
+  pub why : ((new.faults ≡ old.faults) × NoPrefix (IsWholeInput A c old) old.bytes) ⊎ (CountedUp old.faults new.faults × (new.last_failure ≢ Some UnexpectedEof))
 
 -- all of the bytes to come were to be decoded as a value, and were not: none was decoded, or the bytes behind it were not seen to end
 abbrev pub NotDecodedAll : (A : Type 0) → Codec A → ReaderState → ReaderState → ErrorKind → Type 0

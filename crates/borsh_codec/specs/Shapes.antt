@@ -38,8 +38,8 @@ by_encoding f empty = record {
   texts_allocate = false;
 }
 
--- n bytes of a number, the lowest first
-unfoldable pub little_endian : ℕ → ℕ → List ℕ
+-- the n low bytes of a number, the lowest first; past all bytes of the number zeros
+abbrev pub little_endian : ℕ → ℕ → List ℕ
 little_endian zero x = []
 little_endian (suc n) x = (x % 256) ∷ little_endian n (x / 256)
 
@@ -161,31 +161,41 @@ pub record IsTagged (tag : ℕ) (P : List ℕ → Type 0) (x : List ℕ) : Type 
   pub whole : x ≡ tag ∷ part
   pub holds : P part
 
-abbrev pub variant_encoding : {A B : Type 0} → ℕ → Codec A → Codec B → A ⊎ B → Option (List ℕ)
-variant_encoding tag a b (inl v) = tagged tag (a.encoding v)
-variant_encoding tag a b (inr v) = b.encoding v
+-- the tag, one byte, and a value of c; the text of an error names the tag that was found
+abbrev pub behind_tag : {A : Type 0} → ℕ → Codec A → Codec A
+behind_tag tag c = record c {
+  encoding = λ a. tagged tag (c.encoding a);
+  decodes = λ strict x a. IsTagged tag (λ y. c.decodes strict y a) x;
+  is_zero_width = false;
+  refuses = false;
+  texts_allocate = true;
+}
 
-abbrev pub variant_equivalent : {A B : Type 0} → Codec A → Codec B → A ⊎ B → A ⊎ B → Type 0
-variant_equivalent a b (inl v) (inl w) = a.equivalent v w
-variant_equivalent a b (inl v) (inr w) = ⊥
-variant_equivalent a b (inr v) (inl w) = ⊥
-variant_equivalent a b (inr v) (inr w) = b.equivalent v w
+abbrev pub either_encoding : {A B : Type 0} → Codec A → Codec B → A ⊎ B → Option (List ℕ)
+either_encoding a b (inl v) = a.encoding v
+either_encoding a b (inr v) = b.encoding v
 
-abbrev pub variant_decodes : {A B : Type 0} → ℕ → Codec A → Codec B → Bool → List ℕ → A ⊎ B → Type 0
-variant_decodes tag a b strict x (inl v) = IsTagged tag (λ y. a.decodes strict y v) x
-variant_decodes tag a b strict x (inr v) = b.decodes strict x v
+abbrev pub either_equivalent : {A B : Type 0} → Codec A → Codec B → A ⊎ B → A ⊎ B → Type 0
+either_equivalent a b (inl v) (inl w) = a.equivalent v w
+either_equivalent a b (inl v) (inr w) = ⊥
+either_equivalent a b (inr v) (inl w) = ⊥
+either_equivalent a b (inr v) (inr w) = b.equivalent v w
 
-abbrev pub variant_made : {A B : Type 0} → Codec A → Codec B → A ⊎ B → Type 0
-variant_made a b (inl v) = a.made v
-variant_made a b (inr v) = b.made v
+abbrev pub either_decodes : {A B : Type 0} → Codec A → Codec B → Bool → List ℕ → A ⊎ B → Type 0
+either_decodes a b strict x (inl v) = a.decodes strict x v
+either_decodes a b strict x (inr v) = b.decodes strict x v
 
--- the tag, one byte, and a value of a; or a value of b
-abbrev pub variant : {A B : Type 0} → ℕ → Codec A → Codec B → Codec (A ⊎ B)
-variant tag a b = record {
-  encoding = variant_encoding tag a b;
-  equivalent = variant_equivalent a b;
-  decodes = variant_decodes tag a b;
-  made = variant_made a b;
+abbrev pub either_made : {A B : Type 0} → Codec A → Codec B → A ⊎ B → Type 0
+either_made a b (inl v) = a.made v
+either_made a b (inr v) = b.made v
+
+-- a value of a or a value of b, which differ in their tags
+abbrev pub either : {A B : Type 0} → Codec A → Codec B → Codec (A ⊎ B)
+either a b = record {
+  encoding = either_encoding a b;
+  equivalent = either_equivalent a b;
+  decodes = either_decodes a b;
+  made = either_made a b;
   is_zero_width = false;
   is_canonical = a.is_canonical && b.is_canonical;
   decoding_allocates = a.decoding_allocates || b.decoding_allocates;
@@ -193,6 +203,10 @@ variant tag a b = record {
   refuses = false;
   texts_allocate = true;
 }
+
+-- the tag, one byte, and a value of a; or a value of b
+abbrev pub variant : {A B : Type 0} → ℕ → Codec A → Codec B → Codec (A ⊎ B)
+variant tag a b = either (behind_tag tag a) b
 
 -- ---- elements in a row
 

@@ -2,7 +2,7 @@
 use Rattle.std.proofs.Common.{◌≡◌, ℕ, suc, zero, ◌-◌, ◌/◌, ◌%◌, ◌<◌, ◌≤◌, List, [], ◌∷◌, ◌++◌, map, length, replicate, Some, refl, sym, ◌∙◌, ap, subst, arith, append_assoc}
 use Rattle.std.specs.Prelude.{Option, All, ℤ, pos, negsuc, max}
 use Rattle.std.proofs.lemmas.List.Elements.{All-append, All-nil}
-use Rattle.borsh_walks.specs.Container.{Shape, primitive, sequence, product, choice, IsListedVariant, low_bytes, tag, Member, of_primitive, of_sequence, of_parts, of_choice, Members, no_members, more_members}
+use Rattle.borsh_walks.specs.Container.{Shape, primitive, sequence, product, choice, IsListedVariant, little_endian, tag, Member, of_primitive, of_sequence, of_parts, of_choice, Members, no_members, more_members}
 use Rattle.borsh_walks.proofs.Laws.{one_definition}
 
 -- the bytes are, one after another, what P says of the names
@@ -38,9 +38,9 @@ one_small : (b : ℕ) → b < 256 → All (λ b. b < 256) (b ∷ [])
 one_small b h zero d l = h
 one_small b h (suc k) d l = absurd (omega arith)
 
-low_small : (w n : ℕ) → All (λ b. b < 256) (low_bytes w n)
+low_small : (w n : ℕ) → All (λ b. b < 256) (little_endian w n)
 low_small zero n = All-nil (λ b. b < 256)
-low_small (suc w) n = All-append (λ b. b < 256) (n % 256 ∷ []) (low_bytes w (n / 256)) (one_small (n % 256) (omega arith)) (low_small w (n / 256))
+low_small (suc w) n = All-append (λ b. b < 256) (n % 256 ∷ []) (little_endian w (n / 256)) (one_small (n % 256) (omega arith)) (low_small w (n / 256))
 
 other_small : (bs : List ℕ) → All (λ b. b < 256) (map (λ b. 255 - b) bs)
 other_small [] = All-nil (λ b. b < 256)
@@ -48,7 +48,7 @@ other_small (b ∷ bs) = All-append (λ b. b < 256) ((255 - b) ∷ []) (map (λ 
 
 pub tag_small : (w : ℕ) (k : ℤ) → All (λ b. b < 256) (tag w k)
 tag_small w (pos n) = low_small w n
-tag_small w (negsuc n) = other_small (low_bytes w n)
+tag_small w (negsuc n) = other_small (little_endian w n)
 
 module _ (C : List ℕ → Option Shape) where
   mutual

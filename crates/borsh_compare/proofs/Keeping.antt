@@ -7,7 +7,7 @@ use Rattle.borsh_plan.proofs.NameLaws.{get_left}
 use Rattle.borsh_plan.specs.declared.plan.Plan.{Plan}
 use Rattle.borsh_plan.specs.declared.named.Named.{Named}
 use Rattle.borsh_plan.specs.Plan.{names_of}
-use Rattle.borsh_compare.specs.Together.{NamesGo, VariantGoes, VariantsGo, ShapesGo, DefinitionsGo, GoesOn, begins, onward, Goes, without_definition, without_members, of_one_size, by_definition, by_parts}
+use Rattle.borsh_compare.specs.Together.{NamesGo, VariantGoes, VariantsGo, ShapesGo, DefinitionsGo, GoUntil, begins, onward, Goes, without_definition, without_members, of_one_size, by_definition, by_parts}
 use Rattle.borsh_compare.specs.Walks.{Keeps, HasPair, IsPaired, PartGoes, GoAt}
 use Rattle.borsh_compare.specs.declared.pairs.Pair.{Pair}
 use Rattle.borsh_compare.proofs.Parts.{same_some}
@@ -42,7 +42,7 @@ module _ {R S : List ℕ → List ℕ → Type 0} (f : (x y : List ℕ) → R x 
     pub definitions_more : {x y : List ℕ} → DefinitionsGo C D R x y → DefinitionsGo C D S x y
     definitions_more g = record { old_shape = g.old_shape; new_shape = g.new_shape; old = g.old; new = g.new; go = shapes_more g.old_shape g.new_shape g.go }
 
-    pub goes_on_more : {xs ys us vs : List (List ℕ)} → GoesOn C D R xs ys us vs → GoesOn C D S xs ys us vs
+    pub goes_on_more : {xs ys us vs : List (List ℕ)} → GoUntil C D R xs ys us vs → GoUntil C D S xs ys us vs
     goes_on_more begins = begins
     goes_on_more (onward n g old new d) = onward n (goes_on_more g) old new (definitions_more d)
 

@@ -6,7 +6,7 @@ use Rattle.std.proofs.lemmas.List.Elements.{All-take, All-drop}
 use Rattle.borsh_walks.specs.Container.{Shape, primitive, sequence, product, choice, IsListedVariant, first_variant, later_variant, tag, Member, of_parts, Members, no_members, more_members}
 use Rattle.borsh_walks.proofs.Laws.{one_definition}
 use Rattle.borsh_values.proofs.MemberLaws.{parted, unwhole}
-use Rattle.borsh_compare.specs.Together.{HasNone, NamesGo, ShapesGo, LeadsTo, stops, passes, opens, DefinitionsGo, GoesOn, begins, onward, GoThrough, Goes, without_definition, without_members, of_one_size, by_definition, by_parts}
+use Rattle.borsh_compare.specs.Together.{HasNone, NamesGo, ShapesGo, PassesTo, stops, passes, opens, DefinitionsGo, GoUntil, begins, onward, GoThrough, Goes, without_definition, without_members, of_one_size, by_definition, by_parts}
 use Rattle.borsh_compare.proofs.Heights.{AllOf, all_none, all_more, all_joined, ValueOf, Within, find_height, within_member, within_parts, member_value, member_small}
 
 -- ---- definitions that go together
@@ -72,7 +72,7 @@ no_bytes (b ∷ bs) e = absurd (omega arith)
 
 module _ (C : List ℕ → Option Shape) where
   -- what a value of such names begins with
-  pub leads_forth : (h : ℕ) {xs ys : List (List ℕ)} {n : ℕ} (bs : List ℕ) → LeadsTo C xs n ys → AllOf (Within C h) xs bs → (us : List ℕ) × (vs : List ℕ) × (length us ≡ n) × AllOf (Within C h) ys vs × (bs ≡ us ++ vs)
+  pub leads_forth : (h : ℕ) {xs ys : List (List ℕ)} {n : ℕ} (bs : List ℕ) → PassesTo C xs n ys → AllOf (Within C h) xs bs → (us : List ℕ) × (vs : List ℕ) × (length us ≡ n) × AllOf (Within C h) ys vs × (bs ≡ us ++ vs)
   leads_forth h bs stops a = ([], bs, refl, a, refl)
   leads_forth h _ (passes {x = x} k free l) (all_more {us = us} {vs = vs} m ms) =
       let t = leads_forth h vs l ms in
@@ -81,7 +81,7 @@ module _ (C : List ℕ → Option Shape) where
   leads_forth h _ (opens {x = x} {ps = ps} e l) (all_more {us = us} {vs = vs} m ms) = leads_forth h (us ++ vs) l (all_joined (within_parts C h x us ps e m) ms)
 
   -- and how one is made
-  pub leads_back : {xs ys : List (List ℕ)} {n : ℕ} (us vs : List ℕ) → LeadsTo C xs n ys → length us ≡ n → All (λ b. b < 256) us → Members C ys vs → Members C xs (us ++ vs)
+  pub leads_back : {xs ys : List (List ℕ)} {n : ℕ} (us vs : List ℕ) → PassesTo C xs n ys → length us ≡ n → All (λ b. b < 256) us → Members C ys vs → Members C xs (us ++ vs)
   leads_back {xs} us vs stops l small m = subst (λ z. Members C xs (z ++ vs)) (sym (no_bytes us l)) m
   leads_back us vs (passes {x = x} {xs = xs} {n = n} k free t) l small m =
       let low : k ≤ length us = omega (arith, l) in
@@ -95,7 +95,7 @@ module _ (C : List ℕ → Option Shape) where
 
 module _ (C D : List ℕ → Option Shape) (R : List ℕ → List ℕ → Type 0) (h : ℕ) (leaf : (x y bs : List ℕ) → DefinitionsGo C D R x y → Within C h x bs → Member D y bs) where
   -- a value of the first names begins with bytes, with which one of the second may begin
-  goes_on : {xs ys xs2 ys2 : List (List ℕ)} (bs : List ℕ) → GoesOn C D R xs ys xs2 ys2 → AllOf (Within C h) xs bs → All (λ b. b < 256) bs → (us : List ℕ) × (vs : List ℕ) × (bs ≡ us ++ vs) × AllOf (Within C h) xs2 vs × ((ws : List ℕ) → Members D ys2 ws → Members D ys (us ++ ws))
+  goes_on : {xs ys xs2 ys2 : List (List ℕ)} (bs : List ℕ) → GoUntil C D R xs ys xs2 ys2 → AllOf (Within C h) xs bs → All (λ b. b < 256) bs → (us : List ℕ) × (vs : List ℕ) × (bs ≡ us ++ vs) × AllOf (Within C h) xs2 vs × ((ws : List ℕ) → Members D ys2 ws → Members D ys (us ++ ws))
   goes_on bs begins a small = ([], bs, refl, a, λ ws m. m)
   goes_on {ys = ys} bs (onward {x = x} {y = y} {xs2 = xs2} {ys2 = ys2} {xs3 = xs3} {ys3 = ys3} n g old new d) a small =
       let t = goes_on bs g a small in

@@ -14,8 +14,8 @@ use Rattle.borsh_plan.specs.Plan.{names_of, root_of, planned}
 use Rattle.borsh_plan.proofs.NameLaws.{get_within}
 use Rattle.borsh_compare.specs.Together.{NamesGo}
 use Rattle.borsh_compare.specs.Walks.{Keeps}
-use Rattle.borsh_compare.specs.Indexed.{AddsOnly, IsIndexed, index_in}
-use Rattle.borsh_compare.specs.Corresponding.{Listing, Lists, VariantCorresponds, ShapesCorrespond, RootsCorrespond, PairIn, Inside, PartIn, DefinitionsIn, CorrespondAt, IsIndexFor, Stays}
+use Rattle.borsh_compare.specs.Indexed.{AddsOnly, HasIndices, index_in}
+use Rattle.borsh_compare.specs.Corresponding.{Listing, Lists, VariantCorresponds, ShapesCorrespond, RootsCorrespond, PairIn, Inside, PartIn, DefinitionsIn, CorrespondAt, IsIndexFor, StaysInside}
 use Rattle.borsh_compare.specs.declared.pairs.Pair.{Pair}
 use Rattle.borsh_plan.specs.Zeros.{IsProduct}
 use Rattle.borsh_compare.proofs.Reading.{is_product_shape}
@@ -95,7 +95,7 @@ module _ (old new : Plan) (S : Listing) where
       subst (λ z. NamesGo (Lists S) (parts_in z) (parts_in (shape_at (names_of new) j))) (sym x) (subst (λ z. NamesGo (Lists S) a.0 (parts_in z)) (sym y) s)
 
 -- a pair that is added for two parts
-pub part_stays : {E : Type 0} (old new : Plan) (i j a b m n : ℕ) (pair : Pair) (before after : List Pair) (r : Result Bool E) → pair.old ≡ m → pair.new ≡ n → m < length (names_of old) → slice_get (parts_in (shape_at (names_of old) i)) a ≡ Some (name_at (names_of old) m) → n < length (names_of new) → slice_get (parts_in (shape_at (names_of new) j)) b ≡ Some (name_at (names_of new) n) → OnOk r (AddsOnly pair before after) → IfOk r (λ c. c ≡ false → 1048576 ≤ length after) → IfOk r (λ c. (S : Listing) → PartIn old new S i j a b → Stays old new S before after c)
+pub part_stays : {E : Type 0} (old new : Plan) (i j a b m n : ℕ) (pair : Pair) (before after : List Pair) (r : Result Bool E) → pair.old ≡ m → pair.new ≡ n → m < length (names_of old) → slice_get (parts_in (shape_at (names_of old) i)) a ≡ Some (name_at (names_of old) m) → n < length (names_of new) → slice_get (parts_in (shape_at (names_of new) j)) b ≡ Some (name_at (names_of new) n) → OnOk r (AddsOnly pair before after) → IfOk r (λ c. c ≡ false → 1048576 ≤ length after) → IfOk r (λ c. (S : Listing) → PartIn old new S i j a b → StaysInside old new S before after c)
 part_stays old new i j a b m n pair before after (Ok c) em en lm om ln on only full = λ S p f.
     let here : PairIn old new S pair.old pair.new = subst (λ z. PairIn old new S z pair.new) (sym em) (subst (λ z. PairIn old new S m z) (sym en) (pair_in old new S i j a b m n p lm om ln on)) in
     (inside_added old new S pair before after only here f, full)
@@ -151,7 +151,7 @@ module _ {A : Type 0} (f : A → List ℕ) where
           let z = h zero (suc t.0) x t.1 refl t.2 t.3 in
           absurd (omega (arith, z))
 
-pub no_more : (old new : Plan) (S : Listing) (pairs : List Pair) (t : BTreeMap (ℕ × ℕ) ℕ) → IsIndexed pairs t → Inside old new S pairs → length pairs ≤ length S
+pub no_more : (old new : Plan) (S : Listing) (pairs : List Pair) (t : BTreeMap (ℕ × ℕ) ℕ) → HasIndices pairs t → Inside old new S pairs → length pairs ≤ length S
 no_more old new S pairs t indexed inside =
     let w = distinct_within (map f pairs) (map g S) (distinct_map f pairs once) among in
     let a = length-map pairs f in
@@ -194,7 +194,7 @@ no_more old new S pairs t indexed inside =
         subst (λ z. IsIn z (map g S)) (sym (a.3 ∙ n)) (among_get (map g S) x.listed.0 (slice_get-map g S x.listed.0 ∙ ap (λ o. option_map g o) x.listed.1))
 
 -- where too many are met, there is no correspondence
-pub none_corresponds : (old new : Plan) (pairs : List Pair) (t : BTreeMap (ℕ × ℕ) ℕ) → IsIndexed pairs t → (r : RootsCorrespond old new) → Inside old new r.pairs pairs → 1048576 ≤ length pairs → ⊥
+pub none_corresponds : (old new : Plan) (pairs : List Pair) (t : BTreeMap (ℕ × ℕ) ℕ) → HasIndices pairs t → (r : RootsCorrespond old new) → Inside old new r.pairs pairs → 1048576 ≤ length pairs → ⊥
 none_corresponds old new pairs t indexed r inside full =
     let a = no_more old new r.pairs pairs t indexed inside in
     let b = r.few in

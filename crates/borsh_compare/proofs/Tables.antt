@@ -6,7 +6,7 @@ use Rattle.std.specs.Cmp.{Equal-is}
 use Rattle.std.specs.Ordering.{nat_cmp}
 use Rattle.std.proofs.lemmas.Map.Lookups.{exact_pairs, exact_unsigned}
 use Rattle.borsh_compare.specs.Walks.{Keeps, HasPair}
-use Rattle.borsh_compare.specs.Indexed.{AddsOnly, IsIndexed, LacksPair, pair_cmp, index_in}
+use Rattle.borsh_compare.specs.Indexed.{AddsOnly, HasIndices, LacksPair, pair_cmp, index_in}
 use Rattle.borsh_compare.specs.declared.pairs.Pair.{Pair}
 use Rattle.borsh_compare.proofs.Keeping.{keeps_more}
 use Rattle.borsh_compare.proofs.Parts.{same_some}
@@ -31,7 +31,7 @@ module _ (a b : List Pair) (p : Pair) (e : b ≡ a ++ p ∷ []) where
   pub only_pushed : AddsOnly p a b
   only_pushed i q h = elim (last_or a p i q (ap (λ l. slice_get l i) (sym e) ∙ h)) [ inl k ↦ inl k | inr k ↦ inr (ap (λ (r : Pair). r.old) (sym k.0), ap (λ (r : Pair). r.new) (sym k.0)) ]
 
-pub indexed_pushed : (a : List Pair) (p : Pair) (t u : BTreeMap (ℕ × ℕ) ℕ) → IsIndexed a t → LacksPair a p.old p.new → Updates pair_cmp t u (p.old, p.new) (Some (length a)) → IsIndexed (a ++ p ∷ []) u
+pub indexed_pushed : (a : List Pair) (p : Pair) (t u : BTreeMap (ℕ × ℕ) ℕ) → HasIndices a t → LacksPair a p.old p.new → Updates pair_cmp t u (p.old, p.new) (Some (length a)) → HasIndices (a ++ p ∷ []) u
 indexed_pushed a p t u f lacks w i q e = elim (last_or a p i q e) [
   | inl h ↦ w.2 (q.old, q.new) (apart h (is_at (pair_cmp (p.old, p.new)) (q.old, q.new)) refl) ∙ f i q h
   | inr h ↦ subst (λ (r : Pair). index_in u r.old r.new ≡ Some i) h.0 (w.1 ∙ ap (λ n. Some n) h.1)
@@ -44,6 +44,6 @@ indexed_pushed a p t u f lacks w i q e = elim (last_or a p i q e) [
         absurd (lacks i q h (ap (λ (z : ℕ × ℕ). z.0) (sym s)) (ap (λ (z : ℕ × ℕ). z.1) (sym s)))
 
 -- also where it isn't pushed
-pub indexed_either : (a c : List Pair) (p : Pair) (u : BTreeMap (ℕ × ℕ) ℕ) (b : Bool) → c ≡ (if b then a ++ p ∷ [] else a) → IsIndexed (a ++ p ∷ []) u → IsIndexed c u
-indexed_either a c p u true e f = subst (λ l. IsIndexed l u) (sym e) f
-indexed_either a c p u false e f = subst (λ l. IsIndexed l u) (sym e) (λ i q h. f i q (keeps_more a p i q h))
+pub indexed_either : (a c : List Pair) (p : Pair) (u : BTreeMap (ℕ × ℕ) ℕ) (b : Bool) → c ≡ (if b then a ++ p ∷ [] else a) → HasIndices (a ++ p ∷ []) u → HasIndices c u
+indexed_either a c p u true e f = subst (λ l. HasIndices l u) (sym e) f
+indexed_either a c p u false e f = subst (λ l. HasIndices l u) (sym e) (λ i q h. f i q (keeps_more a p i q h))

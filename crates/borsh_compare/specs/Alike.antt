@@ -27,8 +27,8 @@ abbrev pub forms_of : Plan → List ℕ → Option Form
 forms_of p = forms_in (map_of p)
 
 -- JSON that says bytes as a value of the first root says them as one of the second
-abbrev pub SaysAll : Plan → Plan → Type 0
-SaysAll old new = (j : Json) (bytes : List ℕ) → HaveBytes (forms_of old) ((root_of old, j) ∷ []) bytes → HaveBytes (forms_of new) ((root_of new, j) ∷ []) bytes
+abbrev pub SaysAlso : Plan → Plan → Type 0
+SaysAlso old new = (j : Json) (bytes : List ℕ) → HaveBytes (forms_of old) ((root_of old, j) ∷ []) bytes → HaveBytes (forms_of new) ((root_of new, j) ∷ []) bytes
 
 -- prefixes of one width, and each length of the first is one of the second
 abbrev pub LieIn : Lengths → Lengths → Type 0
@@ -42,8 +42,8 @@ abbrev pub field_names : List (String Global × String Global) → List (List �
 field_names fs = map {A = String Global × String Global} {B = List ℕ} (λ f. string_bytes f.0) fs
 
 -- the parts of the name at a place are those of these variants
-abbrev pub HasVariants : Plan → ℕ → List (ℤ × String Global × String Global) → Type 0
-HasVariants p i vs = parts_in (shape_at (names_of p) i) ≡ variant_names (unnamed vs)
+abbrev pub HasVariantParts : Plan → ℕ → List (ℤ × String Global × String Global) → Type 0
+HasVariantParts p i vs = parts_in (shape_at (names_of p) i) ≡ variant_names (unnamed vs)
 
 -- R says which names are taken to be written alike
 module _ (R : List ℕ → List ℕ → Type 0) where

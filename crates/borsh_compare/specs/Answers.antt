@@ -5,7 +5,7 @@ use Rattle.borsh_plan.specs.declared.plan.Plan.{Plan}
 use Rattle.borsh_plan.specs.Plan.{definitions_of, root_of}
 use Rattle.borsh_values.specs.Membership.{IsFault}
 use Rattle.borsh_values.specs.declared.faults.Fault.{Fault}
-use Rattle.borsh_compare.specs.Alike.{SaysAll}
+use Rattle.borsh_compare.specs.Alike.{SaysAlso}
 use Rattle.borsh_compare.specs.Corresponding.{RootsCorrespond}
 use Rattle.borsh_compare.specs.Walks.{Includes}
 use Rattle.borsh_compare.specs.declared.compare.Answer.{Answer}
@@ -18,15 +18,15 @@ pub record IsEvidence (old new : Plan) (bytes : List ℕ) (f : Fault) : Type 0 w
   pub fault : IsFault (definitions_of new) (root_of new) bytes f
 
 -- each answer is right
-abbrev pub IsAnswer : Plan → Plan → Answer → Type 0
-IsAnswer old new Same = Includes old new × Includes new old
-IsAnswer old new Compatible = Includes old new
-IsAnswer old new (Incompatible e) = IsEvidence old new e.bytes.items e.fault
-IsAnswer old new NotKnown = RootsCorrespond old new → ⊥
+abbrev pub IsRight : Plan → Plan → Answer → Type 0
+IsRight old new Same = Includes old new × Includes new old
+IsRight old new Compatible = Includes old new
+IsRight old new (Incompatible e) = IsEvidence old new e.bytes.items e.fault
+IsRight old new NotKnown = RootsCorrespond old new → ⊥
 
 -- JSON that says a value by the old schema says it by the new one; where they have the same values, also the other way round
 abbrev pub KeepsJson : Plan → Plan → Answer → Type 0
-KeepsJson old new Same = SaysAll old new × SaysAll new old
-KeepsJson old new Compatible = SaysAll old new
+KeepsJson old new Same = SaysAlso old new × SaysAlso new old
+KeepsJson old new Compatible = SaysAlso old new
 KeepsJson old new (Incompatible e) = ⊥
 KeepsJson old new NotKnown = ⊥

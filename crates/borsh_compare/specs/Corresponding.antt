@@ -61,8 +61,8 @@ module _ (old new : Plan) (S : Listing) where
   Inside pairs = (i : ℕ) (p : Pair) → slice_get pairs i ≡ Some p → PairIn p.old p.new
 
   -- they stay so, and `false` is answered only of too many
-  abbrev pub Stays : List Pair → List Pair → Bool → Type 0
-  Stays before after b = Inside before → Inside after × (b ≡ false → 1048576 ≤ length after)
+  abbrev pub StaysInside : List Pair → List Pair → Bool → Type 0
+  StaysInside before after b = Inside before → Inside after × (b ≡ false → 1048576 ≤ length after)
 
   -- so are the parts at two indexes
   pub record PartIn (i j a b : ℕ) : Type 0 where

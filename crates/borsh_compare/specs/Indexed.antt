@@ -15,12 +15,12 @@ abbrev pub index_in : BTreeMap (ℕ × ℕ) ℕ → ℕ → ℕ → Option ℕ
 index_in t i j = get pair_cmp t (i, j)
 
 -- the table has the index of each pair
-abbrev pub IsIndexed : List Pair → BTreeMap (ℕ × ℕ) ℕ → Type 0
-IsIndexed pairs t = (i : ℕ) (p : Pair) → slice_get pairs i ≡ Some p → index_in t p.old p.new ≡ Some i
+abbrev pub HasIndices : List Pair → BTreeMap (ℕ × ℕ) ℕ → Type 0
+HasIndices pairs t = (i : ℕ) (p : Pair) → slice_get pairs i ≡ Some p → index_in t p.old p.new ≡ Some i
 
 -- that has at most one proof
-pub IsIndexed-prop : (pairs : List Pair) (t : BTreeMap (ℕ × ℕ) ℕ) → IsProp (IsIndexed pairs t)
-IsIndexed-prop pairs t = Π_prop λ i. Π_prop λ p. Π_prop λ _. Coded-set (coded_option coded_ℕ) _ _
+pub HasIndices-prop : (pairs : List Pair) (t : BTreeMap (ℕ × ℕ) ℕ) → IsProp (HasIndices pairs t)
+HasIndices-prop pairs t = Π_prop λ i. Π_prop λ p. Π_prop λ _. Coded-set (coded_option coded_ℕ) _ _
 
 -- no pair is of these places
 abbrev pub LacksPair : List Pair → ℕ → ℕ → Type 0

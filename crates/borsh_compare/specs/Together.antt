@@ -41,10 +41,10 @@ module _ (R : List ℕ → List ℕ → Type 0) where
 -- C gives the old definitions, D the new ones
 module _ (C : List ℕ → Option Shape) where
   -- values of the names xs are any n bytes and then values of the names ys: names of one length are passed, and of structs and tuples the parts are taken
-  pub data LeadsTo : List (List ℕ) → ℕ → List (List ℕ) → Type 0 where
-    stops : {xs : List (List ℕ)} → LeadsTo xs 0 xs
-    passes : {x : List ℕ} {xs ys : List (List ℕ)} {n : ℕ} (k : ℕ) → FreeSize C x k → LeadsTo xs n ys → LeadsTo (x ∷ xs) (k + n) ys
-    opens : {x : List ℕ} {ps xs ys : List (List ℕ)} {n : ℕ} → C x ≡ Some (product ps) → LeadsTo (ps ++ xs) n ys → LeadsTo (x ∷ xs) n ys
+  pub data PassesTo : List (List ℕ) → ℕ → List (List ℕ) → Type 0 where
+    stops : {xs : List (List ℕ)} → PassesTo xs 0 xs
+    passes : {x : List ℕ} {xs ys : List (List ℕ)} {n : ℕ} (k : ℕ) → FreeSize C x k → PassesTo xs n ys → PassesTo (x ∷ xs) (k + n) ys
+    opens : {x : List ℕ} {ps xs ys : List (List ℕ)} {n : ℕ} → C x ≡ Some (product ps) → PassesTo (ps ++ xs) n ys → PassesTo (x ∷ xs) n ys
 
 module _ (C D : List ℕ → Option Shape) (R : List ℕ → List ℕ → Type 0) where
   -- the two have definitions that go together
@@ -56,18 +56,18 @@ module _ (C D : List ℕ → Option Shape) (R : List ℕ → List ℕ → Type 0
     pub go : ShapesGo R old_shape new_shape
 
   -- of the names xs and ys those before xs2 and ys2 go together: as many bytes, and then two that do, and so on
-  pub data GoesOn (xs ys : List (List ℕ)) : List (List ℕ) → List (List ℕ) → Type 0 where
-    begins : GoesOn xs ys xs ys
-    onward : {x y : List ℕ} {xs2 ys2 xs3 ys3 : List (List ℕ)} (n : ℕ) → GoesOn xs ys xs2 ys2 → LeadsTo C xs2 n (x ∷ xs3) → LeadsTo D ys2 n (y ∷ ys3) → DefinitionsGo x y → GoesOn xs ys xs3 ys3
+  pub data GoUntil (xs ys : List (List ℕ)) : List (List ℕ) → List (List ℕ) → Type 0 where
+    begins : GoUntil xs ys xs ys
+    onward : {x y : List ℕ} {xs2 ys2 xs3 ys3 : List (List ℕ)} (n : ℕ) → GoUntil xs ys xs2 ys2 → PassesTo C xs2 n (x ∷ xs3) → PassesTo D ys2 n (y ∷ ys3) → DefinitionsGo x y → GoUntil xs ys xs3 ys3
 
   -- up to their ends
   pub record GoThrough (xs ys : List (List ℕ)) : Type 0 where
     pub bytes : ℕ
     pub old_left : List (List ℕ)
     pub new_left : List (List ℕ)
-    pub before : GoesOn xs ys old_left new_left
-    pub old : LeadsTo C old_left bytes []
-    pub new : LeadsTo D new_left bytes []
+    pub before : GoUntil xs ys old_left new_left
+    pub old : PassesTo C old_left bytes []
+    pub new : PassesTo D new_left bytes []
 
   -- a name of the old definitions goes together with one of the new
   pub data Goes (x y : List ℕ) : Type 0 where

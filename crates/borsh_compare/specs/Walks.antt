@@ -1,12 +1,16 @@
 -- What the walk over pairs of names keeps.
-use Rattle.std.specs.Prelude.{◌≡◌, ℕ, List, [], ◌∷◌, map, reverse, Option, Some, None, slice_get}
+use Rattle.std.specs.Prelude.{◌≡◌, ℕ, List, [], ◌∷◌, map, reverse, Option, Some, None, String, slice_get}
+use Rattle.std.specs.Global.{Global}
+use Rattle.std.specs.BTreeMap.{BTreeMap}
 use Rattle.borsh_walks.specs.Container.{Shape, Member}
+use Rattle.borsh_walks.specs.Definitions.{definitions_in}
+use Rattle.borsh_walks.specs.declared.definition.Definition.{Definition}
 use Rattle.borsh_plan.specs.declared.plan.Plan.{Plan}
 use Rattle.borsh_plan.specs.declared.named.Named.{Named}
 use Rattle.borsh_plan.specs.Names.{name_at, name_of, parts_in, shape_at}
-use Rattle.borsh_plan.specs.Plan.{definitions_of, names_of, root_of}
+use Rattle.borsh_plan.specs.Plan.{definitions_of, map_of, names_of, root_of}
 use Rattle.borsh_values.specs.Free.{FreeSize}
-use Rattle.borsh_compare.specs.Together.{ShapesGo, LeadsTo, Goes}
+use Rattle.borsh_compare.specs.Together.{ShapesGo, PassesTo, Goes}
 use Rattle.borsh_compare.specs.declared.pairs.Pair.{Pair}
 use Rattle.borsh_compare.specs.declared.through.Next.{Next}
 
@@ -59,18 +63,22 @@ abbrev pub GoAt : Plan → Plan → List Pair → ℕ → ℕ → Type 0
 GoAt old new pairs i j = (x y : List ℕ) → name_of (names_of old) i ≡ Some x → name_of (names_of new) j ≡ Some y → Goes (definitions_of old) (definitions_of new) (Paired old new pairs) x y
 
 -- the names that are to be read, that of the last place first
-abbrev pub pending : Plan → List ℕ → List (List ℕ)
-pending p places = map (λ i. name_at (names_of p) i) (reverse places)
+abbrev pub names_from : Plan → List ℕ → List (List ℕ)
+names_from p places = map (λ i. name_at (names_of p) i) (reverse places)
 
 -- the name at a place, and then others; none where there is no place
 abbrev pub from_place : Plan → Option ℕ → List ℕ → List (List ℕ)
 from_place p None places = []
-from_place p (Some i) places = name_at (names_of p) i ∷ pending p places
+from_place p (Some i) places = name_at (names_of p) i ∷ names_from p places
 
 -- the names before lead to what was found
 abbrev pub Finds : Plan → List ℕ → List ℕ → Next → Type 0
-Finds p before after n = LeadsTo (definitions_of p) (pending p before) n.bytes (from_place p n.at after)
+Finds p before after n = PassesTo (definitions_of p) (names_from p before) n.bytes (from_place p n.at after)
+
+-- each member of x by the definitions m is one of y by n
+abbrev pub IsStillRead : BTreeMap (String Global) Definition → List ℕ → BTreeMap (String Global) Definition → List ℕ → Type 0
+IsStillRead m x n y = (bytes : List ℕ) → Member (definitions_in m) x bytes → Member (definitions_in n) y bytes
 
 -- all members of the old root are members of the new one
 abbrev pub Includes : Plan → Plan → Type 0
-Includes old new = (bytes : List ℕ) → Member (definitions_of old) (root_of old) bytes → Member (definitions_of new) (root_of new) bytes
+Includes old new = IsStillRead (map_of old) (root_of old) (map_of new) (root_of new)

@@ -1,5 +1,5 @@
 // Whether JSON that says a value by the old schema says it by the new one.
-ghost use Rattle.borsh_compare.specs.Alike.{AlikeAt, AreKeysAlike, FoundAlike, GoAlikeAt, HasVariants, IsBehind, LieIn, SaysAll, VariantAlike, VariantsAlike, field_names, forms_of, variants_of};
+ghost use Rattle.borsh_compare.specs.Alike.{AlikeAt, AreKeysAlike, FoundAlike, GoAlikeAt, HasVariantParts, IsBehind, LieIn, SaysAlso, VariantAlike, VariantsAlike, field_names, forms_of, variants_of};
 ghost use Rattle.borsh_compare.specs.Together.{NamesGo};
 ghost use Rattle.borsh_compare.specs.Walks.{HasPair, Paired, PartGoes};
 ghost use Rattle.borsh_json.specs.Forms.{form_of};
@@ -176,8 +176,8 @@ fn variant_alike(
     index: usize,
     other: usize,
 ) -> bool
-    ensures { result ≡ true → HasVariants both.entry.old.now at.old variants.now.items
-        → HasVariants both.entry.new.now at.new others.now.items
+    ensures { result ≡ true → HasVariantParts both.entry.old.now at.old variants.now.items
+        → HasVariantParts both.entry.new.now at.new others.now.items
         → VariantAlike both.entry.old.now both.entry.new.now pairs.now.list.items index
         (variants_of variants.now.items) (variants_of others.now.items) }
 {
@@ -200,8 +200,8 @@ fn variants_alike(
     others: &Variants,
 ) -> Result<bool, AllocError>
     ensures { let vs = variants_of variants.now.items in IfOk result (λ b. b ≡ true
-        → HasVariants both.entry.old.now at.old variants.now.items
-        → HasVariants both.entry.new.now at.new others.now.items → VariantsAlike
+        → HasVariantParts both.entry.old.now at.old variants.now.items
+        → HasVariantParts both.entry.new.now at.new others.now.items → VariantsAlike
         (Paired both.entry.old.now both.entry.new.now pairs.now.list.items)
         (length vs) vs (variants_of others.now.items)) }
 {
@@ -388,7 +388,7 @@ pub fn compare_json(
     old: &Json<'_, '_>,
     new: &Json<'_, '_>,
 ) -> Result<Written, AllocError>
-    ensures { IfOk result (λ w. w.is_alike ≡ true → SaysAll old.now.plan.now new.now.plan.now) }
+    ensures { IfOk result (λ w. w.is_alike ≡ true → SaysAlso old.now.plan.now new.now.plan.now) }
 {
     let pairs = all_pairs(alloc, old, new)?;
     let apart = apart(alloc, old, new, &pairs)?;

@@ -1,5 +1,5 @@
 // Two schemas compared.
-ghost use Rattle.borsh_compare.specs.Answers.{IsAnswer, IsEvidence, KeepsJson};
+ghost use Rattle.borsh_compare.specs.Answers.{IsRight, IsEvidence, KeepsJson};
 ghost use Rattle.borsh_compare.specs.Walks.{Includes};
 ghost use Rattle.std.specs.Prelude.{IfOk, IfSome, true, ◌≡◌};
 
@@ -42,7 +42,7 @@ fn included<'a>(
     walked: &Walked,
 ) -> Result<Comparison<'a>, AllocError>
     requires { Includes old.now new.now }
-    ensures answer { IfOk result (λ c. IsAnswer old.now new.now c.answer) }
+    ensures answer { IfOk result (λ c. IsRight old.now new.now c.answer) }
     ensures json { IfOk result (λ c. c.has_same_json ≡ true → KeepsJson old.now new.now c.answer) }
 {
     let old_json = Json::new(alloc, old)?;
@@ -72,7 +72,8 @@ fn included<'a>(
 /// and what values mean, is not compared.
 ///
 /// The definitions may be any. Names that lead back to themselves are no obstacle. The only error is that an allocation failed.
-/// Left open: memory; `NotKnown` where parts don't correspond; the changes: tested.
+/// Left open: memory; `NotKnown` where parts don't correspond; that `has_same_json` isn't false where it could be true; the changes:
+/// tested.
 ///
 /// ```
 /// let old = Plan::new(alloc, "A", &old_definitions)?;
@@ -88,7 +89,7 @@ pub fn compare_plans<'a>(
     old: &Plan<'a>,
     new: &Plan<'a>,
 ) -> Result<Comparison<'a>, AllocError>
-    ensures answer { IfOk result (λ c. IsAnswer old.now new.now c.answer) }
+    ensures answer { IfOk result (λ c. IsRight old.now new.now c.answer) }
     ensures json { IfOk result (λ c. c.has_same_json ≡ true → KeepsJson old.now new.now c.answer) }
 {
     let walked = walk_pairs(alloc, old, new)?;

@@ -1,6 +1,6 @@
 // Whether two definitions go together, if their parts do.
 ghost use Rattle.borsh_compare.specs.Together.{HasNone, NamesGo, VariantsGo, unnamed};
-ghost use Rattle.borsh_compare.specs.Corresponding.{DefinitionsIn, IsIndexFor, Listing, Lists, PartIn, Stays, VariantsCorrespond};
+ghost use Rattle.borsh_compare.specs.Corresponding.{DefinitionsIn, IsIndexFor, Listing, Lists, PartIn, StaysInside, VariantsCorrespond};
 ghost use Rattle.borsh_compare.specs.Walks.{DefinitionsGoAt, Keeps, Paired, PartGoes};
 ghost use Rattle.borsh_plan.specs.Names.{name_at, parts_in, shape_at};
 ghost use Rattle.borsh_plan.specs.Plan.{definitions_of, names_of};
@@ -100,7 +100,7 @@ fn part_goes(
         pairs.new.list.items owners.old owners.new old_index new_index) }
     ensures stays { let old = both.entry.old.now in let new = both.entry.new.now in
         IfOk result (λ b. (S : Listing) → PartIn old new S owners.old owners.new old_index new_index
-        → Stays old new S pairs.old.list.items pairs.new.list.items b) }
+        → StaysInside old new S pairs.old.list.items pairs.new.list.items b) }
 {
     let Some(old) = both.old.part(owners.old, old_index) else {
         return Ok(false);
@@ -122,7 +122,7 @@ fn parts_go(both: Both<'_, '_>, pairs: &mut Pairs, owners: Owners) -> Result<boo
         IfOk result (λ b. (S : Listing) → NamesGo (Lists S)
         (parts_in (shape_at (names_of old) owners.old))
         (parts_in (shape_at (names_of new) owners.new))
-        → Stays old new S pairs.old.list.items pairs.new.list.items b) }
+        → StaysInside old new S pairs.old.list.items pairs.new.list.items b) }
 {
     let count = both.old.parts(owners.old).len();
     if both.new.parts(owners.new).len() != count {
@@ -198,7 +198,7 @@ fn variants_go(
     ensures stays { let old = both.entry.old.now in let new = both.entry.new.now in
         let vs = unnamed variants.now.items in let us = unnamed others.now.items in
         IfOk result (λ b. (S : Listing) → VariantsCorrespond (Lists S) vs us
-        → Stays old new S pairs.old.list.items pairs.new.list.items b) }
+        → StaysInside old new S pairs.old.list.items pairs.new.list.items b) }
 {
     let indexes = indexes_of(alloc, others)?;
     let mut index: usize = 0;
@@ -263,7 +263,7 @@ pub fn definitions_go(
         pairs.new.list.items owners.old owners.new) }
     ensures stays { let old = both.entry.old.now in let new = both.entry.new.now in
         IfOk result (λ b. (S : Listing) → DefinitionsIn old new S owners.old owners.new
-        → Stays old new S pairs.old.list.items pairs.new.list.items b) }
+        → StaysInside old new S pairs.old.list.items pairs.new.list.items b) }
 {
     let Some(old) = both.old.definition(owners.old) else {
         return Ok(false);

@@ -1,5 +1,5 @@
 // Pairs of names, one of the old definitions and one of the new.
-ghost use Rattle.borsh_compare.specs.Indexed.{AddsOnly, IsIndexed, IsIndexed-prop, LacksPair, index_in};
+ghost use Rattle.borsh_compare.specs.Indexed.{AddsOnly, HasIndices, HasIndices-prop, LacksPair, index_in};
 ghost use Rattle.borsh_compare.specs.Walks.{HasPair, Keeps};
 ghost use Rattle.std.specs.Prelude.{IfOk, OnOk, Some, [], false, length, true, ◌≡◌, ◌≤◌, slice_get};
 
@@ -36,7 +36,7 @@ pub struct Pairs {
     pub(crate) list: Vec<Pair>,
     // The index of each.
     pub(crate) table: BTreeMap<(usize, usize), usize>,
-    pub ghost indexed: { IsIndexed list.items table } by { IsIndexed-prop list.items table },
+    pub ghost indexed: { HasIndices list.items table } by { HasIndices-prop list.items table },
 }
 
 impl Pairs {

@@ -1,5 +1,5 @@
 // Structs and tuples seen through: their parts one after another, beside those of another name.
-ghost use Rattle.borsh_compare.specs.Walks.{Finds, GoAt, Keeps, pending};
+ghost use Rattle.borsh_compare.specs.Walks.{Finds, GoAt, Keeps, names_from};
 ghost use Rattle.borsh_plan.specs.Names.{parts_in, shape_at};
 ghost use Rattle.borsh_plan.specs.Plan.{names_of};
 ghost use Rattle.borsh_walks.specs.Container.{product};
@@ -22,8 +22,8 @@ pub struct Next {
 
 // Puts the parts of the name at a place on the stack, the first last.
 fn open(plan: &Plan<'_>, at: usize, names: &mut Vec<usize>) -> Result<(), AllocError>
-    ensures { OnOk result (pending plan.now names.new.items
-        ≡ parts_in (shape_at (names_of plan.now) at) ++ pending plan.now names.old.items) }
+    ensures { OnOk result (names_from plan.now names.new.items
+        ≡ parts_in (shape_at (names_of plan.now) at) ++ names_from plan.now names.old.items) }
 {
     let parts = plan.parts(at);
     let mut left = parts.len();

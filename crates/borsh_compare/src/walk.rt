@@ -1,5 +1,5 @@
 // The walk over pairs of names: whether all members of the old root are members of the new one.
-ghost use Rattle.borsh_compare.specs.Corresponding.{CorrespondAt, DefinitionsIn, Listing, RootsCorrespond, Stays};
+ghost use Rattle.borsh_compare.specs.Corresponding.{CorrespondAt, DefinitionsIn, Listing, RootsCorrespond, StaysInside};
 ghost use Rattle.borsh_compare.specs.Walks.{GoAt, HaveOneSize, Includes, Keeps};
 ghost use Rattle.borsh_plan.specs.Names.{shape_at};
 ghost use Rattle.borsh_plan.specs.Plan.{names_of};
@@ -66,7 +66,7 @@ fn names_go(
         pairs.new.list.items owners.old owners.new) }
     ensures stays { let old = both.entry.old.now in let new = both.entry.new.now in
         IfOk result (λ b. (S : Listing) → CorrespondAt old new S owners.old owners.new
-        → Stays old new S pairs.old.list.items pairs.new.list.items b) }
+        → StaysInside old new S pairs.old.list.items pairs.new.list.items b) }
 {
     let Some(old) = both.old.definition(owners.old) else {
         return Ok(true);

@@ -2,3 +2,5 @@
 pub mod Members
 pub mod Quoted
 pub mod Own
+pub mod Equality
+pub mod Adding

@@ -19,7 +19,7 @@ pub record DescribesAll (A : Type 0) (C : List ℕ → Option Shape) (c : Codec 
   pub members : (a : A) (x : List ℕ) → c.encoding a ≡ Some x → Members C ns x
 
 -- the bytes are the tag of a listed discriminant, and then a member of its variant
-pub record IsVariant (C : List ℕ → Option Shape) (w : ℕ) (vs : List (ℤ × List ℕ)) (x : List ℕ) : Type 0 where
+pub record IsOfVariant (C : List ℕ → Option Shape) (w : ℕ) (vs : List (ℤ × List ℕ)) (x : List ℕ) : Type 0 where
   pub discriminant : ℤ
   pub variant : List ℕ
   pub part : List ℕ
@@ -29,7 +29,7 @@ pub record IsVariant (C : List ℕ → Option Shape) (w : ℕ) (vs : List (ℤ �
 
 -- each encoding is one of a listed variant
 pub record DescribesChoice (A : Type 0) (C : List ℕ → Option Shape) (c : Codec A) (w : ℕ) (vs : List (ℤ × List ℕ)) : Type 0 where
-  pub one : (a : A) (x : List ℕ) → c.encoding a ≡ Some x → IsVariant C w vs x
+  pub one : (a : A) (x : List ℕ) → c.encoding a ≡ Some x → IsOfVariant C w vs x
 
 -- a codec, and that each container with the definitions describes its encodings under the name
 pub record DescribedCodec (A : Type 0) (n : List ℕ) (ps : DefinitionTree) : Type 1 where

@@ -2,6 +2,7 @@
 use Rattle.std.specs.Prelude.{◌≡◌, ℕ, List, [], ◌∷◌, ◌++◌, map, codes, decimal, String, string_bytes}
 use Rattle.std.specs.Global.{Global}
 use Rattle.std.specs.Borrow.{Bor}
+pub use Rattle.borsh_walks.specs.TupleNames.{following, longer_tuple_name, tuple_name}
 
 -- the name of a type with one parameter: its beginning up to `<`, and the parameter's name
 abbrev pub applied : List ℕ → List ℕ → List ℕ
@@ -11,20 +12,13 @@ applied head name = head ++ (name ++ codes ">")
 abbrev pub applied_to_two : List ℕ → List ℕ → List ℕ → List ℕ
 applied_to_two head first second = head ++ (first ++ (codes ", " ++ (second ++ codes ">")))
 
--- the names, each behind a comma
-abbrev pub following : List (List ℕ) → List ℕ
-following [] = []
-following (n ∷ ns) = codes ", " ++ (n ++ following ns)
+-- the name of a type with the names of its parameters
+abbrev pub name_with : List ℕ → List ℕ → List (List ℕ) → List ℕ
+name_with name first others = name ++ (codes "<" ++ (first ++ (following others ++ codes ">")))
 
--- the name of a tuple of two elements or more: the first one's name, and those of the others
-abbrev pub longer_tuple_name : List ℕ → List (List ℕ) → List ℕ
-longer_tuple_name first others = codes "(" ++ (first ++ (following others ++ codes ")"))
-
--- the name of a tuple
-abbrev pub tuple_name : List (List ℕ) → List ℕ
-tuple_name [] = codes "()"
-tuple_name (n ∷ []) = codes "(" ++ (n ++ codes ",)")
-tuple_name (n ∷ m ∷ ns) = longer_tuple_name n (m ∷ ns)
+-- the name of the definition of a variant's fields
+abbrev pub variant_type : List ℕ → List ℕ → List ℕ
+variant_type enum variant = enum ++ (codes "__" ++ variant)
 
 -- the name of an array: its element and how many there are
 abbrev pub array_name : List ℕ → ℕ → List ℕ

@@ -2,8 +2,7 @@
 use Rattle.std.specs.Prelude.{ℕ, ◌⊎◌}
 use mathlib.Core.Logic.{inl, inr}
 use Rattle.borsh_codec.specs.Codec.{Codec}
-use Rattle.borsh_codec.specs.Shapes.{contramap}
-use Rattle.borsh_codec.specs.Variants.{either}
+use Rattle.borsh_codec.specs.Shapes.{contramap, either}
 use Rattle.borsh_enums.specs.declared.cases.Fork.{Fork}
 use Rattle.borsh_enums.specs.declared.cases.TagOf.{TagOf}
 use Rattle.borsh_enums.specs.declared.cases.Fork.TheVariants.{Left, Right}

@@ -2,7 +2,8 @@
 ghost use Rattle.std.specs.Prelude.{◌≡◌, true};
 ghost use Rattle.borsh_codec.specs.Codec.{Codec};
 ghost use Rattle.borsh_codec.proofs.CaseLaws.{Variants, case_variants, contramap_variants, either_variants};
-ghost use Rattle.borsh_codec.specs.Variants.{Tags, both, case_codec, distinct, has, tag_of};
+ghost use Rattle.borsh_codec.specs.Shapes.{behind_tag, contramap};
+ghost use Rattle.borsh_codec.specs.Variants.{Tags, both, distinct, has, tag_of};
 ghost use Rattle.borsh_enums.specs.Cases.{fork, fork_view};
 
 use borsh_types::BorshType;
@@ -34,7 +35,7 @@ pub struct TagOf<const TAG: u8>;
 pub type Case<const TAG: u8, A> = (TagOf<TAG>, A);
 
 impl<const TAG: u8, A: BorshType> Cases for Case<TAG, A> {
-    ghost codec = { case_codec (λ v. v.1) TAG A.codec };
+    ghost codec = { contramap (λ v. v.1) (behind_tag TAG A.codec) };
 
     ghost tags = { tag_of TAG };
 

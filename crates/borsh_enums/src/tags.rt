@@ -6,7 +6,7 @@ ghost use Rattle.borsh_codec.specs.Shapes.{contramap};
 ghost use Rattle.borsh_codec.proofs.CaseLaws.{any_byte-lawful};
 
 use borsh_io::{Result, Write};
-use borsh_ser::{BorshSerialize, write_bytes};
+use borsh_ser::{BorshSerialize, put_bytes, write_bytes};
 use borsh_types::BorshType;
 use std::alloc::Global;
 
@@ -37,5 +37,9 @@ impl BorshType for Tag {
 impl BorshSerialize for Tag {
     fn serialize<W: Write>(&self, _alloc: Global, writer: &mut W) -> Result<()> {
         write_bytes(&[self.0], writer)
+    }
+
+    fn put(&self, room: &mut [u8]) -> Option<usize> {
+        put_bytes(&[self.0], room)
     }
 }

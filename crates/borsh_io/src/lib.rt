@@ -7,6 +7,7 @@
 #![tactic(auto)]
 
 pub mod adapters;
+pub mod buffered;
 pub mod error;
 pub mod read;
 pub mod readers;
@@ -15,6 +16,7 @@ pub mod write;
 pub mod writers;
 
 pub use adapters::{StdReader, StdWriter};
+pub use buffered::Buffered;
 pub use error::{Error, ErrorKind, Result, Text, pass_over};
 pub use read::{Read, read_some};
 pub use unordered::Unordered;

@@ -13,11 +13,11 @@ use Rattle.borsh_plan.specs.declared.named.Named.{Named}
 use Rattle.borsh_values.proofs.WalkedLaws.{read_count}
 use Rattle.borsh_json.specs.declared.error.WriteError.{WriteError}
 use Rattle.borsh_json.specs.declared.error.WriteError.TheVariants.{Refused}
-use Rattle.borsh_json.specs.declared.error.Refusal.TheVariants.{EmptyElements}
+use Rattle.borsh_json.specs.declared.error.Refusal.TheVariants.{EmptyElements, RepeatedName}
 use Rattle.borsh_json.specs.declared.kinds.Elements.{Elements as FoundElements}
 use Rattle.borsh_json.specs.declared.kinds.Entries.{Entries as FoundEntries}
 use Rattle.borsh_json.specs.declared.kinds.Kind.{Kind as Found}
-use Rattle.borsh_json.specs.declared.kinds.Kind.TheVariants.{List as ListKind, Map as MapKind, Row as RowKind, Newtype as NewtypeKind, Object as ObjectKind}
+use Rattle.borsh_json.specs.declared.kinds.Kind.TheVariants.{List as ListKind, Map as MapKind, Row as RowKind, Newtype as NewtypeKind, Object as ObjectKind, Repeated}
 use Rattle.borsh_json.specs.declared.order.Ordered.{Ordered}
 use Rattle.borsh_json.specs.declared.output.Output.{Output}
 use Rattle.borsh_json.specs.declared.position.Parts.{Parts}
@@ -26,11 +26,11 @@ use Rattle.borsh_json.specs.declared.position.Place.{Place}
 use Rattle.borsh_json.specs.declared.sources.EntryKey.{EntryKey}
 use Rattle.borsh_json.specs.Forms.{Form, sequence, shape_of_form, shapes}
 use Rattle.borsh_json.specs.Frames.{Wanted}
-use Rattle.borsh_json.specs.Leaves.{IsOpenedAs}
+use Rattle.borsh_json.specs.Leaves.{IsOpenedAs, RefusesValue}
 use Rattle.borsh_json.specs.NoJson.{IsNoJson}
 use Rattle.borsh_json.specs.Places.{IsAt, IsUnsayable, IsListOf, IsKindOf, lengths_of}
-use Rattle.borsh_json.specs.Table.{Lengths, list, entries, row, inner, fields}
-use Rattle.borsh_json.specs.Writes.{Rest, items_rest, members_rest, value_rest, entries_rest, names_of_rest, IsFront, BeginsAt, begins_of, IsRestOf, IsRest, WritesValue, WritesStruct, ArePartsOf, RefusesValue}
+use Rattle.borsh_json.specs.Table.{Lengths, list, entries, row, inner, fields, RepeatsName}
+use Rattle.borsh_json.specs.Writes.{Rest, items_rest, members_rest, value_rest, entries_rest, names_of_rest, IsFront, BeginsAt, begins_of, IsRestOf, IsRest, WritesValue, WritesStruct, ArePartsOf}
 use Rattle.borsh_json.proofs.FormKinds.{form_known}
 use Rattle.borsh_json.proofs.FrontLaws.{copies, front_written, row_front, newtype_front, object_front, list_front, map_front}
 use Rattle.borsh_json.proofs.OpeningLaws.{second_map, second_copies}
@@ -41,6 +41,10 @@ module _ (F : List ℕ → Option Form) (ns : List Named) (x : List ℕ) (f : Fo
   -- no JSON says a value of a name that none can be said of
   pub none_says : (own : List ℕ) → IsUnsayable F ns x → IsNoJson F x own
   none_says own u j ps bs b = let s = uncons F b in let k = s.4 in u k.0 j s.0 s.1 k.1 k.2
+
+  -- a name comes twice
+  pub name_refused : (name : Bor (List ℕ)) (text : String Global) → IsKindOf F ns x f (Repeated name) → string_bytes text ≡ name.now → RefusesValue F x [] (Refused (RepeatedName text))
+  name_refused name text k e = (subst (λ n. RepeatsName F x n) (sym e) k.1, none_says [] k.0)
 
   new_place : (parts : Parts) (p : Place) (r : Rest) → p.parts ≡ parts → p.begun ≡ 0 → p.last ≡ None → IsRestOf F ns parts 0 None r → IsRest F ns p r
   new_place parts p r a b c i =
@@ -123,7 +127,7 @@ module _ (F : List ℕ → Option Form) (ns : List Named) (x : List ℕ) (f : Fo
         (list_front F x own l e m.0 t.2 m.2 m.3 m.4) m.5 b
 
     pub list_refused : (es : FoundElements) (old new : Output) → IsKindOf F ns x f (ListKind es) → es.is_refused ≡ true → WritesValue F ns (ListKind es) x f own old new (Err (Refused EmptyElements))
-    list_refused es old new k on = none_says own (subst (λ (r : Bool). IsListOf F ns x f es.at r) on k.0)
+    list_refused es old new k on = let r = subst (λ (r : Bool). IsListOf F ns x f es.at r) on k.0 in (r.1, none_says own r.0)
 
     pub map_begun : (es : FoundEntries) (order : Ordered) (count : ℕ) (found : Option ℕ) (old new : Output) (result : Result (Option Place) WriteError) → IsKindOf F ns x f (MapKind es order) → IsCountOf (shape_of_form f) own found → ((k : ℕ) → found ≡ Some k → count ≡ k) → BeginsAt (MapEntries es count) old new result → WritesValue F ns (MapKind es order) x f own old new result
     map_begun es order count found old new result h c same b =

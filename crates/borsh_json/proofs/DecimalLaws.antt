@@ -11,13 +11,13 @@ use Rattle.std.proofs.lemmas.Fmt.{decimal_is_IsNumeral_wide, decimal_digit, deci
 use Rattle.std.proofs.lemmas.Result.{Ok-from_Ok_iff}
 use Rattle.std.proofs.lemmas.Str.{digit_value_digit}
 use Rattle.std.proofs.lemmas.Str.Parse.{digit_from_value, numerals_by_value, tells_digits, parse_signed_minus, parse_signed_digits}
-use Rattle.borsh_json.specs.Ranks.{IsLeading, IsPlain}
+use Rattle.borsh_json.specs.Ranks.{IsLeading, HasNoLeadingZero}
 
 -- ---- how printed numbers begin
 abbrev Plain : List ℕ → Type 0
 Plain s = (s ≡ 48 ∷ []) ⊎ ((c : ℕ) × (cs : List ℕ) × IsLeading c × ((s ≡ c ∷ cs) ⊎ (s ≡ 45 ∷ c ∷ cs)))
 
-plain_is : (s : List ℕ) → IsPlain s → Plain s
+plain_is : (s : List ℕ) → HasNoLeadingZero s → Plain s
 plain_is [] h = absurd (omega (arith, h.0))
 plain_is (c ∷ []) (h, inl p) = inl (ap (λ x. x ∷ []) p.0)
 plain_is (c ∷ d ∷ cs) (h, inl p) = absurd (omega (arith, p.1))
@@ -25,10 +25,10 @@ plain_is (c ∷ cs) (h, inr (inl p)) = inr (c, cs, p, inl refl)
 plain_is (c ∷ []) (h, inr (inr p)) = absurd (omega (arith, p.1))
 plain_is (c ∷ d ∷ cs) (h, inr (inr p)) = inr (d, cs, p.2, inr (ap (λ x. x ∷ d ∷ cs) p.0))
 
-is_plain : (s : List ℕ) → Plain s → IsPlain s
-is_plain s (inl e) = subst IsPlain (sym e) (omega arith, inl (refl, refl))
-is_plain s (inr (c, cs, h, inl e)) = subst IsPlain (sym e) (omega arith, inr (inl h))
-is_plain s (inr (c, cs, h, inr e)) = subst IsPlain (sym e) (omega arith, inr (inr (refl, omega arith, h)))
+is_plain : (s : List ℕ) → Plain s → HasNoLeadingZero s
+is_plain s (inl e) = subst HasNoLeadingZero (sym e) (omega arith, inl (refl, refl))
+is_plain s (inr (c, cs, h, inl e)) = subst HasNoLeadingZero (sym e) (omega arith, inr (inl h))
+is_plain s (inr (c, cs, h, inr e)) = subst HasNoLeadingZero (sym e) (omega arith, inr (inr (refl, omega arith, h)))
 
 -- ---- what digits behind others write
 after_more : (n : ℕ) (cs : List ℕ) → n ≤ digits_value_after 10 n cs
@@ -86,11 +86,11 @@ pub short : (z : ℤ) → FitsSigned w128 z → IsShort z
 short (pos n) f = omega (arith, f.sfits)
 short (negsuc n) f = omega (arith, f.sfits)
 
-pub unsigned_plain : (n : ℕ) (s : List ℕ) → n < 10 ^ 60 → s ≡ decimal n → IsPlain s
+pub unsigned_plain : (n : ℕ) (s : List ℕ) → n < 10 ^ 60 → s ≡ decimal n → HasNoLeadingZero s
 unsigned_plain zero s h e = is_plain s (inl (e ∙ decimal_digit 0 (omega arith)))
 unsigned_plain (suc n) s h e = let r = begins (suc n) (omega arith) (omega arith) in is_plain s (inr (r.0, r.1, r.2, inl (e ∙ r.3)))
 
-pub signed_plain : (z : ℤ) (s : List ℕ) → IsShort z → s ≡ signed_decimal z → IsPlain s
+pub signed_plain : (z : ℤ) (s : List ℕ) → IsShort z → s ≡ signed_decimal z → HasNoLeadingZero s
 signed_plain (pos n) s h e = unsigned_plain n s h e
 signed_plain (negsuc n) s h e = let r = begins (suc n) (omega arith) (omega arith) in is_plain s (inr (r.0, r.1, r.2, inr (e ∙ ap (λ l. 45 ∷ l) r.3)))
 
@@ -176,10 +176,10 @@ parse_signed (negsuc n) s r f is h =
     let read = parse_signed_minus (numerals_by_value _ tells_digits) w128 (45 ∷ decimal (suc n)) r (subst (λ l. ParsesSigned w128 10 l r) is h) refl in
     Ok-from_Ok_iff r _ _ read (k.0.1, k.0.0, omega (arith, k.1, f.sfits)) ∙ ap (λ m. Ok (neg_ℤ (pos m))) k.1
 
-pub unsigned_parsed : {E : Type 0} (s : List ℕ) (r : Result ℕ E) (o : Option ℕ) → IsPlain s → ParsesUnsigned 128 10 s r → o ≡ result_ok r → MatchOption o ((n : ℕ) → n < 2 ^ 128 → s ≡ decimal n → ⊥) (λ n. s ≡ decimal n)
+pub unsigned_parsed : {E : Type 0} (s : List ℕ) (r : Result ℕ E) (o : Option ℕ) → HasNoLeadingZero s → ParsesUnsigned 128 10 s r → o ≡ result_ok r → MatchOption o ((n : ℕ) → n < 2 ^ 128 → s ≡ decimal n → ⊥) (λ n. s ≡ decimal n)
 unsigned_parsed s (Ok n) o h p e = subst (λ o. MatchOption o ((n : ℕ) → n < 2 ^ 128 → s ≡ decimal n → ⊥) (λ n. s ≡ decimal n)) (sym e) (unsigned_cases s n (plain_is s h) p)
 unsigned_parsed s (Err x) o h p e = subst (λ o. MatchOption o ((n : ℕ) → n < 2 ^ 128 → s ≡ decimal n → ⊥) (λ n. s ≡ decimal n)) (sym e) (λ n l d. let g = parse-decimal_wide 128 n s (Err x) l (omega arith) d p in cc)
 
-pub signed_parsed : {E : Type 0} (s : List ℕ) (r : Result ℤ E) (o : Option ℤ) → IsPlain s → ParsesSigned w128 10 s r → o ≡ result_ok r → MatchOption o ((z : ℤ) → FitsSigned w128 z → s ≡ signed_decimal z → ⊥) (λ z. s ≡ signed_decimal z)
+pub signed_parsed : {E : Type 0} (s : List ℕ) (r : Result ℤ E) (o : Option ℤ) → HasNoLeadingZero s → ParsesSigned w128 10 s r → o ≡ result_ok r → MatchOption o ((z : ℤ) → FitsSigned w128 z → s ≡ signed_decimal z → ⊥) (λ z. s ≡ signed_decimal z)
 signed_parsed s (Ok z) o h p e = subst (λ o. MatchOption o ((z : ℤ) → FitsSigned w128 z → s ≡ signed_decimal z → ⊥) (λ z. s ≡ signed_decimal z)) (sym e) (signed_cases s z (plain_is s h) p)
 signed_parsed s (Err x) o h p e = subst (λ o. MatchOption o ((z : ℤ) → FitsSigned w128 z → s ≡ signed_decimal z → ⊥) (λ z. s ≡ signed_decimal z)) (sym e) (λ z f d. let g = parse_signed z s (Err x) f d p in cc)

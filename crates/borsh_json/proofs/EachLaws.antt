@@ -1,6 +1,6 @@
 -- Objects in which no key comes twice.
 use Rattle.std.proofs.Common.{◌≡◌, ◌⊎◌, inl, inr, ℕ, List, [], ◌∷◌, ◌++◌, length, map, Bool, true, false, Option, Some, None, refl, sym, ◌∙◌, ap, subst, arith, length-append}
-use Rattle.std.specs.Prelude.{cond, is_some, ◌||◌, option_map, option_and_then}
+use Rattle.std.specs.Prelude.{IsSome, cond, is_some, ◌||◌, option_map, option_and_then}
 use Rattle.std.specs.Cmp.Lexicographic.{slice_cmp}
 use Rattle.std.specs.List.{AllByRecursion, IsDistinct, list_any}
 use Rattle.std.specs.List.Sorted.{IsPermutation, IsStrictlySortedBy}
@@ -11,7 +11,7 @@ use Rattle.std.specs.declared.cmp.Ordering.TheVariants.{Less, Equal}
 use Rattle.std.proofs.lemmas.Cmp.{nat_list_cmp_total, nat_list_eq_equiv, int_cmp_total, tied_itself}
 use Rattle.std.proofs.lemmas.List.Folds.{list_any-append}
 use Rattle.std.proofs.lemmas.List.Sorted.{IsPermutation-sym}
-use Rattle.std.proofs.lemmas.Map.Keys.{IsDistinct-head, IsDistinct-tail, IsDistinct-IsPermutation}
+use Rattle.std.proofs.lemmas.Map.Keys.{IsDistinct-cons, IsDistinct-head, IsDistinct-tail, IsDistinct-IsPermutation}
 use Rattle.std.proofs.lemmas.Map.Made.{length-le_from_is_member}
 use Rattle.std.proofs.lemmas.Slice.Eq.{bytes_eq-Decides}
 use Rattle.json.specs.Json.{Json, Members, no_members, member}
@@ -109,6 +109,15 @@ without n xs ys m a i =
       ]
     ]
 
+-- a name that no field has
+neither : (a b : Bool) → (a || b) ≡ false → (a ≡ false) × (b ≡ false)
+neither true b e = let z : ⊥ = cc in absurd z
+neither false b e = (refl, e)
+
+none_is : (name : List ℕ) (fs : List (List ℕ × List ℕ)) → list_any (λ (f : List ℕ × List ℕ). bytes_eq name f.0) fs ≡ false → AllByRecursion (λ y. bytes_eq name y ≡ false) (map (λ (f : List ℕ × List ℕ). f.0) fs)
+none_is name [] e = tt
+none_is name (f ∷ fs) e = let n = neither (bytes_eq name f.0) (list_any (λ (f : List ℕ × List ℕ). bytes_eq name f.0) fs) e in (n.0, none_is name fs n.1)
+
 module _ (fs : List (List ℕ × List ℕ)) (ms : Members) (ps : List Part) (d : IsDistinct bytes_eq (map (λ (f : List ℕ × List ℕ). f.0) fs)) (l : length (entries_of ms) ≡ length fs) (e : field_parts fs ms ≡ Some ps) where
   field_case : (xs ys : List Entry) (m : Entry) → entries_of ms ≡ xs ++ m ∷ ys → (b : Bool) → list_any (λ (x : Entry). bytes_eq m.0 x.0) xs ≡ b → b ≡ false
   field_case xs ys m q false t = refl
@@ -117,6 +126,18 @@ module _ (fs : List (List ℕ × List ℕ)) (ms : Members) (ps : List Part) (d :
       let key : Entry → List ℕ = λ e. e.0 in
       let k = length-le_from_is_member nat_list_eq_equiv names (map key (xs ++ ys)) d (λ n i. any_map (bytes_eq n) (xs ++ ys) ∙ without n xs ys m t (subst (λ (l : List Entry). list_any (λ (e : Entry). bytes_eq n e.0) l ≡ true) q (member_any n ms (field_found n fs ms ps e i)))) in
       absurd (omega (arith, k, l, length_map (λ (f : List ℕ × List ℕ). f.0) fs, length_map key (xs ++ ys), length-append xs ys, length-append xs (m ∷ ys), ap (λ (l : List Entry). length l) q))
+
+  -- each key is the name of a field
+  pub fields_only : (name : List ℕ) → IsSome (get_member name ms) → list_any (λ (f : List ℕ × List ℕ). bytes_eq name f.0) fs ≡ false → ⊥
+  fields_only name s a =
+      let names = map (λ (f : List ℕ × List ℕ). f.0) fs in
+      let key : Entry → List ℕ = λ e. e.0 in
+      let k = length-le_from_is_member nat_list_eq_equiv (name ∷ names) (map key (entries_of ms)) (IsDistinct-cons bytes_eq name names (none_is name fs a) d) (λ n i. any_map (bytes_eq n) (entries_of ms) ∙ member_any n ms (there n (any_cases (bytes_eq n name) (list_any (bytes_eq n) names) i))) in
+      omega (arith, k, l, length_map (λ (f : List ℕ × List ℕ). f.0) fs, length_map key (entries_of ms))
+    where
+      there : (n : List ℕ) → (bytes_eq n name ≡ true) ⊎ (list_any (bytes_eq n) (map (λ f. f.0) fs) ≡ true) → is_some (get_member n ms) ≡ true
+      there n (inl q) = ap (λ s. is_some (get_member s ms)) ((bytes_eq-Decides n name).0 q) ∙ s
+      there n (inr q) = field_found n fs ms ps e q
 
   pub fields_each : HaveOneEach (entries_of ms)
   fields_each = λ xs ys m q. field_case xs ys m q (list_any (λ (x : Entry). bytes_eq m.0 x.0) xs) refl

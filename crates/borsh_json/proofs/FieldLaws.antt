@@ -69,15 +69,15 @@ next_all (f ∷ fs) (member k j ms) d e =
 abbrev pub wanted : String Global × String Global → Wanted
 wanted f = (string_bytes f.0, string_bytes f.1)
 
-pub in_place : (fs : List (String Global × String Global)) (ms : Members) (ts : List Token) → IsDistinct bytes_eq (map (λ f. string_bytes f.0) fs) → InMembers ts ms → keys_of ms ≡ map (λ f. string_bytes f.0) fs → (n : ℕ) × (n ≡ length (entries_of ms)) × HasFields (InPlace ts) (map wanted fs) ms n
+pub in_place : (fs : List (String Global × String Global)) (ms : Members) (ts : List Token) → IsDistinct bytes_eq (map (λ f. string_bytes f.0) fs) → InMembers ts ms → keys_of ms ≡ map (λ f. string_bytes f.0) fs → (n : ℕ) × (n ≡ length (entries_of ms)) × HasFields (InPlace ts) [] (map wanted fs) ms n
 in_place fs ms ts d h e =
     let names = names_of (λ (f : String Global × String Global). string_bytes f.0) (λ f. string_bytes f.1) fs in
     let count : length (map wanted fs) ≡ length (entries_of ms) = (let a = length_map wanted fs in let b = length_map (λ (f : String Global × String Global). string_bytes f.0) fs in let c = length_map (λ (e : Entry). e.0) (entries_of ms) in let l = ap (λ xs. length xs) e in omega (arith, a, b, c, l)) in
     (length (map wanted fs), count, (ms, h, next_all (map wanted fs) ms (subst (λ (l : List (List ℕ)). IsDistinct bytes_eq l) (sym names) d) (e ∙ sym names), refl))
 
 -- ---- the next field
-pub field_taken : (old new : List Token) (key : Bor (List ℕ)) (e : List Token) → ((ms : Members) → InMembers old ms → (j : Json) × (rest : Members) × (ms ≡ member key.now j rest) × BeginsWith e j × InMembers new rest) → (f : Wanted) (fs : List Wanted) (ms : Members) (n : ℕ) → HasFields (InPlace old) (f ∷ fs) ms n → (j : Json) × (m : ℕ) × (get_member f.0 ms ≡ Some j) × BeginsWith e j × (n ≡ suc m) × HasFields (InPlace new) fs ms m
-field_taken old new key e v f fs ms n h =
+pub field_taken : (old new : List Token) (key : Bor (List ℕ)) (e : List Token) → ((ms : Members) → InMembers old ms → (j : Json) × (rest : Members) × (ms ≡ member key.now j rest) × BeginsWith e j × InMembers new rest) → (gs : List Wanted) (f : Wanted) (fs : List Wanted) (ms : Members) (n : ℕ) → HasFields (InPlace old) gs (f ∷ fs) ms n → (j : Json) × (m : ℕ) × (get_member f.0 ms ≡ Some j) × BeginsWith e j × (n ≡ suc m) × HasFields (InPlace new) (gs ++ f ∷ []) fs ms m
+field_taken old new key e v gs f fs ms n h =
     let t = v h.0 h.1 in
     let w = h.2 in
     let q : member key.now t.0 t.1 ≡ member f.0 w.0 w.1 = sym t.2 ∙ w.2 in
@@ -86,7 +86,7 @@ field_taken old new key e v f fs ms n h =
     let l = h.3 in
     (w.0, length fs, w.3, subst (λ j. BeginsWith e j) a t.3, omega (arith, l), (w.1, subst (λ (r : Members). InMembers new r) b t.4, w.4, refl))
 
-pub field_none : (old : List Token) → ((ms : Members) → InMembers old ms → ms ≡ no_members) → (f : Wanted) (fs : List Wanted) (ms : Members) (n : ℕ) → HasFields (InPlace old) (f ∷ fs) ms n → get_member f.0 ms ≡ None
-field_none old v f fs ms n h =
+pub field_none : (old : List Token) → ((ms : Members) → InMembers old ms → ms ≡ no_members) → (gs : List Wanted) (f : Wanted) (fs : List Wanted) (ms : Members) (n : ℕ) → HasFields (InPlace old) gs (f ∷ fs) ms n → get_member f.0 ms ≡ None
+field_none old v gs f fs ms n h =
     let q : no_members ≡ member f.0 h.2.0 h.2.1 = sym (v h.0 h.1) ∙ h.2.2 in
     absurd cc

@@ -1,6 +1,6 @@
 -- Floats, their bits and their texts.
-use Rattle.std.proofs.Common.{◌≡◌, inl, inr, ℕ, ◌+◌, ◌*◌, ◌^◌, ◌<◌, List, length, Bool, true, false, true≢false, Option, Some, None, refl, sym, ◌∙◌, ap, subst, arith}
-use Rattle.std.specs.Prelude.{not, codes, T, from_bits, to_bits, option_map, MatchOption, MatchResult, Result, Ok, Err, IsTrue, IsFalse}
+use Rattle.std.proofs.Common.{◌≡◌, inl, inr, ◌∷◌, ◌++◌, [], ℕ, ◌+◌, ◌*◌, ◌^◌, ◌<◌, List, length, Bool, true, false, true≢false, Option, Some, None, refl, sym, ◌∙◌, ap, subst, arith}
+use Rattle.std.specs.Prelude.{if◌then◌else◌, not, codes, T, from_bits, to_bits, option_map, MatchOption, MatchResult, Result, Ok, Err, IsTrue, IsFalse}
 use Rattle.std.specs.Borrow.{Bor}
 use Rattle.std.specs.Float.{Float, Format, nan, inf, fin, binary32, binary64, float_is_finite}
 use Rattle.std.specs.Float.Ieee.{top}
@@ -14,10 +14,17 @@ use lib.Ieee.Bits.{to_bits-of_bits}
 use Rattle.json.specs.Json.{Json, null, boolean, number, string, array, object}
 use Rattle.json.specs.Find.{as_number, as_str}
 use Rattle.json.proofs.Printed.Floats.{IsNumber-plain}
-use Rattle.ryu.specs.Plain.{IsPlainNumber, word_of}
-use Rattle.borsh_walks.specs.Container.{low_bytes}
+use Rattle.std.specs.Float.Numeral.{Parts, exponent_text, text_of}
+use Rattle.std.specs.Fmt.{sign_text}
+use Rattle.std.specs.List.{Contains}
+use Rattle.std.proofs.lemmas.List.Elements.{Contains-append_right}
+use Rattle.json.specs.Print.{IsNumber}
+use Rattle.json.specs.Word.{after_number}
+use Rattle.ryu.specs.Plain.{IsPlain, IsPlainNumber, word_of}
+use Rattle.borsh_json.specs.Printed.{IsMarked}
+use Rattle.borsh_walks.specs.Container.{little_endian}
 use Rattle.borsh_json.specs.Table.{float_size, float_of, infinity_of, IsFloat}
-use Rattle.borsh_json.specs.Floats.{AreBitsOf, IsFloatText, IsNan, ReadsBack}
+use Rattle.borsh_json.specs.Floats.{IsFloatText, IsNan, ReadsBack}
 
 -- ---- bits
 twice_top : (f : Format) → 256 ^ float_size f ≡ 2 * top f
@@ -43,7 +50,7 @@ pub float_one : (f : Format) {v w : Float} {a b : List ℕ} → v ≡ w → IsFl
 float_one f {v = v} {w = w} e p q =
     let i = bits_back f p.0 v p.2 p.3 p.4 in
     let k = bits_back f q.0 w q.2 q.3 q.4 in
-    p.1 ∙ ap (λ b. low_bytes (float_size f) b) (sym i ∙ ap (λ v. to_bits f v) e ∙ k) ∙ sym q.1
+    p.1 ∙ ap (λ b. little_endian (float_size f) b) (sym i ∙ ap (λ v. to_bits f v) e ∙ k) ∙ sym q.1
 
 -- floats of one size are of one format
 pub format_one : (n : ℕ) (a b : Format) → n ≡ float_size a → n ≡ float_size b → a ≡ b
@@ -61,16 +68,54 @@ reads_back f (inf false) s n p a b = (p, inr (ap (λ s. infinity_of s) (b refl))
 reads_back f (inf true) s n p a b = (p, inr (ap (λ s. infinity_of s) (b refl)))
 reads_back f (fin t m e) s n p a b = (p, inl (IsNumber-plain s (a refl)))
 
-pub shortest_is : (f : Format) (bs : List ℕ) (bits : ℕ) (v : Float) (r : Option (Bor (List ℕ))) → bs ≡ low_bytes (float_size f) bits → bits < 256 ^ float_size f → v ≡ from_bits f bits → MatchOption r (is_nan v ≡ true) (λ s. (is_nan v ≡ false) × ReadsBack f v s.now) → MatchOption r (IsNan f bs) (λ s. IsFloatText f bs s.now)
+-- a numeral that doesn't read as a whole number has a point or an exponent
+marked_parts : (p : Parts) → IsPlain p → IsMarked (text_of p)
+marked_parts p h = by p.point refl p.exponent refl
+  where
+    by : (b : Bool) → p.point ≡ b → (e : List ℕ) → p.exponent ≡ e → IsMarked (text_of p)
+    by true q e r =
+        let tail = exponent_text p.exponent_negative p.exponent in
+        inl (subst (λ b. Contains (p.whole ++ ((if b then 46 ∷ p.fraction else []) ++ tail)) 46) (sym q) (Contains-append_right p.whole (46 ∷ (p.fraction ++ tail)) 46 (0, omega arith, refl)))
+    by false q [] r = absurd (let m = h.marked q in let l = ap (λ l. length l) r in omega (arith, m, l))
+    by false q (d ∷ ds) r =
+        let tail = 101 ∷ (sign_text p.exponent_negative ++ d ∷ ds) in
+        inr (subst (λ b. Contains (p.whole ++ ((if b then 46 ∷ p.fraction else []) ++ exponent_text p.exponent_negative p.exponent)) 101) (sym q)
+        (subst (λ e. Contains (p.whole ++ exponent_text p.exponent_negative e) 101) (sym r) (Contains-append_right p.whole tail 101 (0, omega arith, refl))))
+
+marked_behind : (front s : List ℕ) → IsMarked s → IsMarked (front ++ s)
+marked_behind front s (inl h) = inl (Contains-append_right front s 46 h)
+marked_behind front s (inr h) = inr (Contains-append_right front s 101 h)
+
+marked_number : (s : List ℕ) → IsPlainNumber s → IsMarked s
+marked_number s h = subst IsMarked (sym h.2) (marked_behind (sign_text h.0) (text_of h.1) (marked_parts h.1 h.3))
+
+-- the words of the infinities are no numbers
+inf_no_number : IsNumber (codes "inf") → ⊥
+unfolding after_number
+inf_no_number e = cc
+
+minus_inf_no_number : IsNumber (codes "-inf") → ⊥
+unfolding after_number
+minus_inf_no_number e = cc
+
+-- of a float that is no NaN the text that is a number has one
+pub marked : (v : Float) (s : List ℕ) → is_nan v ≡ false → (IsTrue (float_is_finite v) → IsPlainNumber s) → (IsFalse (float_is_finite v) → s ≡ word_of v) → IsNumber s → IsMarked s
+unfolding is_nan float_is_finite
+marked nan s n a b i = absurd (true≢false n)
+marked (inf false) s n a b i = absurd (inf_no_number (subst IsNumber (b refl) i))
+marked (inf true) s n a b i = absurd (minus_inf_no_number (subst IsNumber (b refl) i))
+marked (fin t m e) s n a b i = marked_number s (a refl)
+
+pub shortest_is : (f : Format) (bs : List ℕ) (bits : ℕ) (v : Float) (r : Option (Bor (List ℕ))) → bs ≡ little_endian (float_size f) bits → bits < 256 ^ float_size f → v ≡ from_bits f bits → MatchOption r (is_nan v ≡ true) (λ s. (is_nan v ≡ false) × ReadsBack f v s.now) → MatchOption r (IsNan f bs) (λ s. IsFloatText f bs s.now)
 shortest_is f bs bits v None e l p h = (bits, e, l, ap (λ v. is_nan v) (sym p) ∙ h)
 shortest_is f bs bits v (Some s) e l p h = (v, (bits, e, l, sym p, h.0), h.1)
 
 -- of four bytes, and of eight
-pub shortest_4 : (f : Format) (bs : List ℕ) (bits : ℕ) (v : Float) (r : Option (Bor (List ℕ))) → length bs ≡ 4 → length bs ≡ float_size f → bs ≡ low_bytes 4 bits → bits < 256 ^ 4 → v ≡ from_bits binary32 bits → MatchOption r (is_nan v ≡ true) (λ s. (is_nan v ≡ false) × ReadsBack binary32 v s.now) → MatchOption r (IsNan f bs) (λ s. IsFloatText f bs s.now)
+pub shortest_4 : (f : Format) (bs : List ℕ) (bits : ℕ) (v : Float) (r : Option (Bor (List ℕ))) → length bs ≡ 4 → length bs ≡ float_size f → bs ≡ little_endian 4 bits → bits < 256 ^ 4 → v ≡ from_bits binary32 bits → MatchOption r (is_nan v ≡ true) (λ s. (is_nan v ≡ false) × ReadsBack binary32 v s.now) → MatchOption r (IsNan f bs) (λ s. IsFloatText f bs s.now)
 shortest_4 binary32 bs bits v r n l e b p h = shortest_is binary32 bs bits v r e b p h
 shortest_4 binary64 bs bits v r n l e b p h = absurd (omega (arith, n, l))
 
-pub shortest_8 : (f : Format) (bs : List ℕ) (bits : ℕ) (v : Float) (r : Option (Bor (List ℕ))) → length bs ≡ 8 → length bs ≡ float_size f → bs ≡ low_bytes 8 bits → bits < 256 ^ 8 → v ≡ from_bits binary64 bits → MatchOption r (is_nan v ≡ true) (λ s. (is_nan v ≡ false) × ReadsBack binary64 v s.now) → MatchOption r (IsNan f bs) (λ s. IsFloatText f bs s.now)
+pub shortest_8 : (f : Format) (bs : List ℕ) (bits : ℕ) (v : Float) (r : Option (Bor (List ℕ))) → length bs ≡ 8 → length bs ≡ float_size f → bs ≡ little_endian 8 bits → bits < 256 ^ 8 → v ≡ from_bits binary64 bits → MatchOption r (is_nan v ≡ true) (λ s. (is_nan v ≡ false) × ReadsBack binary64 v s.now) → MatchOption r (IsNan f bs) (λ s. IsFloatText f bs s.now)
 shortest_8 binary32 bs bits v r n l e b p h = absurd (omega (arith, n, l))
 shortest_8 binary64 bs bits v r n l e b p h = shortest_is binary64 bs bits v r e b p h
 

@@ -1,6 +1,6 @@
 -- What is left of a frame, part by part.
-use Rattle.std.proofs.Common.{◌≡◌, ℕ, suc, zero, ◌+◌, ◌<◌, ◌≤◌, List, [], ◌∷◌, ◌++◌, length, map, take, drop, get_or, false, Option, Some, None, refl, sym, ◌∙◌, ap, subst, arith, append_assoc, append-nil, string_bytes}
-use Rattle.std.specs.Prelude.{slice_get, MatchOption, String, Vec, cond, is_some, if◌then◌else◌}
+use Rattle.std.proofs.Common.{◌≡◌, ℕ, suc, zero, ◌+◌, ◌<◌, ◌≤◌, List, [], ◌∷◌, ◌++◌, length, map, take, drop, get_or, Bool, true, false, Option, Some, None, refl, sym, ◌∙◌, ap, subst, arith, append_assoc, append-nil, string_bytes}
+use Rattle.std.specs.Prelude.{slice_get, MatchOption, String, Vec, IsSome, cond, is_some, if◌then◌else◌, ◌||◌}
 use Rattle.std.specs.Borrow.{Bor}
 use Rattle.std.specs.Global.{Global}
 use Rattle.std.specs.BTreeMap.{BTreeMap, UpdatesBy, btree_map_len}
@@ -8,6 +8,8 @@ use Rattle.std.specs.Cmp.Lexicographic.{slice_cmp}
 use Rattle.std.specs.Ordering.{nat_cmp}
 use Rattle.std.specs.Str.{bytes_eq}
 use Rattle.std.specs.List.{AllByRecursion}
+use Rattle.std.proofs.lemmas.Cmp.{nat_list_eq_equiv}
+use Rattle.std.proofs.lemmas.List.Folds.{list_any-append}
 use Rattle.std.proofs.lemmas.Map.Keys.{IsDistinct-head, IsDistinct-tail}
 use Rattle.std.proofs.lemmas.Map.Text.{btree_map_updates_str}
 use Rattle.json.specs.Token.{Token}
@@ -25,7 +27,7 @@ use Rattle.borsh_json.specs.declared.position.Place.{Place}
 use Rattle.borsh_json.specs.declared.sources.EntryKey.TheVariants.{Text as TextKey}
 use Rattle.borsh_json.specs.declared.sources.Source.TheVariants.{Members as TheMembers, Entries as InPlace}
 use Rattle.borsh_json.specs.Forms.{Form, named, shape_of_form}
-use Rattle.borsh_json.specs.Frames.{steps_at, steps_through, Wanted, IsWanted, IsKey, AreFound, HasFields, HasEntries, IsEntryKey}
+use Rattle.borsh_json.specs.Frames.{steps_at, steps_through, Wanted, IsWanted, IsKey, AreFound, AreOthers, HasFields, HasEntries, IsEntryKey}
 use Rattle.borsh_json.specs.Places.{IsAt}
 use Rattle.borsh_json.specs.Table.{Entry, entries_of}
 
@@ -105,14 +107,28 @@ found_still : (m n : BTreeMap (Bor (List ℕ)) (List Token)) (name : List ℕ) (
 found_still m n name ms u [] a h = tt
 found_still m n name ms u (f ∷ fs) a h = (subst (λ (o : Option (List Token)). Finds o (get_member f.0 ms)) (sym (u f.0 ∙ ap (λ b. cond b None (mark_of m f.0)) a.0)) h.0, found_still m n name ms u fs a.1 h.1)
 
-pub fields_taken : (m n : BTreeMap (Bor (List ℕ)) (List Token)) (name : List ℕ) (o : Option (List Token)) → o ≡ mark_of m name → UpdatesBy (λ x y. slice_cmp nat_cmp x.now y.now) (λ q. slice_cmp nat_cmp name q.now) m n None → btree_map_len n + (if is_some o then 1 else 0) ≡ btree_map_len m → (f : Wanted) (fs : List Wanted) (ms : Members) (k : ℕ) → HasFields (TheMembers m) (f ∷ fs) ms k → name ≡ f.0 → MatchOption o (get_member f.0 ms ≡ None) (λ e. (j : Json) × (l : ℕ) × (get_member f.0 ms ≡ Some j) × BeginsWith e j × (k ≡ suc l) × HasFields (TheMembers n) fs ms l)
-fields_taken m n name None v u l f fs ms k h e = subst (λ (r : Option (List Token)). Finds r (get_member f.0 ms)) (sym (v ∙ ap (λ x. mark_of m x) e)) h.1.0
-fields_taken m n name (Some t) v u l f fs ms k h e =
+-- those that are left are others still
+was_there : {A : Type 0} (b : Bool) (o : Option A) → IsSome (cond b None o) → (b ≡ false) × IsSome o
+was_there true o s = absurd cc
+was_there false o s = (refl, s)
+
+others_still : (m n : BTreeMap (Bor (List ℕ)) (List Token)) (gs : List Wanted) (f : Wanted) (ms : Members) → ((q : List ℕ) → mark_of n q ≡ cond (bytes_eq f.0 q) None (mark_of m q)) → AreOthers m gs ms → AreOthers n (gs ++ f ∷ []) ms
+others_still m n gs f ms u h = λ q s.
+    let test : Wanted → Bool = λ g. bytes_eq q g.0 in
+    let t = was_there (bytes_eq f.0 q) (mark_of m q) (subst (λ (o : Option (List Token)). IsSome o) (u q) s) in
+    let a = h q t.1 in
+    (a.0, list_any-append test gs (f ∷ []) ∙ ap (λ b. b || (test f || false)) a.1 ∙ ap (λ b. b || false) (nat_list_eq_equiv.symm q f.0 ∙ t.0))
+
+pub fields_taken : (m n : BTreeMap (Bor (List ℕ)) (List Token)) (name : List ℕ) (o : Option (List Token)) → o ≡ mark_of m name → UpdatesBy (λ x y. slice_cmp nat_cmp x.now y.now) (λ q. slice_cmp nat_cmp name q.now) m n None → btree_map_len n + (if is_some o then 1 else 0) ≡ btree_map_len m → (gs : List Wanted) (f : Wanted) (fs : List Wanted) (ms : Members) (k : ℕ) → HasFields (TheMembers m) gs (f ∷ fs) ms k → name ≡ f.0 → MatchOption o (get_member f.0 ms ≡ None) (λ e. (j : Json) × (l : ℕ) × (get_member f.0 ms ≡ Some j) × BeginsWith e j × (k ≡ suc l) × HasFields (TheMembers n) (gs ++ f ∷ []) fs ms l)
+fields_taken m n name None v u l gs f fs ms k h e = subst (λ (r : Option (List Token)). Finds r (get_member f.0 ms)) (sym (v ∙ ap (λ x. mark_of m x) e)) h.1.0
+fields_taken m n name (Some t) v u l gs f fs ms k h e =
     let q = subst (λ (r : Option (List Token)). Finds r (get_member f.0 ms)) (sym (v ∙ ap (λ x. mark_of m x) e)) h.1.0 in
     let a = IsDistinct-head bytes_eq f.0 (map (λ (f : Wanted). f.0) fs) h.0 in
     let b = subst (λ (x : List ℕ). AllByRecursion (λ y. bytes_eq x y ≡ false) (map (λ (f : Wanted). f.0) fs)) (sym e) a in
     let c : k ≡ suc (btree_map_len n) = (let g = h.2 in omega (arith, g, l)) in
-    (q.0, btree_map_len n, q.1, q.2, c, (IsDistinct-tail bytes_eq f.0 (map (λ (f : Wanted). f.0) fs) h.0, found_still m n name ms (btree_map_updates_str name m n None u) fs b h.1.1, refl))
+    let w = btree_map_updates_str name m n None u in
+    let others = others_still m n gs f ms (subst (λ (x : List ℕ). (q : List ℕ) → mark_of n q ≡ cond (bytes_eq x q) None (mark_of m q)) e w) h.3 in
+    (q.0, btree_map_len n, q.1, q.2, c, (IsDistinct-tail bytes_eq f.0 (map (λ (f : Wanted). f.0) fs) h.0, found_still m n name ms w fs b h.1.1, refl, others))
 
 -- ---- entries in place
 pub entry_taken : (kind : KeyKind) (old new : List Token) (text : Bor (List ℕ)) (e : List Token) → ((ms : Members) → InMembers old ms → (j : Json) × (rest : Members) × (ms ≡ member text.now j rest) × BeginsWith e j × InMembers new rest) → (es : List Entry) → HasEntries kind (InPlace old) es → (k : List ℕ) × (j : Json) × (rest : List Entry) × (es ≡ (k, j) ∷ rest) × IsEntryKey kind (TextKey text) k × BeginsWith e j × HasEntries kind (InPlace new) rest

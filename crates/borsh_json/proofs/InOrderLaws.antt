@@ -2,17 +2,18 @@
 use Rattle.std.proofs.Common.{◌≡◌, ◌⊎◌, inl, inr, ℕ, suc, zero, ◌*◌, ◌<◌, List, [], ◌∷◌, ◌++◌, length, get_or, Option, Some, None, refl, sym, ◌∙◌, ap, subst, arith, length-append}
 use Rattle.std.specs.Prelude.{codes}
 use Rattle.json.specs.Json.{Json, array, string, object, Items}
+use Rattle.borsh_walks.specs.Container.{Member}
 use Rattle.borsh_plan.specs.declared.named.Named.{Named}
 use Rattle.borsh_json.specs.declared.error.JsonError.{JsonError}
 use Rattle.borsh_json.specs.declared.error.JsonError.TheVariants.{OutOfMemory, NoMember, NoValue, Ambiguous, NotJson, Refused}
 use Rattle.borsh_json.specs.declared.error.Refusal.{Refusal}
-use Rattle.borsh_json.specs.declared.error.Refusal.TheVariants.{TooDeep, RepeatedName, EmptyElements, NotBool, NotUtf8, Zero, NotNumber, Descends, OtherNodes, Expected, MissingField, UnknownName, RepeatedKey, Undefined}
+use Rattle.borsh_json.specs.declared.error.Refusal.TheVariants.{TooDeep, RepeatedName, EmptyElements, NotBool, NotUtf8, Zero, NotNumber, Descends, Expected, MissingField, UnknownName, RepeatedKey, Undefined}
 use Rattle.borsh_json.specs.declared.kinds.Entries.{Entries as FoundEntries}
 use Rattle.borsh_json.specs.declared.position.Parts.{Parts}
 use Rattle.borsh_json.specs.declared.position.Parts.TheVariants.{Root, List as Elements, Row, Object, Entries as MapEntries, Newtype, Some as Present, Variant}
 use Rattle.borsh_json.specs.declared.position.Place.{Place}
 use Rattle.borsh_json.specs.Descents.{HasKeys}
-use Rattle.borsh_json.specs.Forms.{Form, sequence, tuple, IsList}
+use Rattle.borsh_json.specs.Forms.{Form, sequence, tuple, IsList, shapes}
 use Rattle.borsh_json.specs.Found.{IsSetName}
 use Rattle.borsh_json.specs.Frames.{AreInOrder, IsListPlace, IsMapPlace, IsListKind, IsPlaceOf, IsPlaceIn}
 use Rattle.borsh_json.specs.InOrder.{Step, BeginsParts, IsReached, whole_value, part_of, DigitsFall, ItemsFall, Falls, InOrder, TextRepresents}
@@ -24,7 +25,7 @@ use Rattle.borsh_json.proofs.FoundLaws.{full_list, list_element, set_no_map}
 use Rattle.borsh_json.proofs.OpeningLaws.{list_length}
 use Rattle.borsh_json.proofs.OrderLaws.{clash}
 use Rattle.borsh_json.proofs.ReaderLaws.{first_says}
-use Rattle.borsh_json.proofs.RepresentsLaws.{kind_one}
+use Rattle.borsh_json.proofs.RepresentsLaws.{bytes_one, kind_one}
 
 -- ---- names
 string_no_set : (x e : List ℕ) → x ≡ codes "String" → IsSetName x e → ⊥
@@ -218,7 +219,6 @@ module _ (F : List ℕ → Option Form) (root text bytes : List ℕ) where
   no_refusal j path Zero s o f n = absurd (n s)
   no_refusal j path NotNumber s o f n = absurd (n s)
   no_refusal j path Descends s o f n = absurd (o f.0 f.1 f.3 f.4 f.5 f.7 f.2 f.8)
-  no_refusal j path OtherNodes s o f n = absurd (n s)
   no_refusal j path (Expected wanted) s o f n = absurd (n s)
   no_refusal j path MissingField s o f n = absurd (n s)
   no_refusal j path (UnknownName name) s o f n = absurd (n s)
@@ -228,7 +228,7 @@ module _ (F : List ℕ → Option Form) (root text bytes : List ℕ) where
   pub given_up : (e : JsonError) → TextRepresents F root text bytes → ShowsNoValue F root text e → IsGivenUp e
   given_up OutOfMemory t s = tt
   given_up (NoMember f) t s = s
-  given_up NoValue t s = s bytes (t.0, t.1, t.2, t.3)
+  given_up NoValue t s = let n = s t.0 t.1 in n.2 (subst (λ b. Member (shapes F) root b) (bytes_one F t.2 n.1) t.3)
   given_up (Ambiguous x) t s = tt
   given_up (NotJson offset) t s = let e : Some t.0 ≡ None = sym t.1 ∙ s in cc
   given_up (Refused path r) t s = let u = s t.0 t.1 in no_refusal t.0 _ r (bytes, t.2) t.4 u.1 u.2

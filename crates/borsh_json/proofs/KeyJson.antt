@@ -7,11 +7,10 @@ use Rattle.borsh_plan.specs.declared.named.Named.{Named}
 use Rattle.borsh_json.specs.declared.error.ReadError.{ReadError}
 use Rattle.borsh_json.specs.declared.numbers.Number.{Number}
 use Rattle.borsh_json.specs.Forms.{Form}
-use Rattle.borsh_json.specs.Frames.{DeniesRead, IsUnexpected}
-use Rattle.borsh_json.specs.Represents.{SaysFirst, SaysSome}
+use Rattle.borsh_json.specs.Frames.{DeniesRead, FailsRead, IsUnexpected}
+use Rattle.borsh_json.specs.Represents.{SaysFirst}
 use Rattle.borsh_json.specs.Table.{Lengths, Keys, texts, numbers, HasKind, utf8, whole, IsNumber, IsPrefixed, IsWhole, key_json}
 use Rattle.borsh_json.proofs.OpeningLaws.{said, one_string, refuses_plain}
-use Rattle.borsh_json.specs.NoValue.{Why}
 
 -- a number's key is the JSON of the number
 pub key_number : (n : ℕ) (s : List ℕ) (b : Bool) → ((nat_le n 8 ≡ true) × (n ≤ 8)) ⊎ ((nat_le n 8 ≡ false) × (8 ≤ n)) → nat_le n 8 ≡ b → IsNumber n s (if b then number s else string s)
@@ -24,7 +23,7 @@ pub tells : (n : ℕ) → ((nat_le n 8 ≡ true) × (n ≤ 8)) ⊎ ((nat_le n 8 
 tells n = elim (leb_tells n 8) [ inl h ↦ inl (h.0, h.1) | inr h ↦ inr (h.0, (let k = h.1 in omega arith)) ]
 
 module _ (F : List ℕ → Option Form) (ns : List Named) (k : List ℕ) (keys : Keys) (s : List ℕ) where
-  pub text_key : {A : Type 0} (l : Lengths) (t old new : List ℕ) → keys ≡ texts → HasKind F k (utf8 l) → t ≡ s → IsUtf8 t → (r : Result A ReadError) → MatchResult r (λ _. (own : List ℕ) × (new ≡ old ++ own) × IsPrefixed l (length t) t own) (λ e. DeniesRead IsUnexpected e ((own : List ℕ) × IsPrefixed l (length t) t own)) → MatchResult r (λ _. (own : List ℕ) × (new ≡ old ++ own) × SaysFirst F k (key_json keys s) own []) (λ e. DeniesRead (Why F k (key_json keys s)) e (SaysSome F k (key_json keys s)))
+  pub text_key : {A : Type 0} (l : Lengths) (t old new : List ℕ) → keys ≡ texts → HasKind F k (utf8 l) → t ≡ s → IsUtf8 t → (r : Result A ReadError) → MatchResult r (λ _. (own : List ℕ) × (new ≡ old ++ own) × IsPrefixed l (length t) t own) (λ e. DeniesRead IsUnexpected e ((own : List ℕ) × IsPrefixed l (length t) t own)) → MatchResult r (λ _. (own : List ℕ) × (new ≡ old ++ own) × SaysFirst F k (key_json keys s) own []) (λ e. FailsRead F k (key_json keys s) e)
   text_key l t old new q h e u (Ok x) d = (d.0, d.1, (utf8 l, h, (t, ap (λ (q : Keys). key_json q s) q ∙ ap (λ s. string s) (sym e), u, d.2, refl)))
   text_key l t old new q h e u (Err r) d = refuses_plain F ns k (key_json keys s) r (λ g.
       let y = said F ns k (key_json keys s) (utf8 l) h g in

@@ -7,16 +7,17 @@ use Rattle.std.specs.List.{AllByRecursion}
 use Rattle.std.specs.Str.{bytes_eq}
 use Rattle.std.proofs.Math.Nat.{pow-le-pow_right}
 use Rattle.std.proofs.lemmas.Bool.Decides.{nat_tests}
-use Rattle.json.specs.Token.{Token}
+use Rattle.std.proofs.lemmas.Fmt.{length_signed_le}
 use Rattle.json.specs.Token as token
 use Rattle.json.specs.Json.{Json, null, boolean, number, string}
 use Rattle.json.specs.Print.{IsNumber as IsNumberText}
 use Rattle.json.specs.Tree.{json_tokens, depth, HasNumbers}
 use Rattle.json.proofs.Printed.Decimals.{IsNumber-decimal, IsNumber-signed_decimal}
-use Rattle.borsh_walks.specs.Container.{tag, low_bytes}
+use Rattle.borsh_walks.specs.Container.{tag, little_endian}
 use Rattle.borsh_values.specs.Nodes.{Opens}
-use Rattle.borsh_values.specs.Tags.{value_of}
+use Rattle.borsh_values.specs.Tags.{number_of}
 use Rattle.borsh_plan.specs.declared.named.Named.{Named}
+use Rattle.borsh_json.specs.declared.error.Refusal.TheVariants.{Zero}
 use Rattle.borsh_json.specs.declared.error.WriteError.{WriteError}
 use Rattle.borsh_json.specs.declared.kinds.Kind.{Kind as Found}
 use Rattle.borsh_json.specs.declared.kinds.Kind.TheVariants.{Number, Bool as Truth, Text, Bytes, Float, ByteList, Numbers, List as ElementList, Map as Entries, Row, Newtype, Object, Optional, Choice, Repeated}
@@ -25,8 +26,8 @@ use Rattle.borsh_json.specs.declared.output.Output.{Output}
 use Rattle.borsh_json.specs.Forms.{Form, primitive, sequence, tuple, newtype, unnamed, named, choice, shape_of_form, shapes}
 use Rattle.borsh_json.specs.Found.{IsPrimitiveKind}
 use Rattle.borsh_json.specs.Integers.{IsEncoded}
-use Rattle.borsh_json.specs.Leaves.{Adds, HasSize, IsOpenedAs, IsWritten, RefusesLeaf, WritesHex, WritesLeaf}
-use Rattle.borsh_json.specs.NoJson.{IsNoJson}
+use Rattle.borsh_json.specs.Leaves.{Adds, HasSize, IsOpenedAs, IsWritten, RefusesValue, WritesHex, WritesLeaf}
+use Rattle.borsh_json.specs.NoJson.{IsNoJson, RefusesOwn}
 use Rattle.borsh_json.specs.Places.{IsKindOf}
 use Rattle.borsh_json.specs.Represents.{SaysFirst, HaveBytes, next_part}
 use Rattle.borsh_json.specs.Table.{Kind, no_bytes, truth, whole, float, float_size, raw, utf8, byte_list, list, row, inner, fields, optional, variants, entries, a_text, some_bytes, an_object, some_elements, nullable, by_name, number_types, number_kind, primitive_kind, DefinedKind, HasKind, InRange, IsFloat, IsHex, IsNumber, Part, Says}
@@ -46,7 +47,7 @@ front_one (x ∷ xs) bs (c ∷ cs) ds e l =
     let r = front_one xs bs cs ds t (omega arith) in
     (ap (λ y. y ∷ xs) h ∙ ap (λ ys. c ∷ ys) r.0, r.1)
 
-low_length : (w n : ℕ) → length (low_bytes w n) ≡ w
+low_length : (w n : ℕ) → length (little_endian w n) ≡ w
 low_length zero n = refl
 low_length (suc w) n = ap suc (low_length w (n / 256))
 
@@ -56,9 +57,9 @@ map_length f (b ∷ bs) = ap suc (map_length f bs)
 
 pub tag_length : (w : ℕ) (z : ℤ) → length (tag w z) ≡ w
 tag_length w (pos n) = low_length w n
-tag_length w (negsuc n) = map_length (λ b. 255 - b) (low_bytes w n) ∙ low_length w n
+tag_length w (negsuc n) = map_length (λ b. 255 - b) (little_endian w n) ∙ low_length w n
 
-value_low : (w n : ℕ) → n < 256 ^ w → value_of (low_bytes w n) ≡ n
+value_low : (w n : ℕ) → n < 256 ^ w → number_of (little_endian w n) ≡ n
 value_low zero n h = omega arith
 value_low (suc w) n h =
     let p = pow-suc 256 w in
@@ -66,10 +67,10 @@ value_low (suc w) n h =
     omega (arith, r)
 
 pub tag_one : (w k m : ℕ) → k < 256 ^ w → m < 256 ^ w → tag w (pos k) ≡ tag w (pos m) → k ≡ m
-tag_one w k m h l e = sym (value_low w k h) ∙ ap (λ l. value_of l) e ∙ value_low w m l
+tag_one w k m h l e = sym (value_low w k h) ∙ ap (λ l. number_of l) e ∙ value_low w m l
 
 -- a number and its complement add up to all bits
-value_turned : (w m : ℕ) → m < 256 ^ w → value_of (map (λ b. 255 - b) (low_bytes w m)) + m + 1 ≡ 256 ^ w
+value_turned : (w m : ℕ) → m < 256 ^ w → number_of (map (λ b. 255 - b) (little_endian w m)) + m + 1 ≡ 256 ^ w
 value_turned zero m h = omega arith
 value_turned (suc w) m h =
     let p = pow-suc 256 w in
@@ -85,7 +86,7 @@ not_zero (suc n) false (negsuc m) h r e = absurd r
 not_zero (suc n) true (negsuc m) h r e =
     let p = pow-suc 256 n in
     let t = value_turned (suc n) m (omega arith) in
-    let o = ap (λ l. value_of l) e ∙ value_low (suc n) 0 (omega arith) in
+    let o = ap (λ l. number_of l) e ∙ value_low (suc n) 0 (omega arith) in
     absurd (omega (arith, r, p, t, o))
 
 power_8 : (n : ℕ) → n ≤ 8 → 256 ^ n ≤ 2 ^ 64
@@ -96,6 +97,18 @@ printable n false (pos m) h r = let p = power_8 n h in IsNumber-decimal m (omega
 printable n false (negsuc m) h r = absurd r
 printable n true (pos m) h r = let p = power_8 n h in IsNumber-decimal m (omega arith)
 printable n true (negsuc m) h r = let p = power_8 n h in IsNumber-signed_decimal (negsuc m) (omega arith)
+
+-- a number of at most four bytes has at most ten digits, and perhaps a sign
+pub short : (n : ℕ) (signed : Bool) (z : ℤ) → n ≤ 4 → InRange n signed z → length (signed_decimal z) ≤ 11
+short n signed z h r =
+    let p : 256 ^ n ≤ 2 ^ 32 = omega (arith, pow-le-pow_right {n = 256} (omega arith) h) in
+    by signed z r p
+  where
+    by : (signed : Bool) (z : ℤ) → InRange n signed z → 256 ^ n ≤ 2 ^ 32 → length (signed_decimal z) ≤ 11
+    by false (pos m) r p = length_signed_le 10 (pos m) (omega arith) (omega arith)
+    by false (negsuc m) r p = absurd r
+    by true (pos m) r p = length_signed_le 10 (pos m) (omega arith) (omega arith)
+    by true (negsuc m) r p = length_signed_le 10 (negsuc m) (omega arith) (omega arith)
 
 -- ---- sizes of primitives
 sized_if : (b : Bool) (k l : Kind) (n : ℕ) → (b ≡ true → HasSize k n) → HasSize l n → HasSize (if b then k else l) n
@@ -109,9 +122,9 @@ and_right false b e = cc
 same_size : (a : Bool) (m n : ℕ) → (a && (m == n)) ≡ true → n ≡ m
 same_size a m n e = let h = and_right a (m == n) e in let g : m ≡ n = grind (arith, nat_tests) in sym g
 
-number_sized : (ts : List (List ℕ × ℕ × Bool × Bool)) (x : List ℕ) (n : ℕ) → AllByRecursion (λ (t : List ℕ × ℕ × Bool × Bool). (1 ≤ t.1) × (t.1 ≤ 16)) ts → HasSize (number_kind ts x n) n
+number_sized : (ts : List (List ℕ × ℕ × Bool × Bool)) (x : List ℕ) (n : ℕ) → AllByRecursion (λ (t : List ℕ × ℕ × Bool × Bool). (1 ≤ t.1) × (t.1 ≤ 16) × (4 < t.1 → 8 ≤ t.1)) ts → HasSize (number_kind ts x n) n
 number_sized [] x n h = refl
-number_sized (t ∷ ts) x n h = sized_if (bytes_eq x t.0 && (t.1 == n)) (whole t.1 t.2 t.3) (number_kind ts x n) n (λ e. (same_size (bytes_eq x t.0) t.1 n e, h.0.0, h.0.1)) (number_sized ts x n h.1)
+number_sized (t ∷ ts) x n h = sized_if (bytes_eq x t.0 && (t.1 == n)) (whole t.1 t.2 t.3) (number_kind ts x n) n (λ e. (same_size (bytes_eq x t.0) t.1 n e, h.0.0, h.0.1, h.0.2)) (number_sized ts x n h.1)
 
 pub primitive_sized : (x : List ℕ) (n : ℕ) → HasSize (primitive_kind x n) n
 primitive_sized x n =
@@ -140,7 +153,7 @@ module _ (F : List ℕ → Option Form) (x own : List ℕ) (old new : Output) wh
 -- bytes in hexadecimal
 pub put_hex : (F : List ℕ → Option Form) (x own bytes : List ℕ) (old new : Output) (r : Result Unit WriteError) → WritesHex bytes old new r → ((j : Json) → IsHex j bytes → SaysFirst F x j own []) → IsWritten F 0 x own old new r
 put_hex F x own bytes old new (Ok u) w f = put_string F x own old new w.0 w.1 (f (string w.0) w.2)
-put_hex F x own bytes old new (Err e) w f = subst (λ (e : WriteError). RefusesLeaf F x own e) (sym w) tt
+put_hex F x own bytes old new (Err e) w f = subst (λ (e : WriteError). RefusesValue F x own e) (sym w) tt
 
 -- ---- what no JSON says
 module _ (F : List ℕ → Option Form) (x own : List ℕ) (kind : Kind) (h : HasKind F x kind) where
@@ -192,8 +205,8 @@ module _ (F : List ℕ → Option Form) (x own : List ℕ) (old new : Output) (n
   pub number_there : IsEncoded n signed z own
   number_there = subst (λ n. IsEncoded n signed z own) l.0 (e (omega (arith, l.0, l.2)))
 
-  pub number_zero : non_zero ≡ true → z ≡ pos 0 → (m : ℕ) × (s : Bool) × HasKind F x (whole m s true) × IsNoJson F x own
-  number_zero t q = (n, signed, subst (λ b. HasKind F x (whole n signed b)) t h, no_zero F x own n signed non_zero h t l (number_there.0 ∙ ap (λ z. tag n z) q))
+  pub number_zero : non_zero ≡ true → z ≡ pos 0 → RefusesOwn F Zero x own
+  number_zero t q = ((n, signed, subst (λ b. HasKind F x (whole n signed b)) t h), no_zero F x own n signed non_zero h t l (number_there.0 ∙ ap (λ z. tag n z) q))
 
   pub number_string : (s : List ℕ) → (non_zero ≡ true → z ≡ pos 0 → ⊥) → s ≡ signed_decimal z → 8 ≤ length own → Adds (token.string s ∷ []) old new → WritesLeaf F 0 x own old new
   number_string s f t b a = put_string F x own old new s a (says_number F x own n signed non_zero s z (string s) h number_there f t (inr (omega (arith, l.0, b), refl)))

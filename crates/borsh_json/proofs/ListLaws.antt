@@ -20,7 +20,7 @@ use Rattle.borsh_json.specs.declared.kinds.Elements.{Elements}
 use Rattle.borsh_json.specs.declared.kinds.Kind.TheVariants.{Numbers}
 use Rattle.borsh_json.specs.declared.output.Output.{Output}
 use Rattle.borsh_json.specs.Forms.{Form, primitive, sequence, tuple, newtype, unnamed, named, choice, form_of, shape_of_form, shapes, IsByte}
-use Rattle.borsh_json.specs.Leaves.{Adds, HasSize, IsOpenedAs, RefusesElement, RefusesLeaf, WritesLeaf, output_before, output_tokens}
+use Rattle.borsh_json.specs.Leaves.{Adds, HasSize, Holds, IsOpenedAs, RefusesAt, RefusesValue, WritesLeaf}
 use Rattle.borsh_json.specs.NoJson.{IsNoJson}
 use Rattle.borsh_json.specs.Places.{IsAt, IsKindOf, IsListOf, lengths_of}
 use Rattle.borsh_json.specs.Represents.{SaysFirst, HaveBytes, next_part}
@@ -36,6 +36,13 @@ drop_front [] ys zero e = refl
 drop_front [] ys (suc n) e = absurd (omega arith)
 drop_front (x ∷ xs) ys zero e = absurd (omega arith)
 drop_front (x ∷ xs) ys (suc n) e = drop_front xs ys n (omega arith)
+
+-- ---- tokens
+pub none_added : (out : Output) → Adds [] out out
+none_added out before h = subst (λ ts. Holds out ts) (sym (append-nil before)) h
+
+pub added : (xs ys : List Token) (a b c : Output) → Adds xs a b → Adds ys b c → Adds (xs ++ ys) a c
+added xs ys a b c f g before h = subst (λ ts. Holds c ts) (append_assoc before xs ys) (g (before ++ xs) (f before h))
 
 -- ---- lengths
 -- a length is the only one, or its prefix tells it
@@ -85,7 +92,7 @@ IsListKind (optional x) = ⊥
 IsListKind (variants w vs) = ⊥
 IsListKind (entries l keys k v) = ⊥
 
-no_size : (k : Kind) (n : ℕ) → HasSize k n → IsListKind k → ⊥
+pub no_size : (k : Kind) (n : ℕ) → HasSize k n → IsListKind k → ⊥
 no_size no_bytes n h i = i
 no_size truth n h i = i
 no_size (whole m signed non_zero) n h i = i
@@ -165,17 +172,11 @@ module _ (F : List ℕ → Option Form) (x own es : List ℕ) (l : Lengths) (i :
   bytes_say e j h d = (byte_list l e, h, inl (es, d, prefixed, refl))
 
 -- ---- refusals
-module _ (F : List ℕ → Option Form) where
-  -- of an element, which is refused, and then of its list
-  element_none : (e : WriteError) (x own : List ℕ) → RefusesElement F x own e → (e ≡ OutOfMemory → ⊥) → IsNoJson F x own
-  element_none OutOfMemory x own h n = absurd (n refl)
-  element_none (Refused r) x own h n = absurd h
-  element_none (Element i r) x own h n = h.3
-
-  pub list_refused : (e : WriteError) (x y own piece : List ℕ) → RefusesElement F y piece e → (IsNoJson F y piece → IsNoJson F x own) → RefusesLeaf F x own e
-  list_refused OutOfMemory x y own piece h f = tt
-  list_refused (Refused r) x y own piece h f = absurd h
-  list_refused (Element i r) x y own piece h f = (h.0, h.1, h.2, f h.3)
+-- of a list, of which an element is refused
+pub list_refused : (F : List ℕ → Option Form) (e : WriteError) (l : Lengths) (x y own front piece rest : List ℕ) → HasKind F x (list l y) → own ≡ front ++ (piece ++ rest) → RefusesAt F y piece e → (IsNoJson F y piece → IsNoJson F x own) → RefusesValue F x own e
+list_refused F OutOfMemory l x y own front piece rest k w h f = tt
+list_refused F (Refused r) l x y own front piece rest k w h f = absurd h
+list_refused F (Element i r) l x y own front piece rest k w h f = (l, y, front, piece, rest, k, w, h, f h.1)
 
 -- ---- lists of primitives
 items_more : (F : List ℕ → Option Form) (e : List ℕ) (k : Kind) (size : ℕ) → HasKind F e k → HasSize k size → (j : Json) (a : List ℕ) (qs : List Part) → SaysFirst F e j a qs → (length a ≡ size) × (qs ≡ [])
@@ -197,10 +198,10 @@ items_more F e k size h l j a qs s = sized k l (subst (λ k. Says F k j a qs) (k
     sized (variants w vs) l s = absurd l
     sized (entries m keys d v) l s = absurd l
 
--- these bytes are elements, so many of all; with any items that may follow they are an array
-pub record IsArrayWith (F : List ℕ → Option Form) (e done : List ℕ) (n : ℕ) (old now : Output) (js : Items) : Type 0 where
+-- these bytes are elements, so many of all; behind what was written any items that may follow make an array
+pub record IsArrayWith (F : List ℕ → Option Form) (e done : List ℕ) (n : ℕ) (written : List Token) (js : Items) : Type 0 where
   pub all : Items
-  pub tokens : output_tokens now ++ items_tokens js ≡ output_tokens old ++ (token.begin_array ∷ items_tokens all)
+  pub tokens : written ++ items_tokens js ≡ token.begin_array ∷ items_tokens all
   pub numbers : ItemsHaveNumbers js → ItemsHaveNumbers all
   pub nests : items_depth all ≤ items_depth js
   pub count : length (list_parts e all) ≡ n + length (list_parts e js)
@@ -211,8 +212,9 @@ pub record IsListing (F : List ℕ → Option Form) (e : List ℕ) (size : ℕ) 
   pub count : ℕ
   pub whole : all ≡ done ++ rest
   pub size_of : length done ≡ count * size
-  pub before : output_before now ≡ output_before old
-  pub begun : (js : Items) → IsArrayWith F e done count old now js
+  pub written : List Token
+  pub adds : Adds written old now
+  pub begun : (js : Items) → IsArrayWith F e done count written js
 
 module _ (F : List ℕ → Option Form) (e : List ℕ) (size : ℕ) (all : List ℕ) (old now : Output) where
   pub listing_start : Adds (token.begin_array ∷ []) old now → IsListing F e size all all old now
@@ -221,10 +223,11 @@ module _ (F : List ℕ → Option Form) (e : List ℕ) (size : ℕ) (all : List 
     count = 0;
     whole = refl;
     size_of = omega arith;
-    before = a.before;
+    written = token.begin_array ∷ [];
+    adds = a;
     begun = λ js. record {
       all = js;
-      tokens = ap (λ l. l ++ items_tokens js) a.tokens ∙ append_assoc (output_tokens old) (token.begin_array ∷ []) (items_tokens js);
+      tokens = refl;
       numbers = λ h. h;
       nests = omega arith;
       count = omega arith;
@@ -238,10 +241,11 @@ module _ (F : List ℕ → Option Form) (e : List ℕ) (size : ℕ) (all : List 
     count = suc g.count;
     whole = g.whole ∙ ap (λ l. g.done ++ l) r ∙ sym (append_assoc g.done piece after);
     size_of = length-append g.done piece ∙ (let a = g.size_of in let b = suc-mul g.count size in omega (arith, a, b, l));
-    before = w.adds.before ∙ g.before;
+    written = g.written ++ json_tokens w.json;
+    adds = added g.written (json_tokens w.json) old now new g.adds w.adds;
     begun = λ js. (let b = g.begun (item w.json js) in record {
       all = b.all;
-      tokens = ap (λ l. l ++ items_tokens js) w.adds.tokens ∙ append_assoc (output_tokens now) (json_tokens w.json) (items_tokens js) ∙ b.tokens;
+      tokens = append_assoc g.written (json_tokens w.json) (items_tokens js) ∙ b.tokens;
       numbers = λ h. b.numbers (w.numbers, h);
       nests = (let d = w.nests in let m = b.nests in omega (arith, d, m));
       count = (let c = b.count in omega (arith, c));
@@ -270,7 +274,7 @@ module _ (F : List ℕ → Option Form) (e : List ℕ) (size : ℕ) (all : List 
       let w : own ≡ tag l.width (pos n) ++ g.done = i.3 ∙ ap (λ k. tag l.width (pos k) ++ all) same ∙ ap (λ es. tag l.width (pos n) ++ es) (g.whole ∙ append-nil g.done) in
       record {
         json = array b.all;
-        adds = record { before = a.before ∙ g.before; tokens = a.tokens ∙ b.tokens };
+        adds = subst (λ ts. Adds ts old new) b.tokens (added g.written (token.end_array ∷ []) old now new g.adds a);
         numbers = b.numbers tt;
         nests = (let d = b.nests in omega (arith, d));
         says = λ ps bs r.
@@ -313,6 +317,12 @@ module _ (F : List ℕ → Option Form) (e : List ℕ) (k : Kind) (size : ℕ) (
       let t = split_front u.0 u.2 done more (sym u.3) (let a = f.0 in omega (arith, a, d, m)) in
       let c = ap (λ l. length l) t.1 ∙ length-append u.0 t.0 in
       peel n js t.0 more ps (omega arith) (let a = f.0 in omega (arith, a, c, d, m)) (subst (λ (l : List ℕ). HaveBytes F (list_parts e js ++ ps) l) t.2 (subst (λ (qs : List Part). HaveBytes F (qs ++ (list_parts e js ++ ps)) u.2) f.1 u.5))
+
+  -- where an element is in a list
+  pub piece_there : (own all rest piece after : List ℕ) (old now : Output) (w : Lengths) → IsListing F e size all rest old now → (i : IsListed w own all size) → rest ≡ piece ++ after → (front : List ℕ) × (own ≡ front ++ (piece ++ after))
+  piece_there own all rest piece after old now w g i r =
+      let first = tag w.width (pos i.0) in
+      (first ++ g.done, i.3 ∙ ap (λ l. first ++ l) (g.whole ∙ ap (λ l. g.done ++ l) r) ∙ sym (append_assoc first g.done (piece ++ after)))
 
   -- an element that no JSON says, in a list
   pub no_list : (x own all rest piece after : List ℕ) (old now : Output) (w : Lengths) → IsListing F e size all rest old now → HasKind F x (list w e) → TellsCount w → IsListed w own all size → rest ≡ piece ++ after → length piece ≡ size → 1 ≤ size → IsNoJson F e piece → IsNoJson F x own

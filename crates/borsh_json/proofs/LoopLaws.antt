@@ -1,9 +1,9 @@
 -- The reader's next part.
-use Rattle.std.proofs.Common.{◌≡◌, inl, inr, ℕ, suc, zero, ◌+◌, ◌-◌, ◌<◌, List, [], ◌∷◌, ◌++◌, length, map, Option, Some, None, refl, sym, ◌∙◌, ap, subst, arith, append_assoc, append-nil, length-append, string_bytes}
-use Rattle.std.specs.Prelude.{MatchOption, Result, Ok, Err, MatchResult, slice_get}
+use Rattle.std.proofs.Common.{◌≡◌, inl, inr, ℕ, suc, zero, ◌+◌, ◌-◌, ◌<◌, List, [], ◌∷◌, ◌++◌, length, map, false, Option, Some, None, refl, sym, ◌∙◌, ap, subst, arith, append_assoc, append-nil, length-append, string_bytes}
+use Rattle.std.specs.Prelude.{IsSome, MatchOption, Result, Ok, Err, MatchResult, slice_get}
 use Rattle.std.specs.Borrow.{Bor}
 use Rattle.std.specs.Str.{bytes_eq}
-use Rattle.std.specs.List.{IsDistinct}
+use Rattle.std.specs.List.{IsDistinct, list_any}
 use Rattle.json.specs.Token.{Token}
 use Rattle.json.specs.Json.{Json, object, Items, no_items, item, Members}
 use Rattle.json.specs.Find.{BeginsWith, get_member}
@@ -22,16 +22,17 @@ use Rattle.borsh_json.specs.declared.position.Part.{Part as FoundPart}
 use Rattle.borsh_json.specs.declared.position.Place.{Place}
 use Rattle.borsh_json.specs.declared.sources.Source.{Source}
 use Rattle.borsh_json.specs.Forms.{Form, form_of}
-use Rattle.borsh_json.specs.Frames.{DeniesRead, name_step, first_steps, last_steps, steps_at, Left, items_left, fields_left, entries_left, Wanted, IsWanted, IsObject, IsMapPlace, IsKey, HasItems, HasFields, HasEntries, NoneLeft, AreEntriesOf, HasLeft, SaysOn, IsPlaceOf, IsPlaceIn, AscendIn, IsDoing, SaysAll, IsNext, DeniesKey, IsNextEntry}
+use Rattle.borsh_json.specs.Frames.{FailsRead, name_step, first_steps, last_steps, steps_at, Left, items_left, fields_left, entries_left, Wanted, IsWanted, IsObject, IsMapPlace, IsKey, HasItems, HasFields, HasEntries, NoneLeft, IsLeft, AreEntriesOf, HasLeft, SaysOn, IsPlaceOf, IsPlaceIn, AscendIn, IsDoing, SaysAll, IsNext, DeniesKey, IsNextEntry}
 use Rattle.borsh_json.specs.InOrder.{field as field_step, place as place_step, element as element_step, AreSteps}
-use Rattle.borsh_json.specs.NoValue.{LacksField, HasOthers, Why}
+use Rattle.borsh_json.specs.NoValue.{SaysOwn, LacksField, HasOther}
 use Rattle.borsh_json.specs.Places.{IsAt, AreKeysOf}
-use Rattle.borsh_json.specs.Represents.{SaysFirst, HaveBytes, none_left, next_part, SaysSome}
-use Rattle.borsh_json.specs.Table.{Keys, Kind, inner, fields, HasKind, Part as JsonPart, row_parts, field_parts, Entry, entries_of, key_json, entry_parts, Says}
+use Rattle.borsh_json.specs.Represents.{SaysFirst, HaveBytes, none_left, next_part}
+use Rattle.borsh_json.specs.Table.{Keys, Kind, inner, fields, HasKind, Part as JsonPart, row_parts, field_parts, Entry, key_json, entry_parts, Says}
+use Rattle.borsh_json.proofs.EachLaws.{fields_only}
 use Rattle.borsh_json.proofs.InOrderLaws.{key_in_order}
-use Rattle.borsh_json.proofs.ReaderLaws.{uncons, object_one, fields_joined, fields_count}
+use Rattle.borsh_json.proofs.ReaderLaws.{object_one, fields_joined, fields_count}
 use Rattle.borsh_json.proofs.RepresentsLaws.{kind_one}
-use Rattle.borsh_json.proofs.StepLaws.{item_front, items_end, entries_end, fields_end, no_row, no_entries}
+use Rattle.borsh_json.proofs.StepLaws.{item_front, fields_end, left_there, items_left_none, entries_left_none, no_row, no_entries}
 
 -- a key that isn't that of an entry is of no map
 no_map : (p : Parts) (key : Key) (f : List ℕ) → ((es : FoundEntries) → key ≡ EntryOf es → ⊥) → IsKey p key f → IsMapPlace p → ⊥
@@ -158,11 +159,10 @@ module _ (F : List ℕ → Option Form) (ns : List Named) where
       let m = item_front y xs k js s.0 s.1 in
       (m.0, m.1, subst (λ (l : List JsonPart). Says F kind i own l) (ap (λ l. ds ++ l) m.2 ∙ sym (append_assoc ds ((y, k) ∷ []) m.0)) s.2)
 
-  fields_more : (kind : Kind) (i : Json) (own : List ℕ) (ds : List JsonPart) (f : Wanted) (fs : List Wanted) (ms : Members) (n m : ℕ) (k : Json) → get_member f.0 ms ≡ Some k → n ≡ suc m → SaysOn F ns kind i own ds (fields_left (f ∷ fs) ms n) → SaysOn F ns kind i own (ds ++ (f.1, k) ∷ []) (fields_left fs ms m)
-  fields_more kind i own ds f fs ms n m k g e s =
-      let gs = s.0 in
+  fields_more : (kind : Kind) (i : Json) (own : List ℕ) (ds : List JsonPart) (gs : List Wanted) (f : Wanted) (fs : List Wanted) (ms : Members) (n m : ℕ) (k : Json) → get_member f.0 ms ≡ Some k → n ≡ suc m → SaysOn F ns kind i own ds (fields_left gs (f ∷ fs) ms n) → SaysOn F ns kind i own (ds ++ (f.1, k) ∷ []) (fields_left (gs ++ f ∷ []) fs ms m)
+  fields_more kind i own ds gs f fs ms n m k g e s =
       let a = append_assoc gs (f ∷ []) fs in
-      (gs ++ f ∷ [], s.1 ∙ ap (λ l. fields l) (sym a), subst (λ (l : List Wanted). IsDistinct bytes_eq (map (λ (f : Wanted). f.0) l)) (sym a) s.2, s.3, s.4, fields_joined gs f ms k ds s.5 g, (let l = length-append gs (f ∷ []) in let t = s.6 in omega (arith, l, e, t)))
+      (s.0 ∙ ap (λ l. fields l) (sym a), subst (λ (l : List Wanted). IsDistinct bytes_eq (map (λ (f : Wanted). f.0) l)) (sym a) s.1, s.2, s.3, fields_joined gs f ms k ds s.4 g, (let l = length-append gs (f ∷ []) in let t = s.5 in omega (arith, l, e, t)))
 
   entries_more : (kind : Kind) (i : Json) (own : List ℕ) (ds : List JsonPart) (keys : Keys) (k v s : List ℕ) (j : Json) (es : List Entry) → SaysOn F ns kind i own ds (entries_left keys k v ((s, j) ∷ es)) → SaysOn F ns kind i own (ds ++ (k, key_json keys s) ∷ (v, j) ∷ []) (entries_left keys k v es)
   entries_more kind i own ds keys k v s j es h = subst (λ (l : List JsonPart). Says F kind i own l) (sym (append_assoc ds ((k, key_json keys s) ∷ (v, j) ∷ []) (entry_parts keys k v es))) h
@@ -204,49 +204,46 @@ module _ (F : List ℕ → Option Form) (ns : List Named) where
   says_all zero p x kind i own ds h s = subst (λ (k : Kind). Says F k i own ds) h.1 s
   says_all (suc d) p x kind i own ds h s = (kind, h.0, s)
 
-  -- an object with other members than its fields
-  too_many : (d : ℕ) (p : Place) (x : List ℕ) (kind : Kind) (i : Json) (ds : List JsonPart) (fs : List Wanted) (ms : Members) → kind ≡ fields fs → i ≡ object ms → (length (entries_of ms) ≡ length fs → ⊥) → IsPlaceIn F ns d p x kind i ds → HasOthers F x i
-  too_many zero p x kind i ds fs ms k o n h = let q : inner x ≡ fields fs = sym h.1 ∙ k in cc
-  too_many (suc d) p x kind i ds fs ms k o n h = (fs, ms, subst (λ (k : Kind). HasKind F x k) k h.0, o, n)
+  -- an object with a member that is no field
+  too_many : (d : ℕ) (p : Place) (x : List ℕ) (kind : Kind) (i : Json) (ds : List JsonPart) (fs : List Wanted) (ms : Members) (name : List ℕ) → kind ≡ fields fs → i ≡ object ms → IsSome (get_member name ms) → list_any (λ (f : Wanted). bytes_eq name f.0) fs ≡ false → IsPlaceIn F ns d p x kind i ds → HasOther F x i name
+  too_many zero p x kind i ds fs ms name k o g n h = let q : inner x ≡ fields fs = sym h.1 ∙ k in cc
+  too_many (suc d) p x kind i ds fs ms name k o g n h = (fs, ms, subst (λ (k : Kind). HasKind F x k) k h.0, o, g, n)
 
-  pub others_none : (x : List ℕ) (i : Json) → HasOthers F x i → SaysSome F x i → ⊥
-  others_none x i h s =
-      let u = uncons F s.1 in
-      let g = u.4 in
-      let v = subst (λ (k : Kind). Says F k i u.0 u.1) (kind_one F g.1 h.2) g.2 in
-      h.4 (ap (λ ms. length (entries_of ms)) (object_one i h.1 v.2 h.3 v.3) ∙ v.4)
+  pub other_none : (x : List ℕ) (i : Json) (name : List ℕ) → HasOther F x i name → SaysOwn F x i → ⊥
+  other_none x i name h s =
+      let g = s.2 in
+      let v = subst (λ (k : Kind). Says F k i s.0 s.1) (kind_one F g.1 h.2) g.2 in
+      fields_only h.0 v.2 s.1 v.0 v.4 v.5 name (subst (λ ms. IsSome (get_member name ms)) (object_one i h.1 v.2 h.3 v.3) h.4) h.5
 
 module _ (F : List ℕ → Option Form) (ns : List Named) (d : ℕ) (x : List ℕ) (i : Json) (own : List ℕ) (ds : List JsonPart) (kind : Kind) where
-  pub place_end : (p : Place) (s : Source) (l : Left) → ((ws : List Wanted) → IsWanted F ns p.parts p.begun ws → ws ≡ []) → HasLeft F ns p.parts p.begun s l → SaysOn F ns kind i own ds l → IsPlaceIn F ns d p x kind i ds → (NoneLeft s → SaysAll F ns d x i own ds) × ((NoneLeft s → ⊥) → HasOthers F x i)
+  pub place_end : (p : Place) (s : Source) (l : Left) → ((ws : List Wanted) → IsWanted F ns p.parts p.begun ws → ws ≡ []) → HasLeft F ns p.parts p.begun s l → SaysOn F ns kind i own ds l → IsPlaceIn F ns d p x kind i ds → (NoneLeft s → SaysAll F ns d x i own ds) × ((name : List ℕ) → IsLeft s name → HasOther F x i name)
   place_end p s (items_left xs js) w h says is =
       let e : xs ≡ [] = h.2 ∙ ap (λ l. map (λ (w : Wanted). w.1) l) (w h.0 h.1) in
       let q = no_row js says.0 (subst (λ (l : List (List ℕ)). row_parts l js ≡ Some says.0) e says.1) in
       let t = subst (λ (l : List JsonPart). Says F kind i own l) (ap (λ l. ds ++ l) q ∙ append-nil ds) says.2 in
-      (λ n. says_all F ns d p x kind i own ds is t, λ n. absurd (n (items_end s js h.3)))
-  place_end p s (fields_left fs ms n) w h says is =
+      (λ n. says_all F ns d p x kind i own ds is t, λ name l. absurd (items_left_none s js name h.3 l))
+  place_end p s (fields_left gs fs ms n) w h says is =
       let e : fs ≡ [] = w fs h.1 in
-      let q = fields_end s ms n (subst (λ (l : List Wanted). HasFields s l ms n) e h.2) in
-      let gs = says.0 in
       let a : gs ++ fs ≡ gs = ap (λ l. gs ++ l) e ∙ append-nil gs in
       let count : length (gs ++ fs) ≡ length gs = ap (λ (l : List Wanted). length l) a in
-      let t = says.6 in (
-        λ z. says_all F ns d p x kind i own ds is (subst (λ (k : Kind). Says F k i own ds) (sym says.1) (says.2, says.3, ms, says.4, (let m = q.0 z in omega (arith, m, t, count)), ap (λ (l : List Wanted). field_parts l ms) a ∙ says.5)),
-        λ z. too_many F ns d p x kind i ds (gs ++ fs) ms says.1 says.4 (λ m. z (q.1 (omega (arith, m, t, count)))) is,
+      let t = says.5 in (
+        λ z. says_all F ns d p x kind i own ds is (subst (λ (k : Kind). Says F k i own ds) (sym says.0) (says.1, says.2, ms, says.3, (let m = fields_end s gs ms n (subst (λ (l : List Wanted). HasFields s gs l ms n) e h.2) z in omega (arith, m, t, count)), ap (λ (l : List Wanted). field_parts l ms) a ∙ says.4)),
+        λ name l. let there = left_there s gs fs ms n name h.2 l in too_many F ns d p x kind i ds (gs ++ fs) ms name says.0 says.3 there.0 (subst (λ (l : List Wanted). list_any (λ (f : Wanted). bytes_eq name f.0) l ≡ false) (sym a) there.1) is,
       )
   place_end p s (entries_left keys k v es) w h says is =
       let e : es ≡ [] = no_entries es (ap (λ (l : List Wanted). length l) (sym (w h.0 h.1)) ∙ h.2) in
       let t = subst (λ (l : List JsonPart). Says F kind i own l) (ap (λ l. ds ++ entry_parts keys k v l) e ∙ append-nil ds) says in
-      (λ n. says_all F ns d p x kind i own ds is t, λ n. absurd (n (none_there p.parts h.3)))
+      (λ n. says_all F ns d p x kind i own ds is t, λ name l. absurd (none_there name l p.parts h.3))
     where
-      none_there : (q : Parts) → AreEntriesOf F ns q s keys k v es → NoneLeft s
-      none_there Root a = absurd a
-      none_there (Elements at n) a = absurd a
-      none_there (Row at n) a = absurd a
-      none_there (Object at fs) a = absurd a
-      none_there (MapEntries m n) a = entries_end m.key_kind s es a.3
-      none_there (Newtype at) a = absurd a
-      none_there (Present at) a = absurd a
-      none_there (Variant w at) a = absurd a
+      none_there : (name : List ℕ) → IsLeft s name → (q : Parts) → AreEntriesOf F ns q s keys k v es → ⊥
+      none_there name l Root a = a
+      none_there name l (Elements at n) a = a
+      none_there name l (Row at n) a = a
+      none_there name l (Object at fs) a = a
+      none_there name l (MapEntries m n) a = entries_left_none m.key_kind s es name a.3 l
+      none_there name l (Newtype at) a = a
+      none_there name l (Present at) a = a
+      none_there name l (Variant w at) a = a
 
   module _ (out : List ℕ) (p q : Place) (s t : Source) (part : FoundPart)
       (wanted : (ws : List Wanted) → IsWanted F ns p.parts p.begun ws → (w : Wanted) × (rest : List Wanted) × (ws ≡ w ∷ rest) × IsAt ns part.at w.1 × IsKey p.parts part.key w.0 × IsWanted F ns q.parts q.begun rest)
@@ -258,7 +255,7 @@ module _ (F : List ℕ → Option Form) (ns : List Named) (d : ℕ) (x : List �
     module _ (field : List ℕ) (name : (name : Bor (List ℕ)) → part.key ≡ Name name → field ≡ name.now) (single : (es : FoundEntries) → part.key ≡ EntryOf es → ⊥) where
       pub part_next : (o : Option (List Token)) (n : Next)
           → ((js : Items) → HasItems s js → MatchOption o (js ≡ no_items) (λ e. (i : Json) × (rest : Items) × (js ≡ item i rest) × BeginsWith e i × HasItems t rest))
-          → ((f : Wanted) (fs : List Wanted) (ms : Members) (c : ℕ) → HasFields s (f ∷ fs) ms c → field ≡ f.0 → MatchOption o (get_member f.0 ms ≡ None) (λ e. (i : Json) × (m : ℕ) × (get_member f.0 ms ≡ Some i) × BeginsWith e i × (c ≡ suc m) × HasFields t fs ms m))
+          → ((gs : List Wanted) (f : Wanted) (fs : List Wanted) (ms : Members) (c : ℕ) → HasFields s gs (f ∷ fs) ms c → field ≡ f.0 → MatchOption o (get_member f.0 ms ≡ None) (λ e. (i : Json) × (m : ℕ) × (get_member f.0 ms ≡ Some i) × BeginsWith e i × (c ≡ suc m) × HasFields t (gs ++ f ∷ []) fs ms m))
           → MatchOption o (n ≡ Missing) (λ e. n ≡ Part part.at e)
           → (l : Left) → HasLeft F ns p.parts p.begun s l → SaysOn F ns kind i own ds l → IsPlaceIn F ns d p x kind i ds → IsNext F ns orders d x i own ds q t out out n
       part_next None n of_items of_fields found (items_left xs js) h says is =
@@ -284,29 +281,29 @@ module _ (F : List ℕ → Option Form) (ns : List Named) (d : ℕ) (x : List �
             ascends = still_ascends;
           } in
           subst (λ (n : Next). IsNext F ns orders d x i own ds q t out out n) (sym found) ([], [], w.0.1, m.0, none_left, sym (append-nil out), w.3, m.3, doing, inl refl, tt)
-      part_next None n of_items of_fields found (fields_left fs ms c) h says is =
+      part_next None n of_items of_fields found (fields_left gs fs ms c) h says is =
           let w = wanted fs h.1 in
           let f = field_is p.parts part.key w.0.0 field name h.0 w.4 in
-          let g = of_fields w.0 w.1 ms c (subst (λ (l : List Wanted). HasFields s l ms c) w.2 h.2) f in
-          subst (λ (n : Next). IsNext F ns orders d x i own ds q t out out n) (sym found) (missing d w.0 w.1 ms c g h.0 (subst (λ (l : List Wanted). SaysOn F ns kind i own ds (fields_left l ms c)) w.2 says) is)
+          let g = of_fields gs w.0 w.1 ms c (subst (λ (l : List Wanted). HasFields s gs l ms c) w.2 h.2) f in
+          subst (λ (n : Next). IsNext F ns orders d x i own ds q t out out n) (sym found) (missing d w.0 w.1 g h.0 (subst (λ (l : List Wanted). SaysOn F ns kind i own ds (fields_left gs l ms c)) w.2 says) is)
         where
-          missing : (d : ℕ) (f : Wanted) (gs : List Wanted) (ms : Members) (c : ℕ) → get_member f.0 ms ≡ None → IsObject p.parts → SaysOn F ns kind i own ds (fields_left (f ∷ gs) ms c) → IsPlaceIn F ns d p x kind i ds → (name : List ℕ) × LacksField F x i name × (0 < d) × (steps_at q ≡ field_step name ∷ [])
-          missing zero f gs ms c g o says is = let e : inner x ≡ fields (says.0 ++ f ∷ gs) = sym is.1 ∙ says.1 in cc
-          missing (suc d) f gs ms c g o says is = (
+          missing : (d : ℕ) (f : Wanted) (fs : List Wanted) → get_member f.0 ms ≡ None → IsObject p.parts → SaysOn F ns kind i own ds (fields_left gs (f ∷ fs) ms c) → IsPlaceIn F ns d p x kind i ds → (name : List ℕ) × LacksField F x i name × (0 < d) × (steps_at q ≡ field_step name ∷ [])
+          missing zero f fs g o says is = let e : inner x ≡ fields (gs ++ f ∷ fs) = sym is.1 ∙ says.0 in cc
+          missing (suc d) f fs g o says is = (
             f.0,
-            (says.0 ++ f ∷ gs, length says.0, f, ms, subst (λ (k : Kind). HasKind F x k) says.1 is.0, get_behind says.0 f gs, refl, says.4, g),
+            (gs ++ f ∷ fs, length gs, f, ms, subst (λ (k : Kind). HasKind F x k) says.0 is.0, get_behind gs f fs, refl, says.3, g),
             omega arith,
-            subst (λ (r : Parts). first_steps r q.begun ++ last_steps r ≡ field_step f.0 ∷ []) (sym same) (missing_step F ns p.parts p.begun q.begun kind i ds says.0 f gs o begun (fields_count says.0 ms ds says.5) says.1 is.1),
+            subst (λ (r : Parts). first_steps r q.begun ++ last_steps r ≡ field_step f.0 ∷ []) (sym same) (missing_step F ns p.parts p.begun q.begun kind i ds gs f fs o begun (fields_count gs ms ds says.4) says.0 is.1),
           )
-      part_next (Some e) n of_items of_fields found (fields_left fs ms c) h says is =
+      part_next (Some e) n of_items of_fields found (fields_left gs fs ms c) h says is =
           let w = wanted fs h.1 in
           let f = field_is p.parts part.key w.0.0 field name h.0 w.4 in
-          let g = of_fields w.0 w.1 ms c (subst (λ (l : List Wanted). HasFields s l ms c) w.2 h.2) f in
+          let g = of_fields gs w.0 w.1 ms c (subst (λ (l : List Wanted). HasFields s gs l ms c) w.2 h.2) f in
           let doing : IsDoing F ns orders q t d x i own (ds ++ (w.0.1, g.0) ∷ []) = record {
-            left = fields_left w.1 ms g.1;
+            left = fields_left (gs ++ w.0 ∷ []) w.1 ms g.1;
             here = (subst IsObject (sym same) h.0, w.5, g.5);
             kind = kind;
-            says = fields_more F ns kind i own ds w.0 w.1 ms c g.1 g.0 g.2 g.4 (subst (λ (l : List Wanted). SaysOn F ns kind i own ds (fields_left l ms c)) w.2 says);
+            says = fields_more F ns kind i own ds gs w.0 w.1 ms c g.1 g.0 g.2 g.4 (subst (λ (l : List Wanted). SaysOn F ns kind i own ds (fields_left gs l ms c)) w.2 says);
             is_place = part_begun F ns d p q x kind i ds (w.0.1, g.0) same begun (object_or_map p.parts h.0) is;
             ascends = still_ascends;
           } in
@@ -318,17 +315,17 @@ module _ (F : List ℕ → Option Form) (ns : List Named) (d : ℕ) (x : List �
     -- the next entry of a map
     module _ (new : List ℕ) (m : FoundEntries) (key : part.key ≡ EntryOf m) where
       pub entry_next : (r : Result Next ReadError)
-          → ((keys : Keys) (k v : List ℕ) (es : List Entry) → IsAt ns m.value v → AreKeysOf F ns k (form_of m.key_definition.now) m.key_kind keys → HasEntries m.key_kind s es → MatchResult r (λ n. IsNextEntry F ns keys k v es m.key_kind t out new n) (λ e. (s : List ℕ) × (j : Json) × (rest : List Entry) × (es ≡ (s, j) ∷ rest) × DeniesRead (Why F k (key_json keys s)) e (SaysSome F k (key_json keys s))))
+          → ((keys : Keys) (k v : List ℕ) (es : List Entry) → IsAt ns m.value v → AreKeysOf F ns k (form_of m.key_definition.now) m.key_kind keys → HasEntries m.key_kind s es → MatchResult r (λ n. IsNextEntry F ns keys k v es m.key_kind t out new n) (λ e. (s : List ℕ) × (j : Json) × (rest : List Entry) × (es ≡ (s, j) ∷ rest) × FailsRead F k (key_json keys s) e))
           → (l : Left) → HasLeft F ns p.parts p.begun s l → SaysOn F ns kind i own ds l → IsPlaceIn F ns d p x kind i ds → MatchResult r (λ n. IsNext F ns orders d x i own ds q t out new n) (λ e. DeniesKey F ns d x i own ds q e)
       entry_next r g (items_left xs js) h says is = let w = wanted h.0 h.1 in absurd (h.6 (of_map p.parts part.key w.0.0 m key w.4))
-      entry_next r g (fields_left fs ms c) h says is = let w = wanted fs h.1 in absurd (object_or_map p.parts h.0 (of_map p.parts part.key w.0.0 m key w.4))
+      entry_next r g (fields_left gs fs ms c) h says is = let w = wanted fs h.1 in absurd (object_or_map p.parts h.0 (of_map p.parts part.key w.0.0 m key w.4))
       entry_next (Err e) g (entries_left keys k v es) h says is =
           let w = wanted h.0 h.1 in
           let z = entries_here F ns p.parts part.key w.0.0 m s keys k v es key w.4 h.3 in
           let a = g keys k v es z.1 z.2 z.3 in
           denied d a.0 a.1 a.2 (subst (λ (l : List Entry). SaysOn F ns kind i own ds (entries_left keys k v l)) a.3 says) is (of_map p.parts part.key w.0.0 m key w.4) a.4
         where
-          denied : (d : ℕ) (s : List ℕ) (j : Json) (rest : List Entry) → SaysOn F ns kind i own ds (entries_left keys k v ((s, j) ∷ rest)) → IsPlaceIn F ns d p x kind i ds → IsMapPlace p.parts → DeniesRead (Why F k (key_json keys s)) e (SaysSome F k (key_json keys s)) → DeniesKey F ns d x i own ds q e
+          denied : (d : ℕ) (s : List ℕ) (j : Json) (rest : List Entry) → SaysOn F ns kind i own ds (entries_left keys k v ((s, j) ∷ rest)) → IsPlaceIn F ns d p x kind i ds → IsMapPlace p.parts → FailsRead F k (key_json keys s) e → DeniesKey F ns d x i own ds q e
           denied zero s j rest says is m a = absurd (subst IsMapPlace is.0 m)
           denied (suc d) s j rest says is m a = (
             kind,

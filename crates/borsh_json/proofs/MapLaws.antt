@@ -1,5 +1,5 @@
 -- Maps whose values are objects.
-use Rattle.std.proofs.Common.{◌≡◌, ℕ, suc, zero, ◌+◌, ◌-◌, ◌≤◌, List, [], ◌∷◌, ◌++◌, inl, inr, length, replicate, false, Option, Some, None, refl, sym, ◌∙◌, ap, subst, arith, append-nil, append_assoc, length-append}
+use Rattle.std.proofs.Common.{◌≡◌, ◌⊎◌, ℕ, suc, zero, ◌+◌, ◌-◌, ◌≤◌, List, [], ◌∷◌, ◌++◌, inl, inr, length, replicate, false, Option, Some, None, refl, sym, ◌∙◌, ap, subst, arith, append-nil, append_assoc, length-append}
 use Rattle.std.specs.Prelude.{Ok, pos, nat_le}
 use Rattle.std.specs.Option.{option_cmp}
 use Rattle.std.specs.Borrow.{Bor}
@@ -28,7 +28,7 @@ use Rattle.borsh_json.specs.declared.position.Place.{Place}
 use Rattle.borsh_json.specs.declared.sources.Source.{Source}
 use Rattle.borsh_json.specs.declared.sources.Source.TheVariants.{Entries as InPlace, Texts, Ranks}
 use Rattle.borsh_json.specs.Forms.{Form, form_of}
-use Rattle.borsh_json.specs.Frames.{DeniesRead, Wanted, IsText, IsRank, AreKeyed, HasEntries, HaveOneEach, HaveNumbers, AreSorted, HasLeft, IsOpened, entries_left, IsUnexpected}
+use Rattle.borsh_json.specs.Frames.{ShowsRead, DeniesRead, FailsRead, Wanted, IsText, IsRank, AreKeyed, HasEntries, HaveOneEach, HasNoNumber, AreSorted, HasLeft, IsOpened, entries_left, IsKeyReason, IsUnexpected}
 use Rattle.borsh_json.specs.Places.{IsAt, AreKeysOf}
 use Rattle.borsh_json.specs.Represents.{HaveBytes, SaysSome}
 use Rattle.borsh_json.specs.Table.{Lengths, Keys, texts, numbers, whole, entries, HasKind, IsNumber, IsWhole, Part, Entry, entries_of, entry_parts, key_order, key_json, Says}
@@ -36,10 +36,10 @@ use Rattle.borsh_json.proofs.EachLaws.{sorted_each}
 use Rattle.borsh_json.proofs.KeyJson.{key_number, tells}
 use Rattle.borsh_json.proofs.MemberLaws.{keyed_length, sorted_keyed, text_cmp}
 use Rattle.borsh_json.proofs.NumberLaws.{ranks_compare}
-use Rattle.borsh_json.proofs.OpeningLaws.{no_ascent, framed, said, refuses_plain}
+use Rattle.borsh_json.proofs.OpeningLaws.{key_why, no_ascent, framed, said, shows_or, refuses_plain}
 use Rattle.borsh_json.proofs.ReaderLaws.{split, uncons}
 use Rattle.borsh_json.proofs.RepresentsLaws.{IsAmong, moved, kind_one, number_one}
-use Rattle.borsh_json.specs.NoValue.{Why}
+use Rattle.borsh_json.specs.NoValue.{SaysOwn, FailsHere}
 
 pub object_one : (j : Json) (ms ns : Members) → j ≡ object ms → j ≡ object ns → ms ≡ ns
 object_one j ms ns e f = let q : object ms ≡ object ns = sym e ∙ f in cc
@@ -130,12 +130,8 @@ rising_all j ms os ts us earlier n f i e v p =
 
 -- ---- what a map says
 module _ (F : List ℕ → Option Form) (ns : List Named) (x : List ℕ) (j : Json) (l : Lengths) (keys : Keys) (k v : List ℕ) (h : HasKind F x (entries l keys k v)) where
-  map_said : SaysSome F x j → (ms : Members) × (es : List Entry) × (cs : List ℕ) × (j ≡ object ms) × IsPermutation (entries_of ms) es × IsStrictlySortedBy (key_order keys) es × (l.least ≤ length es) × (length es ≤ l.greatest) × HaveBytes F (entry_parts keys k v es ++ []) cs
-  map_said s =
-      let u = uncons F s.1 in
-      let f = u.4 in
-      let q = subst (λ kind. Says F kind j u.0 u.1) (kind_one F f.1 h) f.2 in
-      (q.0, q.1, u.2, q.2, q.3, q.4, q.5.0, q.5.1, subst (λ (ps : List Part). HaveBytes F (ps ++ []) u.2) q.6 u.5)
+  map_said : SaysOwn F x j → (ms : Members) × (es : List Entry) × (j ≡ object ms) × IsPermutation (entries_of ms) es × IsStrictlySortedBy (key_order keys) es × (l.least ≤ length es) × (length es ≤ l.greatest)
+  map_said s = let q = (said F ns x j (entries l keys k v) h s).2 in (q.0, q.1, q.2, q.3, q.4, q.5.0, q.5.1)
 
   -- each key is said
   key_said : (e : Entry) (es : List Entry) (more : List Part) (cs : List ℕ) → HaveBytes F (entry_parts keys k v es ++ more) cs → IsAmong e es → SaysSome F k (key_json keys e.0)
@@ -147,20 +143,33 @@ module _ (F : List ℕ → Option Form) (ns : List Named) (x : List ℕ) (j : Js
       let t = split F b ((k, key_json keys d.0) ∷ (v, d.1) ∷ []) (entry_parts keys k v es ++ more) refl in
       key_said e es more t.1 t.3 i
 
-  pub texts_said : SaysSome F x j → (ms : Members) × (j ≡ object ms) × HaveOneEach (entries_of ms)
-  texts_said s = let t = map_said s in (t.0, t.3, sorted_each keys (entries_of t.0) t.1 t.4 t.5)
+  -- so the map says nothing if a key doesn't
+  key_none : (ms : Members) (xs : List Entry) (e : Entry) (ys : List Entry) → j ≡ object ms → entries_of ms ≡ xs ++ e ∷ ys → (SaysOwn F k (key_json keys e.0) → ⊥) → SaysSome F x j → ⊥
+  key_none ms xs e ys o a n s =
+      let u = uncons F s.1 in
+      let f = u.4 in
+      let q = subst (λ kind. Says F kind j u.0 u.1) (kind_one F f.1 h) f.2 in
+      let among = subst (λ (l : List Entry). IsAmong e l) (ap (λ ms. entries_of ms) (object_one j ms q.0 o q.2)) (subst (λ (l : List Entry). IsAmong e l) (sym a) (among_middle e xs ys)) in
+      let b = subst (λ (ps : List Part). HaveBytes F (ps ++ []) u.2) q.6 u.5 in
+      let w = uncons F (key_said e q.1 [] u.2 b (moved e (entries_of q.0) q.1 q.3 among)).1 in
+      n (w.0, w.1, w.4)
+
+  pub texts_said : SaysOwn F x j → (ms : Members) × (j ≡ object ms) × HaveOneEach (entries_of ms)
+  texts_said s = let t = map_said s in (t.0, t.2, sorted_each keys (entries_of t.0) t.1 t.3 t.4)
 
   module _ (n : Number) (q : keys ≡ numbers n.size) (w : HasKind F k (whole n.size n.is_signed n.is_non_zero)) where
-    number_said : (s : List ℕ) → SaysSome F k (key_json keys s) → (own : List ℕ) × IsWhole n.size n.is_signed n.is_non_zero s own
+    number_said : (s : List ℕ) → SaysOwn F k (key_json keys s) → (own : List ℕ) × IsWhole n.size n.is_signed n.is_non_zero s own
     number_said s d =
         let g = said F ns k (key_json keys s) (whole n.size n.is_signed n.is_non_zero) w d in
         let a : IsNumber n.size s (key_json keys s) = subst (λ (q : Keys). IsNumber n.size s (key_json q s)) (sym q) (key_number n.size s (nat_le n.size 8) (tells n.size) refl) in
         (g.0, subst (λ (s : List ℕ). IsWhole n.size n.is_signed n.is_non_zero s g.0) (number_one n.size g.2.0 s (key_json keys s) g.2.1 a) g.2.2)
 
-    pub numbers_said : SaysSome F x j → (ms : Members) × (j ≡ object ms) × HaveOneEach (entries_of ms) × HaveNumbers n (entries_of ms)
-    numbers_said s =
-        let t = map_said s in
-        (t.0, t.3, sorted_each keys (entries_of t.0) t.1 t.4 t.5, λ xs ys e z. number_said e.0 (key_said e t.1 [] t.2 t.8 (moved e (entries_of t.0) t.1 t.4 (subst (λ (l : List Entry). IsAmong e l) (sym z) (among_middle e xs ys)))))
+    pub numbers_fail : (e : ReadError) → ShowsRead (IsKeyReason j) e ((((ms : Members) × (j ≡ object ms) × HaveOneEach (entries_of ms)) → ⊥) ⊎ HasNoNumber n j) → FailsRead F x j e
+    numbers_fail e d = shows_or e (key_why F ns x j) fails (λ i z. z) d
+      where
+        fails : (((ms : Members) × (j ≡ object ms) × HaveOneEach (entries_of ms)) → ⊥) ⊎ HasNoNumber n j → FailsHere F x j
+        fails (inl g) = inl (λ s. g (texts_said s))
+        fails (inr g) = inr (l, keys, k, v, g.0, g.1, g.2, g.3, h, g.4, g.5, λ s. let o = number_said g.2.0 s in g.6 o.0 o.1)
 
   -- ---- its frame
   module _ (kind : KeyKind) (s : Source) (n : ℕ) (t : AreSorted keys kind j (s, n)) where
@@ -177,9 +186,14 @@ module _ (F : List ℕ → Option Form) (ns : List Named) (x : List ℕ) (j : Js
         let q : own ≡ tag l.width (pos n) = append-nil (tag l.width (pos (length es))) ∙ ap (λ i. tag l.width (pos i)) (sym z) in
         (own, o ∙ ap (λ y. old ++ y) (sym q), framed F ns orders x j place s (MapEntries m n) (entries l keys k v) own left p g h there (t.0, es, t.2, t.3, t.4, (omega (arith, z, low), omega (arith, z, high), refl), refl) (l, keys, k, v, refl, refl) (no_ascent F ns orders x j place (MapEntries m n) (λ z. absurd (let q = z.2 in cc)) none))
 
-    pub map_range : (e : ReadError) → DeniesRead IsUnexpected e ((l.least ≤ n) × (n ≤ l.greatest)) → DeniesRead (Why F x j) e (SaysSome F x j)
+    pub map_range : (e : ReadError) → DeniesRead IsUnexpected e ((l.least ≤ n) × (n ≤ l.greatest)) → FailsRead F x j e
     map_range e d = refuses_plain F ns x j e (λ y.
         let u = map_said y in
-        let q : length t.1 ≡ length u.1 = length_permutation (entries_of t.0) t.1 t.3 ∙ ap (λ ms. length (entries_of ms)) (object_one j t.0 u.0 t.2 u.3) ∙ sym (length_permutation (entries_of u.0) u.1 u.4) in
+        let q : length t.1 ≡ length u.1 = length_permutation (entries_of t.0) t.1 t.3 ∙ ap (λ ms. length (entries_of ms)) (object_one j t.0 u.0 t.2 u.2) ∙ sym (length_permutation (entries_of u.0) u.1 u.3) in
         let z = t.6 in
-        (let low = u.6 in omega (arith, q, z, low), let high = u.7 in omega (arith, q, z, high))) d
+        (let low = u.5 in omega (arith, q, z, low), let high = u.6 in omega (arith, q, z, high))) d
+
+-- JSON that fails itself says nothing
+pub fails_none : (F : List ℕ → Option Form) (ns : List Named) (x : List ℕ) (j : Json) → FailsHere F x j → SaysSome F x j → ⊥
+fails_none F ns x j (inl n) s = let u = uncons F s.1 in n (u.0, u.1, u.4)
+fails_none F ns x j (inr b) s = key_none F ns x j b.0 b.1 b.2 b.3 b.8 b.4 b.5 b.6 b.7 b.9 b.10 b.11 s

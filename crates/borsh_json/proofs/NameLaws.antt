@@ -17,7 +17,7 @@ use Rattle.borsh_json.specs.declared.kinds.Kind.{Kind as Found}
 use Rattle.borsh_json.specs.declared.kinds.Kind.TheVariants.{Number as NumberKind, Bool as Truth, Text, Bytes, Float, ByteList, Numbers, List as ElementList, Map as Entries, Row, Newtype, Object, Optional, Choice, Repeated}
 use Rattle.borsh_json.specs.declared.numbers.Number.{Number}
 use Rattle.borsh_json.specs.Forms.{Form, primitive, sequence, tuple, newtype, unnamed, named, choice, HasNoBytes, IsByte, IsOption, IsMap, shape_of_form, shapes}
-use Rattle.borsh_json.specs.Table.{Lengths, IsString, Keys, texts, numbers, Kind, truth, whole, float, float_size, utf8, byte_list, list, fields, variants, optional, entries, inner, DefinedKind, number_types, number_kind, primitive_kind, AreKeys, SequenceKind, a_text, some_bytes, an_object, some_elements, nullable, by_name, HasKind, IsNullable, MayBeNull, without_bytes, an_option, in_newtype, Says}
+use Rattle.borsh_json.specs.Table.{Lengths, IsString, Keys, texts, numbers, Kind, truth, whole, float, float_size, utf8, byte_list, list, fields, variants, optional, entries, inner, DefinedKind, number_types, number_kind, primitive_kind, AreKeys, SequenceKind, a_text, some_bytes, an_object, some_elements, nullable, by_name, HasKind, IsNullable, MayBeNull, without_bytes, an_option, in_newtype, Says, ComesTwice, HasEmptyElements, RepeatsName}
 use Rattle.borsh_json.specs.Ranks.{number_found}
 use Rattle.borsh_json.specs.Places.{IsAt, IsKindOf, IsListOf, IsUnsayable, lengths_of}
 use Rattle.borsh_json.specs.Found.{IsCollection, IsPrimitiveKind, IsRefusedList}
@@ -147,8 +147,8 @@ module _ (F : List ℕ → Option Form) where
     pub fields_kind : (fs : List (List ℕ × List ℕ)) → F x ≡ Some (named fs) → HasKind F x (fields fs)
     fields_kind fs e = inr (full, named fs, e, refl)
 
-    pub fields_repeated : (ns : List Named) (fs : List (List ℕ × List ℕ)) → F x ≡ Some (named fs) → (IsDistinct bytes_eq (map (λ f. f.0) fs) → ⊥) → IsUnsayable F ns x
-    fields_repeated ns fs e n kind j own ps k s = n (subst (λ k. Says F k j own ps) (kind_one F k (fields_kind fs e)) s).0
+    pub fields_repeated : (ns : List Named) (fs : List (List ℕ × List ℕ)) (name : List ℕ) → F x ≡ Some (named fs) → (IsDistinct bytes_eq (map (λ f. f.0) fs) → ⊥) → ComesTwice name (map (λ f. f.0) fs) → IsUnsayable F ns x × RepeatsName F x name
+    fields_repeated ns fs name e n t = ((λ kind j own ps k s. n (subst (λ k. Says F k j own ps) (kind_one F k (fields_kind fs e)) s).0), inl (fs, fields_kind fs e, t))
 
     pub newtype_kind : (p : List ℕ) → F x ≡ Some (newtype p) → HasKind F x (inner p)
     newtype_kind p e = inr (full, newtype p, e, refl)
@@ -159,8 +159,8 @@ module _ (F : List ℕ → Option Form) where
     pub variants_kind : (w : ℕ) (vs : List (ℤ × List ℕ × List ℕ)) → F x ≡ Some (choice w vs) → ((p : List ℕ) → IsNullable F x p → ⊥) → HasKind F x (variants w vs)
     variants_kind w vs e n = inr (full, choice w vs, e, by_name n)
 
-    pub variants_repeated : (ns : List Named) (w : ℕ) (vs : List (ℤ × List ℕ × List ℕ)) → F x ≡ Some (choice w vs) → ((p : List ℕ) → IsNullable F x p → ⊥) → (IsDistinct bytes_eq (map (λ v. v.1) vs) → ⊥) → IsUnsayable F ns x
-    variants_repeated ns w vs e o n kind j own ps k s = n (subst (λ k. Says F k j own ps) (kind_one F k (variants_kind w vs e o)) s).0
+    pub variants_repeated : (ns : List Named) (w : ℕ) (vs : List (ℤ × List ℕ × List ℕ)) (name : List ℕ) → F x ≡ Some (choice w vs) → ((p : List ℕ) → IsNullable F x p → ⊥) → (IsDistinct bytes_eq (map (λ v. v.1) vs) → ⊥) → ComesTwice name (map (λ v. v.1) vs) → IsUnsayable F ns x × RepeatsName F x name
+    variants_repeated ns w vs name e o n t = ((λ kind j own ps k s. n (subst (λ k. Says F k j own ps) (kind_one F k (variants_kind w vs e o)) s).0), inr (w, vs, variants_kind w vs e o, t))
 
     -- sequences
     module _ (w lo hi : ℕ) (e : List ℕ) (d : F x ≡ Some (sequence w lo hi e)) where
@@ -190,12 +190,15 @@ module _ (F : List ℕ → Option Form) where
       no_kind (inr n) kind (an_object {k = k} {keys = keys} m a) = keys_full k keys a (subst (λ k. HasNoBytes F k) (map_one F n.2 m).0 n.3)
       no_kind (inr n) kind (some_elements b m y k) = k n.0 n.1 n.2 n.3
 
-      pub refused : (ns : List Named) → (HasNoBytes F e) ⊎ ((k : List ℕ) × (v : List ℕ) × IsMap F x k v × HasNoBytes F k) → IsUnsayable F ns x
-      refused ns z kind j own ps (inl k) s = full k.0
-      refused ns z kind j own ps (inr k) s =
-          let g : Some k.1 ≡ Some (sequence w lo hi e) = sym k.2 ∙ d in
-          let q : k.1 ≡ sequence w lo hi e = cc in
-          no_kind z kind (subst (λ f. DefinedKind F x f kind) q k.3)
+      pub refused : (ns : List Named) → (HasNoBytes F e) ⊎ ((k : List ℕ) × (v : List ℕ) × IsMap F x k v × HasNoBytes F k) → IsUnsayable F ns x × HasEmptyElements F x
+      refused ns z = (unsaid, (w, lo, hi, e, d, z))
+        where
+          unsaid : IsUnsayable F ns x
+          unsaid kind j own ps (inl k) s = full k.0
+          unsaid kind j own ps (inr k) s =
+              let g : Some k.1 ≡ Some (sequence w lo hi e) = sym k.2 ∙ d in
+              let q : k.1 ≡ sequence w lo hi e = cc in
+              no_kind z kind (subst (λ f. DefinedKind F x f kind) q k.3)
 
   -- ---- names whose JSON may be null
   pub null_missing : (n : ℕ) (x : List ℕ) → F x ≡ None → MayBeNull F (suc n) x → ⊥
@@ -213,7 +216,7 @@ module _ (F : List ℕ → Option Form) where
   null_inner n x p e full o (an_option q r) = absurd (o q r)
   null_inner n x p e full o (in_newtype q g m) = let h : Some (newtype q) ≡ Some (newtype p) = sym g ∙ e in let i : q ≡ p = cc in subst (λ p. MayBeNull F n p) i m
 
-  pub refused_is : (ns : List Named) (x : List ℕ) (f : Form) (kind : Found) → IsRefusedList kind → IsUnsayable F ns x → IsKindOf F ns x f kind
+  pub refused_is : (ns : List Named) (x : List ℕ) (f : Form) (kind : Found) → IsRefusedList kind → IsUnsayable F ns x × HasEmptyElements F x → IsKindOf F ns x f kind
   refused_is ns x f kind r u = subst (λ k. IsKindOf F ns x f k) (sym r.1) (subst (λ b. IsListOf F ns x f r.0.at b) (sym r.2) u, λ n. (let t = r.2 in cc))
 
   -- elements that are packed are primitives, and others are not

@@ -14,7 +14,7 @@ use Rattle.std.specs.Str.Parse.{signed_digits_value}
 use Rattle.std.proofs.lemmas.Fmt.{decimal_digit, decimal_is_IsNumeral_wide}
 use Rattle.std.proofs.lemmas.Nat.{pow-add, pow_pos, div-add-mod', mod_below, mod-mul-add}
 use Rattle.std.proofs.Math.Nat.{pow-suc, pow-succ', pow-le-pow_right, div-lt_iff_lt-mul, div-div-eq-div-mul}
-use Rattle.borsh_walks.specs.Container.{tag, low_bytes}
+use Rattle.borsh_walks.specs.Container.{tag, little_endian}
 use Rattle.borsh_json.specs.Table.{InRange, IsWhole}
 use Rattle.borsh_json.specs.Ranks.{rank_of, HasRank}
 use Rattle.std.proofs.lemmas.Int.{ints, to_z-of_z}
@@ -45,20 +45,20 @@ at_is : (i x : ℕ) → byte_at i x ≡ x / 256 ^ i % 256
 at_is zero x = omega arith
 at_is (suc i) x = refl
 
-low_is : (i n x : ℕ) → bytes_low_first i n x ≡ low_bytes n (x / 256 ^ i)
+low_is : (i n x : ℕ) → bytes_low_first i n x ≡ little_endian n (x / 256 ^ i)
 low_is i zero x = refl
 low_is i (suc n) x =
     let e : x / 256 ^ suc i ≡ x / 256 ^ i / 256 = ap (λ k. x / k) (pow-suc 256 i) ∙ sym (div-div-eq-div-mul x (256 ^ i) 256) in
-    ap (λ b. b ∷ bytes_low_first (suc i) n x) (at_is i x) ∙ ap (λ l. x / 256 ^ i % 256 ∷ l) (low_is (suc i) n x ∙ ap (λ y. low_bytes n y) e)
+    ap (λ b. b ∷ bytes_low_first (suc i) n x) (at_is i x) ∙ ap (λ l. x / 256 ^ i % 256 ∷ l) (low_is (suc i) n x ∙ ap (λ y. little_endian n y) e)
 
-pub low_whole : (n x : ℕ) → bytes_low_first 0 n x ≡ low_bytes n x
-low_whole n x = low_is 0 n x ∙ ap (λ y. low_bytes n y) (let e : x / 256 ^ 0 ≡ x = omega arith in e)
+pub low_whole : (n x : ℕ) → bytes_low_first 0 n x ≡ little_endian n x
+low_whole n x = low_is 0 n x ∙ ap (λ y. little_endian n y) (let e : x / 256 ^ 0 ≡ x = omega arith in e)
 
-pub taken_low : (n x : ℕ) → n ≤ 16 → take n (to_le_bytes w128 x) ≡ low_bytes n x
+pub taken_low : (n x : ℕ) → n ≤ 16 → take n (to_le_bytes w128 x) ≡ little_endian n x
 taken_low n x h = take_low 0 16 n x h ∙ low_whole n x
 
 -- the bytes of a negative number are those of its complement
-complement : (n k m : ℕ) → n ≤ k → m < 256 ^ k → low_bytes n (256 ^ k - suc m) ≡ map (λ b. 255 - b) (low_bytes n m)
+complement : (n k m : ℕ) → n ≤ k → m < 256 ^ k → little_endian n (256 ^ k - suc m) ≡ map (λ b. 255 - b) (little_endian n m)
 complement zero k m h l = refl
 complement (suc n) zero m h l = absurd (omega arith)
 complement (suc n) (suc k) m h l =
@@ -66,25 +66,25 @@ complement (suc n) (suc k) m h l =
     let a : (256 ^ suc k - suc m) % 256 ≡ 255 - m % 256 = omega (arith, p) in
     let b : (256 ^ suc k - suc m) / 256 ≡ 256 ^ k - suc (m / 256) = omega (arith, p) in
     let r = complement n k (m / 256) (omega arith) (omega (arith, p)) in
-    ap (λ x. x ∷ low_bytes n ((256 ^ suc k - suc m) / 256)) a ∙ ap (λ l. (255 - m % 256) ∷ l) (ap (λ x. low_bytes n x) b ∙ r)
+    ap (λ x. x ∷ little_endian n ((256 ^ suc k - suc m) / 256)) a ∙ ap (λ l. (255 - m % 256) ∷ l) (ap (λ x. little_endian n x) b ∙ r)
 
 -- those of a number of at most 8 bytes, and above them zeros
-zeros : (k : ℕ) → low_bytes k 0 ≡ replicate k 0
+zeros : (k : ℕ) → little_endian k 0 ≡ replicate k 0
 zeros zero = refl
 zeros (suc k) = ap (λ l. 0 ∷ l) (zeros k)
 
-low_more : (j k n : ℕ) → n < 256 ^ j → low_bytes (j + k) n ≡ low_bytes j n ++ replicate k 0
-low_more zero k n h = let e : n ≡ 0 = omega arith in let z : zero + k ≡ k = omega arith in ap (λ i. low_bytes i n) z ∙ ap (λ m. low_bytes k m) e ∙ zeros k
+low_more : (j k n : ℕ) → n < 256 ^ j → little_endian (j + k) n ≡ little_endian j n ++ replicate k 0
+low_more zero k n h = let e : n ≡ 0 = omega arith in let z : zero + k ≡ k = omega arith in ap (λ i. little_endian i n) z ∙ ap (λ m. little_endian k m) e ∙ zeros k
 low_more (suc j) k n h =
     let p = pow-suc 256 j in
     let e : suc j + k ≡ suc (j + k) = omega arith in
-    ap (λ i. low_bytes i n) e ∙ ap (λ l. n % 256 ∷ l) (low_more j k (n / 256) (omega (arith, p)))
+    ap (λ i. little_endian i n) e ∙ ap (λ l. n % 256 ∷ l) (low_more j k (n / 256) (omega (arith, p)))
 
 nothing_after : (xs : List ℕ) → xs ++ [] ≡ xs
 nothing_after [] = refl
 nothing_after (x ∷ xs) = ap (λ l. x ∷ l) (nothing_after xs)
 
-taken : (w n : ℕ) → w ≤ 8 → take w (to_le_bytes w64 n) ≡ low_bytes w n
+taken : (w n : ℕ) → w ≤ 8 → take w (to_le_bytes w64 n) ≡ little_endian w n
 taken w n h = take_low 0 8 w n h ∙ low_whole w n
 
 pub count_bytes : (w n : ℕ) → n < 2 ^ 64 → take (min w 8) (to_le_bytes w64 n) ++ replicate (w - 8) 0 ≡ tag w (pos n)
@@ -92,7 +92,7 @@ count_bytes w n h = elim (cases_lt w 9) [
   | inl l ↦ (let a : min w 8 ≡ w = omega arith in let b : w - 8 ≡ 0 = omega arith in
       ap (λ i. take i (to_le_bytes w64 n) ++ replicate (w - 8) 0) a ∙ ap (λ i. take w (to_le_bytes w64 n) ++ replicate i 0) b ∙ nothing_after (take w (to_le_bytes w64 n)) ∙ taken w n (omega arith))
   | inr l ↦ (let a : min w 8 ≡ 8 = omega arith in let b : 8 + (w - 8) ≡ w = omega arith in
-      ap (λ i. take i (to_le_bytes w64 n) ++ replicate (w - 8) 0) a ∙ ap (λ l. l ++ replicate (w - 8) 0) (taken 8 n (omega arith)) ∙ sym (low_more 8 (w - 8) n (omega arith)) ∙ ap (λ i. low_bytes i n) b)
+      ap (λ i. take i (to_le_bytes w64 n) ++ replicate (w - 8) 0) a ∙ ap (λ l. l ++ replicate (w - 8) 0) (taken 8 n (omega arith)) ∙ sym (low_more 8 (w - 8) n (omega arith)) ∙ ap (λ i. little_endian i n) b)
 ]
 
 -- bytes that were put, and what they are
@@ -114,7 +114,7 @@ tag_bytes w m h = elim (cases_lt w 9) [
       ap (λ i. take i (to_le_bytes w64 (2 ^ 64 - suc m)) ++ replicate (w - 8) 255) a ∙ ap (λ i. take w (to_le_bytes w64 (2 ^ 64 - suc m)) ++ replicate i 255) b ∙ nothing_after (take w (to_le_bytes w64 (2 ^ 64 - suc m))) ∙ taken w (2 ^ 64 - suc m) (omega arith) ∙ complement w 8 m (omega arith) (omega arith))
   | inr l ↦ (let a : min w 8 ≡ 8 = omega arith in let b : 8 + (w - 8) ≡ w = omega arith in
       ap (λ i. take i (to_le_bytes w64 (2 ^ 64 - suc m)) ++ replicate (w - 8) 255) a ∙ ap (λ l. l ++ replicate (w - 8) 255) (taken 8 (2 ^ 64 - suc m) (omega arith) ∙ complement 8 8 m (omega arith) (omega arith))
-      ∙ ap (λ l. map (λ b. 255 - b) (low_bytes 8 m) ++ l) (sym (ones (w - 8))) ∙ sym (map_both (low_bytes 8 m) (replicate (w - 8) 0)) ∙ ap (λ l. map (λ b. 255 - b) l) (sym (low_more 8 (w - 8) m (omega arith)) ∙ ap (λ i. low_bytes i m) b))
+      ∙ ap (λ l. map (λ b. 255 - b) (little_endian 8 m) ++ l) (sym (ones (w - 8))) ∙ sym (map_both (little_endian 8 m) (replicate (w - 8) 0)) ∙ ap (λ l. map (λ b. 255 - b) l) (sym (low_more 8 (w - 8) m (omega arith)) ∙ ap (λ i. little_endian i m) b))
 ]
 
 abbrev pub fill_of : ℤ → ℕ
@@ -159,16 +159,16 @@ pub rank_bytes : (n : ℕ) (signed : Bool) (z : ℤ) (r turned : ℕ) → n ≤ 
 rank_bytes n false (pos m) r turned h i e t =
     let p = power_most n h in
     let q : (r + turned) % 2 ^ 128 ≡ m = omega (arith, p) in
-    taken_low n ((r + turned) % 2 ^ 128) h ∙ ap (λ x. low_bytes n x) q
+    taken_low n ((r + turned) % 2 ^ 128) h ∙ ap (λ x. little_endian n x) q
 rank_bytes n false (negsuc m) r turned h i e t = absurd i
 rank_bytes n true (pos m) r turned h i e t =
     let p = power_most n h in
     let q : (r + turned) % 2 ^ 128 ≡ m = omega (arith, p) in
-    taken_low n ((r + turned) % 2 ^ 128) h ∙ ap (λ x. low_bytes n x) q
+    taken_low n ((r + turned) % 2 ^ 128) h ∙ ap (λ x. little_endian n x) q
 rank_bytes n true (negsuc m) r turned h i e t =
     let p = power_most n h in
     let q : (r + turned) % 2 ^ 128 ≡ 256 ^ 16 - suc m = omega (arith, p) in
-    taken_low n ((r + turned) % 2 ^ 128) h ∙ ap (λ x. low_bytes n x) q ∙ complement n 16 m h (omega (arith, p))
+    taken_low n ((r + turned) % 2 ^ 128) h ∙ ap (λ x. little_endian n x) q ∙ complement n 16 m h (omega (arith, p))
 
 -- ---- what a text is, by its number
 module _ (n : ℕ) (signed non_zero : Bool) (s : List ℕ) (small : n ≤ 16) where

@@ -9,7 +9,7 @@ use Rattle.borsh_json.specs.declared.definitions.Known.{Known}
 use Rattle.borsh_json.specs.declared.error.ReadError.{ReadError}
 use Rattle.borsh_json.specs.declared.error.ReadError.TheVariants.{OutOfMemory, Refused, Descends as DescendsAt}
 use Rattle.borsh_json.specs.declared.error.Refusal.{Refusal}
-use Rattle.borsh_json.specs.declared.error.Refusal.TheVariants.{TooDeep, RepeatedName, EmptyElements, NotBool, NotUtf8, Zero, NotNumber, Descends, OtherNodes, Expected, MissingField, UnknownName, RepeatedKey, Undefined}
+use Rattle.borsh_json.specs.declared.error.Refusal.TheVariants.{TooDeep, RepeatedName, EmptyElements, NotBool, NotUtf8, Zero, NotNumber, Descends, Expected, MissingField, UnknownName, RepeatedKey, Undefined}
 use Rattle.borsh_json.specs.declared.opening.Frame.{Frame}
 use Rattle.borsh_json.specs.declared.order.Ascent.{Ascent}
 use Rattle.borsh_json.specs.declared.position.Parts.{Parts}
@@ -17,13 +17,12 @@ use Rattle.borsh_json.specs.declared.position.Place.{Place}
 use Rattle.borsh_json.specs.declared.sources.Source.{Source}
 use Rattle.borsh_json.specs.declared.sources.Source.TheVariants.{One}
 use Rattle.borsh_json.specs.Forms.{Form}
-use Rattle.borsh_json.specs.Frames.{DeniesRead, Left, items_left, IsExpected, SaysOn, IsPlaceOf, AscendIn, IsUnbegun, IsFound, IsOpened, IsOpenedOrFalls, HasLeft, IsWanted, IsListPlace, IsMapPlace, Wanted, DeniesOr, IsUnexpected, IsKeyReason}
+use Rattle.borsh_json.specs.Frames.{ShowsOr, ShowsRead, DeniesRead, FailsRead, Left, items_left, IsExpected, SaysOn, IsPlaceOf, AscendIn, IsUnbegun, IsFound, IsOpened, IsOpenedOrFalls, HasLeft, IsWanted, IsListPlace, IsMapPlace, Wanted, DeniesOr, IsUnexpected, IsKeyReason}
 use Rattle.borsh_json.specs.InOrder.{DigitsFall, ItemsFall}
-use Rattle.borsh_json.specs.NoValue.{Why}
-use Rattle.borsh_json.specs.Represents.{SaysFirst, SaysSome}
+use Rattle.borsh_json.specs.NoValue.{SaysOwn, FailsHere, Why}
 use Rattle.borsh_json.specs.Table.{Lengths, Kind, byte_list, HasKind, Part, row_parts, list_parts, IsVariant, this, that, Says}
 use Rattle.borsh_json.proofs.FrameLaws.{drop_at}
-use Rattle.borsh_json.proofs.ReaderLaws.{mapped, uncons}
+use Rattle.borsh_json.proofs.ReaderLaws.{mapped}
 use Rattle.borsh_json.proofs.RepresentsLaws.{kind_one}
 use Rattle.borsh_json.proofs.StepLaws.{item_back}
 use Rattle.std.specs.Global.{Global}
@@ -62,17 +61,20 @@ number_is (array js) s e = cc
 number_is (object ms) s e = cc
 
 -- ---- errors
-pub denies_or : {D E : ℕ → Type 0} {Reason Other : Refusal → Type 0} (e : ReadError) {P Q : Type 0} → ((r : Refusal) → Reason r → Other r) → (Q → P) → ((i : ℕ) → D i → E i) → DeniesOr D Reason e P → DeniesOr E Other e Q
-denies_or OutOfMemory w f g d = tt
-denies_or (Refused r) w f g d = (w r d.0, λ q. d.1 (f q))
-denies_or (DescendsAt i) w f g d = g i d
+pub shows_or : {D E : ℕ → Type 0} {Reason Other : Refusal → Type 0} (e : ReadError) {P Q : Type 0} → ((r : Refusal) → Reason r → Other r) → (P → Q) → ((i : ℕ) → D i → E i) → ShowsOr D Reason e P → ShowsOr E Other e Q
+shows_or OutOfMemory w f g d = tt
+shows_or (Refused r) w f g d = (w r d.0, f d.1)
+shows_or (DescendsAt i) w f g d = g i d
+
+pub shows_expected : (Reason : Refusal → Type 0) → ((wanted : String Global) → Reason (Expected wanted)) → (e : ReadError) {P : Type 0} → IsExpected e → P → ShowsRead Reason e P
+shows_expected Reason w e {P} (inl i) d = subst (λ (e : ReadError). ShowsRead Reason e P) (sym i) tt
+shows_expected Reason w e {P} (inr i) d = subst (λ (e : ReadError). ShowsRead Reason e P) (sym i.1) (w i.0, d)
 
 pub denies_read : (Reason : Refusal → Type 0) (e : ReadError) {P Q : Type 0} → (Q → P) → DeniesRead Reason e P → DeniesRead Reason e Q
-denies_read Reason e f d = denies_or e (λ r w. w) f (λ i z. z) d
+denies_read Reason e {P} f d = shows_or e (λ r w. w) (λ (n : P → ⊥) q. n (f q)) (λ i z. z) d
 
 pub denies_expected : (Reason : Refusal → Type 0) → ((wanted : String Global) → Reason (Expected wanted)) → (e : ReadError) {P : Type 0} → IsExpected e → (P → ⊥) → DeniesRead Reason e P
-denies_expected Reason w e {P} (inl i) d = subst (λ (e : ReadError). DeniesRead Reason e P) (sym i) tt
-denies_expected Reason w e {P} (inr i) d = subst (λ (e : ReadError). DeniesRead Reason e P) (sym i.1) (w i.0, d)
+denies_expected Reason w e i d = shows_expected Reason w e i d
 
 -- what is denied of JSON of a name
 module _ (F : List ℕ → Option Form) (ns : List Named) (x : List ℕ) (j : Json) where
@@ -85,14 +87,13 @@ module _ (F : List ℕ → Option Form) (ns : List Named) (x : List ℕ) (j : Js
   plain_why Zero p = absurd p
   plain_why NotNumber p = absurd p
   plain_why Descends p = absurd p
-  plain_why OtherNodes p = tt
   plain_why (Expected wanted) p = tt
   plain_why MissingField p = absurd p
   plain_why (UnknownName name) p = absurd p
   plain_why (RepeatedKey name) p = absurd p
   plain_why (Undefined name) p = absurd p
 
-  key_why : (r : Refusal) → IsKeyReason j r → Why F x j r
+  pub key_why : (r : Refusal) → IsKeyReason j r → Why F x j r
   key_why TooDeep p = absurd p
   key_why (RepeatedName name) p = absurd p
   key_why EmptyElements p = absurd p
@@ -101,38 +102,31 @@ module _ (F : List ℕ → Option Form) (ns : List Named) (x : List ℕ) (j : Js
   key_why Zero p = absurd p
   key_why NotNumber p = absurd p
   key_why Descends p = absurd p
-  key_why OtherNodes p = absurd p
   key_why (Expected wanted) p = tt
   key_why MissingField p = absurd p
   key_why (UnknownName name) p = absurd p
   key_why (RepeatedKey name) p = p
   key_why (Undefined name) p = absurd p
 
-  pub refuses_plain : (e : ReadError) {P : Type 0} → (SaysSome F x j → P) → DeniesRead IsUnexpected e P → DeniesRead (Why F x j) e (SaysSome F x j)
-  refuses_plain e f d = denies_or e plain_why f (λ i z. z) d
+  pub refuses_or : {D E : ℕ → Type 0} (e : ReadError) {P : Type 0} → (SaysOwn F x j → P) → ((i : ℕ) → D i → E i) → DeniesOr D IsUnexpected e P → ShowsOr E (Why F x j) e (FailsHere F x j)
+  refuses_or e {P} f g d = shows_or e plain_why (λ (n : P → ⊥). inl (λ s. n (f s))) g d
 
-  pub refuses_keys : (e : ReadError) {P : Type 0} → (SaysSome F x j → P) → DeniesRead (IsKeyReason j) e P → DeniesRead (Why F x j) e (SaysSome F x j)
-  refuses_keys e f d = denies_or e key_why f (λ i z. z) d
+  pub refuses_plain : (e : ReadError) {P : Type 0} → (SaysOwn F x j → P) → DeniesRead IsUnexpected e P → FailsRead F x j e
+  refuses_plain e f d = refuses_or e f (λ i z. z) d
 
-  pub refuses_expected : (e : ReadError) → IsExpected e → (SaysSome F x j → ⊥) → DeniesRead (Why F x j) e (SaysSome F x j)
-  refuses_expected e i d = denies_expected (Why F x j) (λ w. tt) e i d
+  pub refuses_keys : (e : ReadError) {P : Type 0} → (SaysOwn F x j → P) → DeniesRead (IsKeyReason j) e P → FailsRead F x j e
+  refuses_keys e {P} f d = shows_or e key_why (λ (n : P → ⊥). inl (λ s. n (f s))) (λ i z. z) d
+
+  pub refuses_expected : (e : ReadError) → IsExpected e → (SaysOwn F x j → ⊥) → FailsRead F x j e
+  refuses_expected e i d = shows_expected (Why F x j) (λ w. tt) e i (inl d)
 
 module _ (F : List ℕ → Option Form) (ns : List Named) (x : List ℕ) (j : Json) where
   -- JSON of which nothing is said by its kind
-  pub denied : (kind : Kind) → HasKind F x kind → ((own : List ℕ) (ps : List Part) → Says F kind j own ps → ⊥) → SaysSome F x j → ⊥
-  denied kind h d s =
-      let u = uncons F s.1 in
-      let f = u.4 in
-      d u.0 u.1 (subst (λ k. Says F k j u.0 u.1) (kind_one F f.1 h) f.2)
+  pub denied : (kind : Kind) → HasKind F x kind → ((own : List ℕ) (ps : List Part) → Says F kind j own ps → ⊥) → SaysOwn F x j → ⊥
+  denied kind h d s = let f = s.2 in d s.0 s.1 (subst (λ k. Says F k j s.0 s.1) (kind_one F f.1 h) f.2)
 
-  pub said : (kind : Kind) → HasKind F x kind → SaysSome F x j → (own : List ℕ) × (ps : List Part) × Says F kind j own ps
-  said kind h s =
-      let u = uncons F s.1 in
-      let f = u.4 in
-      (u.0, u.1, subst (λ k. Says F k j u.0 u.1) (kind_one F f.1 h) f.2)
-
-  pub unsaid : ((own : List ℕ) (ps : List Part) → SaysFirst F x j own ps → ⊥) → SaysSome F x j → ⊥
-  unsaid d s = let u = uncons F s.1 in d u.0 u.1 u.4
+  pub said : (kind : Kind) → HasKind F x kind → SaysOwn F x j → (own : List ℕ) × (ps : List Part) × Says F kind j own ps
+  said kind h s = let f = s.2 in (s.0, s.1, subst (λ k. Says F k j s.0 s.1) (kind_one F f.1 h) f.2)
 
 module _ (F : List ℕ → Option Form) (ns : List Named) (orders : List Known) (x : List ℕ) (j : Json) where
   -- the frame of a place whose value was opened

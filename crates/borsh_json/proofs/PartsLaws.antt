@@ -1,6 +1,6 @@
 -- Rows, lists, objects and variants that are opened.
 use Rattle.std.proofs.Common.{◌≡◌, inl, inr, ℕ, suc, zero, ◌≤◌, List, [], ◌∷◌, ◌++◌, length, map, replicate, Bool, true, false, Option, Some, None, refl, sym, ◌∙◌, ap, subst, arith, append-nil, string_bytes}
-use Rattle.std.specs.Prelude.{Ok, String, Vec, ℤ, pos, slice_get, ◌-◌, ◌&&◌, ◌==◌, if◌then◌else◌, codes}
+use Rattle.std.specs.Prelude.{IsSome, Ok, String, Vec, ℤ, pos, slice_get, ◌-◌, ◌&&◌, ◌==◌, if◌then◌else◌, codes}
 use Rattle.std.specs.Borrow.{Bor}
 use Rattle.std.specs.Global.{Global}
 use Rattle.std.specs.BTreeMap.{BTreeMap}
@@ -20,12 +20,10 @@ use Rattle.borsh_json.specs.declared.position.Place.{Place}
 use Rattle.borsh_json.specs.declared.sources.Source.{Source}
 use Rattle.borsh_json.specs.declared.sources.Source.TheVariants.{Items as TheItems}
 use Rattle.borsh_json.specs.Forms.{Form, primitive, sequence, tuple, newtype, unnamed, named, choice, shape_of_form, HasNoBytes}
-use Rattle.borsh_json.specs.Frames.{DeniesRead, Wanted, AreFound, HasFields, HasLeft, AscendIn, IsUnbegun, IsOpened, NamesVariant, items_left, fields_left, IsListKind, IsUnexpected}
-use Rattle.borsh_json.specs.NoValue.{Why, NamesNoVariant}
+use Rattle.borsh_json.specs.Frames.{DeniesRead, FailsRead, Wanted, AreFound, AreOthers, HasFields, HasLeft, AscendIn, IsUnbegun, IsOpened, NamesVariant, items_left, fields_left, IsListKind, IsUnexpected}
+use Rattle.borsh_json.specs.NoValue.{SaysOwn, NamesNoVariant}
 use Rattle.borsh_json.specs.Places.{IsAt, IsUnsayable}
-use Rattle.borsh_json.specs.Represents.{SaysSome}
 use Rattle.borsh_json.specs.Table.{Lengths, Kind, truth, whole, float, byte_list, row, inner, fields, variants, number_types, number_kind, primitive_kind, a_text, some_bytes, an_object, some_elements, nullable, by_name, DefinedKind, HasKind, Part, row_parts, list_parts, entries_of, IsVariant, IsHex, IsPrefixed, IsArray, Says}
-use Rattle.borsh_json.proofs.ReaderLaws.{uncons}
 use Rattle.borsh_json.proofs.RepresentsLaws.{variant_one}
 use Rattle.borsh_json.proofs.OpeningLaws.{no_ascent, denied, said, framed, row_fits, rows_there, list_row, list_length, second_map, second_copies, refuses_plain}
 
@@ -37,8 +35,8 @@ object_one ms ns e = cc
 
 module _ (F : List ℕ → Option Form) (ns : List Named) (x : List ℕ) (j : Json) where
   -- nothing is said of the name
-  pub unsayable : IsUnsayable F ns x → SaysSome F x j → ⊥
-  unsayable h s = let u = uncons F s.1 in let f = u.4 in h f.0 j u.0 u.1 f.1 f.2
+  pub unsayable : IsUnsayable F ns x → SaysOwn F x j → ⊥
+  unsayable h s = let f = s.2 in h f.0 j s.0 s.1 f.1 f.2
 
   -- ---- rows
   module _ (f : Form) (at n : ℕ) (i : IsAt ns at x) (d : F x ≡ Some f) (h : HasKind F x (row (references (shape_of_form f)))) (c : length (references (shape_of_form f)) ≡ n) where
@@ -51,12 +49,12 @@ module _ (F : List ℕ → Option Form) (ns : List Named) (x : List ℕ) (j : Js
         let there : HasLeft F ns (Row at n) 0 (TheItems ts) left = (map nameless refs, (x, f, i, d, c, refl), sym (second_map refs), t, r.0, r.1, λ z. z) in
         ([], refl, framed F ns orders x j place (TheItems ts) (Row at n) (row refs) [] left p b h there (r.0, r.1, (refl, js, e, r.1)) (refs, refl, refl) (no_ascent F ns orders x j place (Row at n) (λ z. absurd (let q = z.2 in cc)) a))
 
-    pub row_count : (js : Items) (k : ℕ) → j ≡ array js → k ≡ length (list_parts [] js) → (k ≡ n → ⊥) → SaysSome F x j → ⊥
+    pub row_count : (js : Items) (k : ℕ) → j ≡ array js → k ≡ length (list_parts [] js) → (k ≡ n → ⊥) → SaysOwn F x j → ⊥
     row_count js k e l q = denied F ns x j (row (references (shape_of_form f))) h (λ own ps s.
         let o = array_one s.1 js (sym s.2 ∙ e) in
         q (l ∙ ap (λ js. length (list_parts [] js)) (sym o) ∙ row_fits (references (shape_of_form f)) s.1 ps s.3 ∙ c))
 
-    pub no_row : as_array j ≡ None → SaysSome F x j → ⊥
+    pub no_row : as_array j ≡ None → SaysOwn F x j → ⊥
     no_row e = denied F ns x j (row (references (shape_of_form f))) h (λ own ps s. let g = ap as_array s.2 in cc)
 
   -- ---- lists
@@ -75,10 +73,10 @@ module _ (F : List ℕ → Option Form) (ns : List Named) (x : List ℕ) (j : Js
         let q : own ≡ tag l.width (pos n) = append-nil (tag l.width (pos (length ps))) ∙ ap (λ m. tag l.width (pos m)) k in
         (own, o ∙ ap (λ z. old ++ z) (sym q), framed F ns orders x j place (TheItems ts) (Elements at n) kind own left p b h there (ps, r, to own ps (js, g, refl, (omega (arith, k, low), omega (arith, k, high), refl))) (is, refl, (js, g)) a)
 
-    pub no_list : as_array j ≡ None → SaysSome F x j → ⊥
+    pub no_list : as_array j ≡ None → SaysOwn F x j → ⊥
     no_list g = denied F ns x j kind h (λ own ps s. let q = back own ps s in let k = ap as_array q.1 in cc)
 
-    pub list_range : (error : ReadError) (js : Items) (n : ℕ) → j ≡ array js → n ≡ length (list_parts [] js) → DeniesRead IsUnexpected error ((l.least ≤ n) × (n ≤ l.greatest)) → DeniesRead (Why F x j) error (SaysSome F x j)
+    pub list_range : (error : ReadError) (js : Items) (n : ℕ) → j ≡ array js → n ≡ length (list_parts [] js) → DeniesRead IsUnexpected error ((l.least ≤ n) × (n ≤ l.greatest)) → FailsRead F x j error
     list_range error js n g c d = refuses_plain F ns x j error (λ s.
         let t = said F ns x j kind h s in
         let q = back t.0 t.1 t.2 in
@@ -126,19 +124,27 @@ pub all_found : (m : BTreeMap (Bor (List ℕ)) (List Token)) (fs : List Wanted) 
 all_found m [] ms h = tt
 all_found m (f ∷ fs) ms h = (h f.0, all_found m fs ms h)
 
+-- and finds no others
+others_if : (o : Option (List Token)) (p : Option Json) → Finds o p → IsSome o → IsSome p
+others_if None p f s = absurd cc
+others_if (Some t) p f s = subst (λ (p : Option Json). IsSome p) (sym f.1) refl
+
+pub all_others : (m : BTreeMap (Bor (List ℕ)) (List Token)) (ms : Members) → ((name : List ℕ) → Finds (mark_of m name) (get_member name ms)) → AreOthers m [] ms
+all_others m ms h = λ name s. (others_if (mark_of m name) (get_member name ms) (h name) s, refl)
+
 pub names_of : {A : Type 0} (a b : A → List ℕ) (xs : List A) → map (λ (f : Wanted). f.0) (map (λ x. (a x, b x)) xs) ≡ map a xs
 names_of a b [] = refl
 names_of a b (x ∷ xs) = ap (λ l. a x ∷ l) (names_of a b xs)
 
 module _ (F : List ℕ → Option Form) (ns : List Named) (x : List ℕ) (j : Json) (at : ℕ) (fs : Bor (Vec (String Global × String Global) Global)) (i : IsAt ns at x) where
-  pub object_opened : (orders : List Known) (place : Place) (s : Source) (ms : Members) (n : ℕ) → HasKind F x (fields (map (λ f. (string_bytes f.0, string_bytes f.1)) fs.now.items)) → IsDistinct bytes_eq (map (λ f. string_bytes f.0) fs.now.items) → place.parts ≡ Object at fs → place.begun ≡ 0 → j ≡ object ms → n ≡ length (entries_of ms) → HasFields s (map (λ f. (string_bytes f.0, string_bytes f.1)) fs.now.items) ms n → place.ascent ≡ None → IsOpened F ns orders x j [] [] (Ok (Some (record { place = place; source = s })))
+  pub object_opened : (orders : List Known) (place : Place) (s : Source) (ms : Members) (n : ℕ) → HasKind F x (fields (map (λ f. (string_bytes f.0, string_bytes f.1)) fs.now.items)) → IsDistinct bytes_eq (map (λ f. string_bytes f.0) fs.now.items) → place.parts ≡ Object at fs → place.begun ≡ 0 → j ≡ object ms → n ≡ length (entries_of ms) → HasFields s [] (map (λ f. (string_bytes f.0, string_bytes f.1)) fs.now.items) ms n → place.ascent ≡ None → IsOpened F ns orders x j [] [] (Ok (Some (record { place = place; source = s })))
   object_opened orders place s ms n h u p b e c g a =
       let pair : String Global × String Global → Wanted = λ f. (string_bytes f.0, string_bytes f.1) in
       let all = map pair fs.now.items in
       let d = subst (λ (l : List (List ℕ)). IsDistinct bytes_eq l) (sym (names_of (λ (f : String Global × String Global). string_bytes f.0) (λ f. string_bytes f.1) fs.now.items)) u in
-      let left = fields_left all ms n in
+      let left = fields_left [] all ms n in
       let there : HasLeft F ns (Object at fs) 0 s left = (tt, (x, i, form_named F x all h, refl), g) in
-      ([], refl, framed F ns orders x j place s (Object at fs) (fields all) [] left p b h there ([], refl, d, refl, e, refl, omega (arith, c)) (refl, refl) (no_ascent F ns orders x j place (Object at fs) (λ z. absurd (let q = z.2 in cc)) a))
+      ([], refl, framed F ns orders x j place s (Object at fs) (fields all) [] left p b h there (refl, d, refl, e, refl, omega (arith, c)) (refl, refl) (no_ascent F ns orders x j place (Object at fs) (λ z. absurd (let q = z.2 in cc)) a))
 
 -- ---- variants
 choice_is : (F : List ℕ → Option Form) (x : List ℕ) (d : Form) (kind : Kind) (w : ℕ) (vs : List (ℤ × List ℕ × List ℕ)) → kind ≡ variants w vs → DefinedKind F x d kind → d ≡ choice w vs
@@ -165,19 +171,19 @@ variant_part (u ∷ vs) zero k v p e = (let t : ℤ × List ℕ × List ℕ = (k
 variant_part (u ∷ vs) (suc i) k v p e = variant_part vs i k v p e
 
 module _ (F : List ℕ → Option Form) (ns : List Named) (x : List ℕ) (j : Json) (w : ℕ) (vs : List (ℤ × List ℕ × List ℕ)) (h : HasKind F x (variants w vs)) where
-  pub no_variant_json : ((v : List ℕ) → j ≡ string v → ⊥) → ((v : List ℕ) (i : Json) → j ≡ object (member v i no_members) → ⊥) → SaysSome F x j → ⊥
+  pub no_variant_json : ((v : List ℕ) → j ≡ string v → ⊥) → ((v : List ℕ) (i : Json) → j ≡ object (member v i no_members) → ⊥) → SaysOwn F x j → ⊥
   no_variant_json f g = denied F ns x j (variants w vs) h (λ own ps s. elim s.6 [ inl a ↦ f s.2 a.0 | inr a ↦ g s.2 a.0 a.1 ])
 
   module _ (v : List ℕ) (d : IsDistinct bytes_eq (map (λ (v : ℤ × List ℕ × List ℕ). v.1) vs)) where
     -- the name alone
     module _ (e : j ≡ string v) where
-      pub no_name : ((k : ℤ) (p : List ℕ) → IsVariant k v p vs → ⊥) → SaysSome F x j → ⊥
+      pub no_name : ((k : ℤ) (p : List ℕ) → IsVariant k v p vs → ⊥) → SaysOwn F x j → ⊥
       no_name f = denied F ns x j (variants w vs) h (λ own ps s. elim s.6 [
         | inl a ↦ (let q : string v ≡ string s.2 = sym e ∙ a.0 in let n : s.2 ≡ v = cc in f s.1 s.3 (subst (λ (v : List ℕ). IsVariant s.1 v s.3 vs) n s.4))
         | inr a ↦ (let q : string v ≡ object (member s.2 a.0 no_members) = sym e ∙ a.1 in cc)
       ])
 
-      pub wants_value : (k : ℤ) (p : List ℕ) → IsVariant k v p vs → (HasNoBytes F p → ⊥) → SaysSome F x j → ⊥
+      pub wants_value : (k : ℤ) (p : List ℕ) → IsVariant k v p vs → (HasNoBytes F p → ⊥) → SaysOwn F x j → ⊥
       wants_value k p i z = denied F ns x j (variants w vs) h (λ own ps s. elim s.6 [
         | inl a ↦ (let q : string v ≡ string s.2 = sym e ∙ a.0 in let n : s.2 ≡ v = cc in z (subst (λ (p : List ℕ). HasNoBytes F p) (variant_one d s.4 i n).1 a.1))
         | inr a ↦ (let q : string v ≡ object (member s.2 a.0 no_members) = sym e ∙ a.1 in cc)
@@ -185,13 +191,13 @@ module _ (F : List ℕ → Option Form) (ns : List Named) (x : List ℕ) (j : Js
 
     -- the name with a value
     module _ (i : Json) (e : j ≡ object (member v i no_members)) where
-      pub no_key : ((k : ℤ) (p : List ℕ) → IsVariant k v p vs → ⊥) → SaysSome F x j → ⊥
+      pub no_key : ((k : ℤ) (p : List ℕ) → IsVariant k v p vs → ⊥) → SaysOwn F x j → ⊥
       no_key f = denied F ns x j (variants w vs) h (λ own ps s. elim s.6 [
         | inl a ↦ (let q : object (member v i no_members) ≡ string s.2 = sym e ∙ a.0 in cc)
         | inr a ↦ (let q : object (member v i no_members) ≡ object (member s.2 a.0 no_members) = sym e ∙ a.1 in let n : s.2 ≡ v = cc in f s.1 s.3 (subst (λ (v : List ℕ). IsVariant s.1 v s.3 vs) n s.4))
       ])
 
-      pub wants_none : (k : ℤ) (p : List ℕ) → IsVariant k v p vs → HasNoBytes F p → SaysSome F x j → ⊥
+      pub wants_none : (k : ℤ) (p : List ℕ) → IsVariant k v p vs → HasNoBytes F p → SaysOwn F x j → ⊥
       wants_none k p c z = denied F ns x j (variants w vs) h (λ own ps s. elim s.6 [
         | inl a ↦ (let q : object (member v i no_members) ≡ string s.2 = sym e ∙ a.0 in cc)
         | inr a ↦ (let q : object (member v i no_members) ≡ object (member s.2 a.0 no_members) = sym e ∙ a.1 in let n : s.2 ≡ v = cc in a.2 (subst (λ (p : List ℕ). HasNoBytes F p) (sym (variant_one d s.4 c n).1) z))
@@ -212,6 +218,6 @@ third_names k n t [] = refl
 third_names k n t (x ∷ xs) = ap (λ l. n x ∷ l) (third_names k n t xs)
 
 -- a name that no variant has
-pub unknown_variant : (F : List ℕ → Option Form) (ns : List Named) (x : List ℕ) (j : Json) (w : ℕ) (vs : List (ℤ × List ℕ × List ℕ)) → HasKind F x (variants w vs) → (v : List ℕ) → IsDistinct bytes_eq (map (λ (v : ℤ × List ℕ × List ℕ). v.1) vs) → (o : Option (List Token)) → NamesVariant j (Some (v, o)) → ((k : ℤ) (p : List ℕ) → IsVariant k v p vs → ⊥) → NamesNoVariant F x j v × (SaysSome F x j → ⊥)
+pub unknown_variant : (F : List ℕ → Option Form) (ns : List Named) (x : List ℕ) (j : Json) (w : ℕ) (vs : List (ℤ × List ℕ × List ℕ)) → HasKind F x (variants w vs) → (v : List ℕ) → IsDistinct bytes_eq (map (λ (v : ℤ × List ℕ × List ℕ). v.1) vs) → (o : Option (List Token)) → NamesVariant j (Some (v, o)) → ((k : ℤ) (p : List ℕ) → IsVariant k v p vs → ⊥) → NamesNoVariant F x j v × (SaysOwn F x j → ⊥)
 unknown_variant F ns x j w vs h v d None n f = ((w, vs, h, inl n, f), no_name F ns x j w vs h v d n f)
 unknown_variant F ns x j w vs h v d (Some e) n f = ((w, vs, h, inr (n.0, n.1), f), no_key F ns x j w vs h v d n.0 n.1 f)

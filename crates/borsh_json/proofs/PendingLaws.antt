@@ -17,7 +17,7 @@ use Rattle.borsh_json.specs.declared.order.Pending.TheVariants.{Elements, Parts}
 use Rattle.borsh_json.specs.Forms.{Form, tuple, shape_of_form, HasNoBytes}
 use Rattle.borsh_json.specs.Table.{InRange}
 use Rattle.borsh_json.specs.Ordered.{Order, single, numbers, text, array, list, parts, HasOrder, Ranked, a_value, elements, Compare, Continues}
-use Rattle.borsh_json.specs.Orders.{HasFound, AreFound, IsOrderIn, IsPending, ArePending}
+use Rattle.borsh_json.specs.Orders.{HasFound, OrdersFound, IsOrderIn, IsPending, ArePending}
 use Rattle.borsh_json.specs.Places.{IsAt}
 use Rattle.borsh_json.proofs.OrderLaws.{single_step, numbers_step, text_step, array_step, list_step, parts_step, end_step, element_step, empty_step, all_compared}
 
@@ -117,7 +117,7 @@ module _ (F : List ℕ → Option Form) (ns : List Named) (orders : List Known) 
         let qs = o.2.0 in
         let q = o.2.4 in
         let vs = map (λ p. a_value p) qs in
-        let f : AreFound ns orders qs = subst (λ (q : Order). AreFound ns orders (Rattle.borsh_json.specs.Ordered.needs q)) q o.3 in
+        let f : OrdersFound ns orders qs = subst (λ (q : Order). OrdersFound ns orders (Rattle.borsh_json.specs.Ordered.needs q)) q o.3 in
         (vs ++ v.0, vs ++ v.1, pushed ps (Parts at n 0) v.0 v.1 vs vs (x, qs, o.2.1, o.2.2, o.2.3, f, refl, refl) v.2, parts_step F x qs (subst (λ (q : Order). HasOrder F x q) q o.1) v.3)
 
   pub fronts_at : (ps : List Pending) (L M R S : List ℕ) (r o q : Ordering) → Fronts ps L R r o → q ≡ o → M ≡ L → S ≡ R → Fronts ps M S r q

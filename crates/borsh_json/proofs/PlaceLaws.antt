@@ -7,7 +7,7 @@ use Rattle.borsh_walks.specs.declared.definition.Definition.{Definition}
 use Rattle.borsh_walks.specs.Container.{Shape, references, IsZeroSize}
 use Rattle.borsh_plan.specs.declared.plan.Plan.{Plan}
 use Rattle.borsh_plan.specs.declared.named.Named.{Named}
-use Rattle.borsh_plan.specs.Names.{IsPlaceOf, name_of, named_definition, shape_at, parts_in}
+use Rattle.borsh_plan.specs.Names.{IsPlaceOf, name_of, found_definition, shape_at, parts_in}
 use Rattle.borsh_plan.proofs.Laws.{defined, looked_up}
 use Rattle.borsh_plan.proofs.Places.{name_is, name_there}
 use Rattle.borsh_plan.specs.Plan.{IsZeroAt, definitions_of, map_of, names_of as plan_names}
@@ -18,7 +18,7 @@ use Rattle.borsh_json.proofs.FormsLaws.{shapes_are}
 
 module _ (l : Plan) where
   -- the definition at a place is that of the map
-  pub form_there : (at : ℕ) (x : List ℕ) (o : Option (Bor Definition)) → option_map (λ d. d.now) o ≡ named_definition (slice_get (plan_names l) at) → name_of (plan_names l) at ≡ Some x → option_map (λ d. form_of d.now) o ≡ forms_in (map_of l) x
+  pub form_there : (at : ℕ) (x : List ℕ) (o : Option (Bor Definition)) → option_map (λ d. d.now) o ≡ found_definition (slice_get (plan_names l) at) → name_of (plan_names l) at ≡ Some x → option_map (λ d. form_of d.now) o ≡ forms_in (map_of l) x
   form_there at x o e n = both o ∙ ap (λ o. option_map form_of o) (e ∙ sym (looked_up l x at n))
     where
       both : (o : Option (Bor Definition)) → option_map (λ d. form_of d.now) o ≡ option_map form_of (option_map (λ d. d.now) o)

@@ -12,7 +12,7 @@ use Rattle.borsh_json.specs.declared.error.PartError.TheVariants.{OutOfMemory as
 use Rattle.borsh_json.specs.declared.error.ReadError.{ReadError}
 use Rattle.borsh_json.specs.declared.error.ReadError.TheVariants.{OutOfMemory, Refused, Descends as DescendsAt}
 use Rattle.borsh_json.specs.declared.error.Refusal.{Refusal}
-use Rattle.borsh_json.specs.declared.error.Refusal.TheVariants.{TooDeep, RepeatedName, EmptyElements, NotBool, NotUtf8, Zero, NotNumber, Descends, OtherNodes, Expected, MissingField, UnknownName, RepeatedKey, Undefined}
+use Rattle.borsh_json.specs.declared.error.Refusal.TheVariants.{TooDeep, RepeatedName, EmptyElements, NotBool, NotUtf8, Zero, NotNumber, Descends, Expected, MissingField, UnknownName, RepeatedKey, Undefined}
 use Rattle.borsh_json.specs.declared.definitions.Definitions.{Definitions}
 use Rattle.borsh_json.specs.declared.definitions.Known.{Known}
 use Rattle.borsh_json.specs.declared.opening.Frame.{Frame}
@@ -28,12 +28,12 @@ use Rattle.borsh_json.specs.declared.sources.Source.TheVariants.{One}
 use Rattle.borsh_json.specs.Errors.{IsUnreadable}
 use Rattle.borsh_json.specs.Forms.{Form}
 use Rattle.borsh_json.specs.Found.{forms_of, names_of}
-use Rattle.borsh_json.specs.Frames.{DeniesOr, HasPath, error_steps, name_step, first_steps, last_steps, steps_at, steps_through, IsUnread, IsOf, IsOfRead, Left, items_left, fields_left, entries_left, Wanted, IsUnbegun, BeginsAscending, AreInOrder, AscentFalls, AscentRises, AscendIn, IsListPlace, IsMapPlace, SaysAll, HasLeft, SaysOn, IsPlaceOf, IsPlaceIn, IsDoing, IsNext, NoneLeft, DeniesKey, Stands, IsInside, IsBegun, IsEnded, HaveAround, HasRead, HasBegun, IsReadOn, ReadsOn}
+use Rattle.borsh_json.specs.Frames.{ShowsOr, HasPath, error_steps, name_step, first_steps, last_steps, steps_at, steps_through, IsUnread, IsOf, IsOfRead, Left, items_left, fields_left, entries_left, Wanted, IsUnbegun, BeginsAscending, AreInOrder, AscentFalls, AscentRises, AscendIn, IsListPlace, IsMapPlace, SaysAll, HasLeft, SaysOn, IsPlaceOf, IsPlaceIn, IsDoing, IsNext, NoneLeft, DeniesKey, Stands, IsInside, IsBegun, IsEnded, HaveAround, HasRead, HasBegun, IsReadOn, ReadsOn}
 use Rattle.borsh_json.specs.InOrder.{Step, field as field_step, place as place_step, element as element_step, variant as variant_step, AreSteps, BeginsParts, DigitsFall, ItemsFall, IsReached, whole_value, part_of, InOrder}
-use Rattle.borsh_json.specs.NoValue.{LacksField, FailsAt, SaysNothing, HasOthers, Why}
+use Rattle.borsh_json.specs.NoValue.{FailsHere, LacksField, FailsAt, SaysNothing, HasOther, Why}
 use Rattle.borsh_json.specs.Orders.{KeysAscend}
 use Rattle.borsh_json.specs.Places.{IsAt}
-use Rattle.borsh_json.specs.Represents.{SaysFirst, HaveBytes, none_left, next_part, SaysSome}
+use Rattle.borsh_json.specs.Represents.{SaysFirst, HaveBytes, none_left, next_part}
 use Rattle.borsh_json.specs.Table.{Kind, HasKind, inner, fields, Part as JsonPart, entry_parts}
 use Rattle.borsh_json.specs.Writes.{IsFull}
 use Rattle.borsh_json.proofs.FrameLaws.{get_there}
@@ -41,7 +41,8 @@ use Rattle.borsh_json.proofs.ReaderLaws.{joined, no_parts, fields_count, reached
 use Rattle.borsh_json.proofs.OpeningLaws.{no_ascent}
 use Rattle.borsh_json.proofs.AscentLaws.{unbegun_starts, begun_starts, falls_there, rises_there}
 use Rattle.borsh_json.proofs.InOrderLaws.{all_append, all_join, leaf_in_order, place_in_order}
-use Rattle.borsh_json.proofs.LoopLaws.{alone, others_none}
+use Rattle.borsh_json.proofs.LoopLaws.{alone, other_none}
+use Rattle.borsh_json.proofs.MapLaws.{fails_none}
 
 fields_same : (fs gs : List Wanted) → fields fs ≡ fields gs → fs ≡ gs
 fields_same fs gs e = cc
@@ -66,7 +67,7 @@ before_last b ds q h = let l = length-append ds (q ∷ []) in omega (arith, l, h
 module _ (F : List ℕ → Option Form) (ns : List Named) where
   pub begins_parts : (kind : Kind) (i : Json) (own : List ℕ) (ds : List JsonPart) (l : Left) → SaysOn F ns kind i own ds l → BeginsParts F kind i own ds
   begins_parts kind i own ds (items_left xs js) s = inl (s.0, s.2)
-  begins_parts kind i own ds (fields_left fs ms n) s = inr (s.0, fs, ms, s.1, s.3, s.4, s.5)
+  begins_parts kind i own ds (fields_left gs fs ms n) s = inr (gs, fs, ms, s.0, s.2, s.3, s.4)
   begins_parts kind i own ds (entries_left keys k v es) s = inl (entry_parts keys k v es, s)
 
   -- fewer parts were begun than there are fields
@@ -276,28 +277,28 @@ module _ (F : List ℕ → Option Form) (ns : List Named) (orders : List Known) 
   }
 
   -- all parts of a part were read
-  pub up_inside : (p q : Place) (s : Source) (none : Type 0) (last : List ℕ) (d : ℕ) (path : List Step) (before x : List ℕ) (i : Json) (out y : List ℕ) (k : Json) → none → IsBegun F ns orders root j p s out y k d path before x i → IsEnded F ns orders root j q none last (suc d) (path ++ steps_at p) out y k → IsInside F ns orders root j p s last d path before x i
-  up_inside p q s none last d path before x i out y k n r t =
-      let a = t.all n in
-      let whole : HaveBytes F ((y, k) ∷ []) (t.own ++ t.mid) = next_part a.0 t.own t.ds a.1 a.2 (subst (λ (l : List JsonPart). HaveBytes F l t.mid) (sym (append-nil t.ds)) t.done) in
+  pub up_inside : (p q : Place) (s t : Source) (last : List ℕ) (d : ℕ) (path : List Step) (before x : List ℕ) (i : Json) (out y : List ℕ) (k : Json) → NoneLeft t → IsBegun F ns orders root j p s out y k d path before x i → IsEnded F ns orders root j q t last (suc d) (path ++ steps_at p) out y k → IsInside F ns orders root j p s last d path before x i
+  up_inside p q s t last d path before x i out y k n r e =
+      let a = e.all n in
+      let whole : HaveBytes F ((y, k) ∷ []) (e.own ++ e.mid) = next_part a.0 e.own e.ds a.1 a.2 (subst (λ (l : List JsonPart). HaveBytes F l e.mid) (sym (append-nil e.ds)) e.done) in
       record {
         own = r.own;
         ds = r.ds ++ (y, k) ∷ [];
-        mid = r.mid ++ (t.own ++ t.mid);
+        mid = r.mid ++ (e.own ++ e.mid);
         stands = r.stands;
         doing = r.doing;
         starts = r.starts;
         risen = r.risen;
-        in_order = all_append F r.ds (y, k) r.in_order (t.in_order n);
+        in_order = all_append F r.ds (y, k) r.in_order (e.in_order n);
         done = joined F r.done whole;
-        out_is = t.out_is ∙ ap (λ l. l ++ (t.own ++ t.mid)) r.out_is ∙ append_assoc before (r.own ++ r.mid) (t.own ++ t.mid) ∙ ap (λ l. before ++ l) (append_assoc r.own r.mid (t.own ++ t.mid));
+        out_is = e.out_is ∙ ap (λ l. l ++ (e.own ++ e.mid)) r.out_is ∙ append_assoc before (r.own ++ r.mid) (e.own ++ e.mid) ∙ ap (λ l. before ++ l) (append_assoc r.own r.mid (e.own ++ e.mid));
       }
 
   -- and those of the whole
-  pub reading_end : (q : Place) (none : Type 0) (last : List ℕ) → none → IsEnded F ns orders root j q none last 0 [] [] root j → HaveBytes F ((root, j) ∷ []) last × InOrder F root j
-  reading_end q none last n t =
-      let a = t.all n in
-      (subst (λ (l : List ℕ). HaveBytes F ((root, j) ∷ []) l) (sym (t.out_is ∙ ap (λ l. l ++ t.mid) a.0)) (subst (λ (l : List JsonPart). HaveBytes F l t.mid) a.1 t.done), t.in_order n)
+  pub reading_end : (q : Place) (t : Source) (last : List ℕ) → NoneLeft t → IsEnded F ns orders root j q t last 0 [] [] root j → HaveBytes F ((root, j) ∷ []) last × InOrder F root j
+  reading_end q t last n e =
+      let a = e.all n in
+      (subst (λ (l : List ℕ). HaveBytes F ((root, j) ∷ []) l) (sym (e.out_is ∙ ap (λ l. l ++ e.mid) a.0)) (subst (λ (l : List JsonPart). HaveBytes F l e.mid) a.1 e.done), e.in_order n)
 
   -- what comes next of the innermost place
   pub inside_begun : (p a q : Place) (s t : Source) (out new : List ℕ) (at : ℕ) (e : List Token) (d : ℕ) (path : List Step) (before x : List ℕ) (i : Json) (h : IsInside F ns orders root j p s out d path before x i) → BeginsAscending p.ascent (length out) a.ascent → q.ascent ≡ a.ascent → q.parts ≡ p.parts → (IsListPlace p.parts → (index : ℕ) → index < length h.ds → ItemsFall F x i index → ⊥) → IsNext F ns orders d x i h.own h.ds q t out new (Part at e) → (y : List ℕ) × (k : Json) × IsAt ns at y × BeginsWith e k × IsBegun F ns orders root j q t new y k d path before x i
@@ -332,7 +333,7 @@ module _ (F : List ℕ → Option Form) (ns : List Named) (orders : List Known) 
   whole_place p kind zero x i own ds is says all rises = (subst (λ (l : List JsonPart). AreInOrder F l) says.1 all).0
   whole_place p kind (suc d) x i own ds is says all rises = place_in_order F ns p.parts p.begun x kind i own ds is.0 is.1 says all rises
 
-  pub inside_ended : (p q : Place) (s t : Source) (out new : List ℕ) (d : ℕ) (path : List Step) (before x : List ℕ) (i : Json) (h : IsInside F ns orders root j p s out d path before x i) → q.parts ≡ p.parts → (IsListPlace p.parts → (index : ℕ) → index < length h.ds → ItemsFall F x i index → ⊥) → IsNext F ns orders d x i h.own h.ds q t out new End → IsEnded F ns orders root j q (NoneLeft t) new d path before x i
+  pub inside_ended : (p q : Place) (s t : Source) (out new : List ℕ) (d : ℕ) (path : List Step) (before x : List ℕ) (i : Json) (h : IsInside F ns orders root j p s out d path before x i) → q.parts ≡ p.parts → (IsListPlace p.parts → (index : ℕ) → index < length h.ds → ItemsFall F x i index → ⊥) → IsNext F ns orders d x i h.own h.ds q t out new End → IsEnded F ns orders root j q t new d path before x i
   inside_ended p q s t out new d path before x i h e rises n = record {
     own = h.own;
     ds = h.ds;
@@ -357,24 +358,23 @@ module _ (F : List ℕ → Option Form) (ns : List Named) (orders : List Known) 
       (subst (λ (r : Refusal). IsUnreadable r) (sym i) t.0, h.0 ∙ b, subst (λ (s : List Step). FailsAt F root j s q) (sym h.1) (subst (λ (r : Refusal). FailsAt F root j steps r) (sym i) t.1), subst (λ (r : Refusal). SaysNothing F root j r) (sym i) t.2)
 
   module _ (path : List Step) (before x : List ℕ) (i : Json) (n : ℕ) (at : IsReached F root j n path before (x, i)) where
-    failed : (r : Refusal) → Why F x i r → (SaysSome F x i → ⊥) → IsUnreadable r × FailsAt F root j path r × SaysNothing F root j r
+    failed : (r : Refusal) → Why F x i r → FailsHere F x i → IsUnreadable r × FailsAt F root j path r × SaysNothing F root j r
     failed TooDeep w d = absurd w
-    failed (RepeatedName name) w d = (tt, (n, before, x, i, at, w, d), reached_none F root j at d)
-    failed EmptyElements w d = (tt, (n, before, x, i, at, w, d), reached_none F root j at d)
+    failed (RepeatedName name) w d = (tt, (n, before, x, i, at, w, d), reached_none F root j at (fails_none F ns x i d))
+    failed EmptyElements w d = (tt, (n, before, x, i, at, w, d), reached_none F root j at (fails_none F ns x i d))
     failed NotBool w d = absurd w
     failed NotUtf8 w d = absurd w
     failed Zero w d = absurd w
     failed NotNumber w d = absurd w
     failed Descends w d = absurd w
-    failed OtherNodes w d = (tt, (n, before, x, i, at, w, d), reached_none F root j at d)
-    failed (Expected wanted) w d = (tt, (n, before, x, i, at, w, d), reached_none F root j at d)
+    failed (Expected wanted) w d = (tt, (n, before, x, i, at, w, d), reached_none F root j at (fails_none F ns x i d))
     failed MissingField w d = absurd w
-    failed (UnknownName name) w d = (tt, (n, before, x, i, at, w, d), reached_none F root j at d)
-    failed (RepeatedKey name) w d = (tt, (n, before, x, i, at, w, d), reached_none F root j at d)
-    failed (Undefined name) w d = (tt, (n, before, x, i, at, w, d), reached_none F root j at d)
+    failed (UnknownName name) w d = (tt, (n, before, x, i, at, w, d), reached_none F root j at (fails_none F ns x i d))
+    failed (RepeatedKey name) w d = (tt, (n, before, x, i, at, w, d), reached_none F root j at (fails_none F ns x i d))
+    failed (Undefined name) w d = (tt, (n, before, x, i, at, w, d), reached_none F root j at (fails_none F ns x i d))
 
     -- a part that isn't read
-    pub part_unread : (e : ReadError) (p : PartError) (base : List ℕ) → base ≡ root → IsOfRead e p → HasPath base (error_steps path e) p → DeniesOr (DigitsFall F x i) (Why F x i) e (SaysSome F x i) → IsUnread F root j p
+    pub part_unread : (e : ReadError) (p : PartError) (base : List ℕ) → base ≡ root → IsOfRead e p → HasPath base (error_steps path e) p → ShowsOr (DigitsFall F x i) (Why F x i) e (FailsHere F x i) → IsUnread F root j p
     part_unread OutOfMemory p base b o h d = subst (λ (p : PartError). IsUnread F root j p) (sym o) tt
     part_unread (Refused r) p base b o h d = told r p path base b o h (failed r d.0 d.1)
     part_unread (DescendsAt k) p base b o h d = told Descends p (path ++ element_step k ∷ []) base b o h (tt, (n, path, k, before, x, i, refl, at, inl d), tt)
@@ -388,8 +388,8 @@ module _ (F : List ℕ → Option Form) (ns : List Named) (orders : List Known) 
     missing_unread p base steps name b o h e l = told MissingField p steps base b o h (tt, (n, path, name, before, x, i, e, at, l), reached_none F root j at (lacks_none F l))
 
     -- an object with other members
-    pub name_unread : (name : String Global) (p : PartError) (base : List ℕ) (steps : List Step) → base ≡ root → IsOf (UnknownName name) p → HasPath base steps p → steps ≡ path → HasOthers F x i → IsUnread F root j p
-    name_unread name p base steps b o h e others = told (UnknownName name) p path base b o (subst (λ (s : List Step). HasPath base s p) e h) (failed (UnknownName name) (inr others) (others_none F ns x i others))
+    pub name_unread : (name : String Global) (p : PartError) (base : List ℕ) (steps : List Step) → base ≡ root → IsOf (UnknownName name) p → HasPath base steps p → steps ≡ path → HasOther F x i (string_bytes name) → IsUnread F root j p
+    name_unread name p base steps b o h e other = told (UnknownName name) p path base b o (subst (λ (s : List Step). HasPath base s p) e h) (failed (UnknownName name) (inr other) (inl (other_none F ns x i (string_bytes name) other)))
 
   -- a part that is too deep
   pub deep_unread : (path : List Step) (before : List ℕ) (q : JsonPart) (n : ℕ) → IsReached F root j n path before q → (p : PartError) (base : List ℕ) (m : ℕ) → base ≡ root → n ≡ m → HasPath base path p → IsFull m p → IsUnread F root j p

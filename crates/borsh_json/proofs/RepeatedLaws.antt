@@ -1,18 +1,19 @@
 -- Names that are sorted, and of which no two neighbours are equal.
-use Rattle.std.proofs.Common.{◌≡◌, ℕ, suc, zero, ◌+◌, ◌<◌, List, [], ◌∷◌, ◌++◌, length, map, take, Bool, true, false, get_or, refl, sym, ◌∙◌, ap, subst, arith}
+use Rattle.std.proofs.Common.{◌≡◌, ℕ, suc, zero, ◌+◌, ◌<◌, List, [], ◌∷◌, ◌++◌, length, map, take, Bool, true, false, ◌≤◌, cond, get_or, refl, sym, ◌∙◌, ap, subst, arith}
 use Rattle.std.proofs.Math.Path.{fun_ext}
 use Rattle.std.specs.Borrow.{Bor}
 use Rattle.std.specs.Cmp.Lexicographic.{on_texts}
-use Rattle.std.specs.List.{AllByRecursion, IsDistinct}
+use Rattle.std.specs.List.{AllByRecursion, IsDistinct, fold}
 use Rattle.std.specs.List.Sorted.{IsPermutation, IsSorted, IsStrictlySortedBy}
 use Rattle.std.specs.Ordering.{is_eq, is_lt, ordering_reverse}
 use Rattle.std.specs.Str.{bytes_eq}
 use Rattle.std.specs.declared.cmp.Ordering.{Ordering}
 use Rattle.std.specs.declared.cmp.Ordering.TheVariants.{Less, Equal, Greater}
 use Rattle.std.proofs.lemmas.Cmp.{nat_list_cmp_total, nat_list_eq_equiv}
-use Rattle.std.proofs.lemmas.List.Sorted.{IsPermutation-sym}
+use Rattle.std.proofs.lemmas.List.Sorted.{IsPermutation-sym, sum_by-IsPermutation}
 use Rattle.std.proofs.lemmas.Map.Keys.{IsDistinct-from_sorted, IsDistinct-IsPermutation, apart_from_distinct, sorted_from_all_adjacent}
 use Rattle.std.proofs.lemmas.Map.Text.{is_eq-slice_cmp}
+use Rattle.borsh_json.specs.Table.{ComesTwice}
 use Rattle.borsh_json.proofs.MemberLaws.{text_cmp}
 
 abbrev pub Text : Type 0
@@ -61,15 +62,45 @@ sorted_apart (x ∷ xs) s a =
     let up : IsStrictlySortedBy text_cmp ks = sorted_from_all_adjacent (on_texts (λ (k : Text). k.now)) ks x (λ k h. less_case (get_or ks k x) (get_or ks (k + 1) x) (text_cmp (get_or ks k x) (get_or ks (k + 1) x)) refl (s k x (omega arith) h) (a k x h)) in
     subst (λ (e : Text → Text → Bool). IsDistinct e ks) (fun_ext (λ a. fun_ext (λ b. is_eq-slice_cmp a.now b.now))) (IsDistinct-from_sorted text_cmp ks up)
 
+-- ---- how many elements a test takes
+some_more : {A : Type 0} (f : A → ℕ) (xs : List A) (n : ℕ) → n ≤ fold (λ a x. a + f x) n xs
+some_more f [] n = omega arith
+some_more f (x ∷ xs) n = let r = some_more f xs (n + f x) in omega (arith, r)
+
+one_more : {A : Type 0} (f : A → ℕ) (xs : List A) (n j : ℕ) (d : A) → j < length xs → f (get_or xs j d) ≡ 1 → n + 1 ≤ fold (λ a x. a + f x) n xs
+one_more f [] n j d h e = absurd (omega (arith, h))
+one_more f (x ∷ xs) n zero d h e = let r = some_more f xs (n + f x) in omega (arith, r, e)
+one_more f (x ∷ xs) n (suc j) d h e = let r = one_more f xs (n + f x) j d (omega (arith, h)) e in omega (arith, r)
+
+two_more : {A : Type 0} (f : A → ℕ) (xs : List A) (n i j : ℕ) (d : A) → i < j → j < length xs → f (get_or xs i d) ≡ 1 → f (get_or xs j d) ≡ 1 → n + 2 ≤ fold (λ a x. a + f x) n xs
+two_more f [] n i j d a h p q = absurd (omega (arith, h))
+two_more f (x ∷ xs) n i zero d a h p q = absurd (omega (arith, a))
+two_more f (x ∷ xs) n zero (suc j) d a h p q = let r = one_more f xs (n + f x) j d (omega (arith, h)) q in omega (arith, r, p)
+two_more f (x ∷ xs) n (suc i) (suc j) d a h p q = let r = two_more f xs (n + f x) i j d (omega (arith, a)) (omega (arith, h)) p q in omega (arith, r)
+
+mapped_sum : {A B : Type 0} (g : A → B) (f : B → ℕ) (xs : List A) (n : ℕ) → fold (λ a x. a + f x) n (map g xs) ≡ fold (λ a x. a + f (g x)) n xs
+mapped_sum g f [] n = refl
+mapped_sum g f (x ∷ xs) n = mapped_sum g f xs (n + f (g x))
+
 module _ (names ks : List Text) (p : IsPermutation names ks) where
   pub none_repeated : IsSorted text_cmp ks → AreApart ks (length ks) → IsDistinct bytes_eq (map (λ (k : Text). k.now) names)
   none_repeated s a = distinct_to names (IsDistinct-IsPermutation same_text text_turns ks names (IsPermutation-sym names ks p) (sorted_apart ks s a))
 
-  pub one_repeated : (i j : ℕ) (d : Text) → i < j → j < length ks → same_text (get_or ks i d) (get_or ks j d) ≡ true → IsDistinct bytes_eq (map (λ (k : Text). k.now) names) → ⊥
+  pub one_repeated : (i j : ℕ) (d : Text) → i < j → j < length ks → same_text (get_or ks i d) (get_or ks j d) ≡ true → (IsDistinct bytes_eq (map (λ (k : Text). k.now) names) → ⊥)
   one_repeated i j d h l e n =
       let a = apart_from_distinct same_text ks i j d (IsDistinct-IsPermutation same_text text_turns names ks p (distinct_from names n)) h l in
       let z : true ≡ false = sym e ∙ a in
       cc
+
+  pub comes_twice : (i j : ℕ) (d : Text) → i < j → j < length ks → d ≡ get_or ks j d → same_text (get_or ks i d) (get_or ks j d) ≡ true → ComesTwice d.now (map (λ (k : Text). k.now) names)
+  comes_twice i j d h l is e =
+      let once : Text → ℕ = λ k. cond (same_text k d) 1 0 in
+      let first : once (get_or ks i d) ≡ 1 = ap (λ b. cond b 1 0) (ap (λ k. same_text (get_or ks i d) k) is ∙ e) in
+      let second : once (get_or ks j d) ≡ 1 = ap (λ b. cond b 1 0) (ap (λ k. same_text k d) (sym is) ∙ nat_list_eq_equiv.refl d.now) in
+      let t = two_more once ks 0 i j d h l first second in
+      let m = sum_by-IsPermutation once names ks p in
+      let q = mapped_sum (λ (k : Text). k.now) (λ n. cond (bytes_eq n d.now) 1 0) names 0 in
+      omega (arith, t, m, q)
 
 -- the list at an index
 pub taken_more : {A : Type 0} (f : A → List ℕ) (items : List A) (i : ℕ) (x : A) → i < length items → x ≡ get_or items i x → take (i + 1) (map f items) ≡ take i (map f items) ++ f x ∷ []

@@ -21,11 +21,11 @@ use Rattle.borsh_walks.specs.Container.{Shape}
 use Rattle.borsh_json.specs.declared.error.JsonError.{JsonError}
 use Rattle.borsh_json.specs.declared.error.JsonError.TheVariants.{OutOfMemory, NoMember, NoValue, Ambiguous, NotJson, Refused}
 use Rattle.borsh_json.specs.declared.error.Refusal.{Refusal}
-use Rattle.borsh_json.specs.declared.error.Refusal.TheVariants.{TooDeep, RepeatedName, EmptyElements, NotBool, NotUtf8, Zero, NotNumber, Descends, OtherNodes, Expected, MissingField, UnknownName, RepeatedKey, Undefined}
+use Rattle.borsh_json.specs.declared.error.Refusal.TheVariants.{TooDeep, RepeatedName, EmptyElements, NotBool, NotUtf8, Zero, NotNumber, Descends, Expected, MissingField, UnknownName, RepeatedKey, Undefined}
 use Rattle.borsh_json.specs.Errors.{IsNoJsonReason, IsNoRowsReason, IsTooDeep, IsUnwritable}
 use Rattle.borsh_json.specs.Forms.{Form, sequence, form_of, form_of_parts, form_of_struct}
 use Rattle.borsh_json.specs.Places.{lengths_of}
-use Rattle.borsh_json.specs.Rows.{AreRows, IsNextRow, IsPrimitiveText, IsQuoted, IsText, IsValueText, TakesNothing, nothing, passing, opening, counted, rows_plan}
+use Rattle.borsh_json.specs.Rows.{AreRows, IsNextRow, IsPrimitiveText, IsQuoted, IsRowText, IsValueText, TakesNothing, nothing, passing, opening, counted, rows_plan}
 use Rattle.borsh_json.specs.Table.{Lengths, any_length, primitive_kind}
 use Rattle.borsh_json.specs.declared.rows.Rows.{Rows}
 use Rattle.borsh_json.proofs.FormsLaws.{twice}
@@ -40,7 +40,6 @@ deep_reason NotUtf8 h = absurd h
 deep_reason Zero h = absurd h
 deep_reason NotNumber h = absurd h
 deep_reason Descends h = absurd h
-deep_reason OtherNodes h = absurd h
 deep_reason (Expected w) h = absurd h
 deep_reason MissingField h = absurd h
 deep_reason (UnknownName n) h = absurd h
@@ -120,14 +119,14 @@ module _ {E : Type 0} (F : List ℕ → Option Form) (x own : List ℕ) (d : Def
   primitive_value n e (Ok v) h = subst (λ (d : Definition). IsValueText F x (form_of d) own (string_bytes v)) (sym e) h
   primitive_value n e (Err z) h = tt
 
-  pub text_value : (w : ℕ) (l : LengthRange) (s : String Global) → d ≡ Sequence w l s → IsText F x (form_of d) (string_bytes s) → (es : List ℕ) → AreElementsOf (shape_of d) own es → (r : Result (String Global) E) → IfOk r (λ v. IsQuoted es (string_bytes v)) → IfOk r (λ v. IsValueText F x (form_of d) own (string_bytes v))
+  pub text_value : (w : ℕ) (l : LengthRange) (s : String Global) → d ≡ Sequence w l s → IsRowText F x (form_of d) (string_bytes s) → (es : List ℕ) → AreElementsOf (shape_of d) own es → (r : Result (String Global) E) → IfOk r (λ v. IsQuoted es (string_bytes v)) → IfOk r (λ v. IsValueText F x (form_of d) own (string_bytes v))
   text_value w l s e t es a (Ok v) h =
       let b = subst (λ (d : Definition). AreElementsOf (shape_of d) own es) e a in
-      subst (λ (d : Definition). IsValueText F x (form_of d) own (string_bytes v)) (sym e) (inl (subst (λ (d : Definition). IsText F x (form_of d) (string_bytes s)) e t, subst (λ (es : List ℕ). IsQuoted es (string_bytes v)) b h))
+      subst (λ (d : Definition). IsValueText F x (form_of d) own (string_bytes v)) (sym e) (inl (subst (λ (d : Definition). IsRowText F x (form_of d) (string_bytes s)) e t, subst (λ (es : List ℕ). IsQuoted es (string_bytes v)) b h))
   text_value w l s e t es a (Err z) h = tt
 
-  pub count_value : (w : ℕ) (l : LengthRange) (s : String Global) → d ≡ Sequence w l s → (IsText F x (form_of d) (string_bytes s) → ⊥) → (count : Option ℕ) → IsCountOf (shape_of d) own count → (r : Result (String Global) E) → IfOk r (λ v. MatchOption count (string_bytes v ≡ []) (λ k. string_bytes v ≡ counted k)) → IfOk r (λ v. IsValueText F x (form_of d) own (string_bytes v))
-  count_value w l s e t count a (Ok v) h = subst (λ (d : Definition). IsValueText F x (form_of d) own (string_bytes v)) (sym e) (inr (subst (λ (d : Definition). IsText F x (form_of d) (string_bytes s) → ⊥) e t, count, subst (λ (d : Definition). IsCountOf (shape_of d) own count) e a, h))
+  pub count_value : (w : ℕ) (l : LengthRange) (s : String Global) → d ≡ Sequence w l s → (IsRowText F x (form_of d) (string_bytes s) → ⊥) → (count : Option ℕ) → IsCountOf (shape_of d) own count → (r : Result (String Global) E) → IfOk r (λ v. MatchOption count (string_bytes v ≡ []) (λ k. string_bytes v ≡ counted k)) → IfOk r (λ v. IsValueText F x (form_of d) own (string_bytes v))
+  count_value w l s e t count a (Ok v) h = subst (λ (d : Definition). IsValueText F x (form_of d) own (string_bytes v)) (sym e) (inr (subst (λ (d : Definition). IsRowText F x (form_of d) (string_bytes s) → ⊥) e t, count, subst (λ (d : Definition). IsCountOf (shape_of d) own count) e a, h))
   count_value w l s e t count a (Err z) h = tt
 
 -- a sequence of the lengths of the format's lists

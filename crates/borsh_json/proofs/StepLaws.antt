@@ -1,12 +1,15 @@
 -- What the reader's steps do to what is left of a place.
-use Rattle.std.proofs.Common.{◌≡◌, ℕ, List, [], ◌∷◌, length, Some, refl, sym, ◌∙◌, ap, arith}
-use Rattle.std.specs.Prelude.{option_map}
+use Rattle.std.proofs.Common.{◌≡◌, ℕ, List, [], ◌∷◌, length, false, Some, refl, sym, ◌∙◌, ap, arith}
+use Rattle.std.specs.Prelude.{IsSome, option_map}
+use Rattle.std.specs.List.{list_any}
+use Rattle.std.specs.Str.{bytes_eq}
 use Rattle.json.specs.Json.{Json, Items, no_items, item, Members}
+use Rattle.json.specs.Find.{get_member}
 use Rattle.borsh_json.specs.declared.kinds.KeyKind.{KeyKind}
 use Rattle.borsh_json.specs.declared.kinds.KeyKind.TheVariants.{Text as TextKeys, Number as NumberKeys}
 use Rattle.borsh_json.specs.declared.sources.Source.{Source}
 use Rattle.borsh_json.specs.declared.sources.Source.TheVariants.{One, Items as TheItems, Members as TheMembers, Entries as InPlace, Texts, Ranks}
-use Rattle.borsh_json.specs.Frames.{HasItems, HasFields, HasEntries, NoneLeft}
+use Rattle.borsh_json.specs.Frames.{Wanted, HasItems, HasFields, HasEntries, NoneLeft, IsLeft}
 use Rattle.borsh_json.specs.Table.{Part, row_parts, Entry}
 use Rattle.borsh_json.proofs.ReaderLaws.{mapped}
 
@@ -18,30 +21,39 @@ pub item_back : (x : List ℕ) (xs : List (List ℕ)) (j : Json) (js : Items) (b
 item_back x xs j js b e = ap (λ o. option_map (λ ps. (x, j) ∷ ps) o) e
 
 -- ---- the ends of places
-pub items_end : (s : Source) (js : Items) → HasItems s js → NoneLeft s
-items_end (One e) js h = tt
-items_end (TheItems ts) js h = tt
-items_end (TheMembers m) js h = absurd h
-items_end (InPlace ts) js h = tt
-items_end (Texts m) js h = tt
-items_end (Ranks m) js h = tt
+pub fields_end : (s : Source) (gs : List Wanted) (ms : Members) (n : ℕ) → HasFields s gs [] ms n → NoneLeft s → n ≡ 0
+fields_end (One e) gs ms n h l = absurd h
+fields_end (TheItems ts) gs ms n h l = absurd h
+fields_end (TheMembers m) gs ms n h l = sym h.2 ∙ l
+fields_end (InPlace ts) gs ms n h l = h.3
+fields_end (Texts m) gs ms n h l = absurd h
+fields_end (Ranks m) gs ms n h l = absurd h
 
-pub entries_end : (k : KeyKind) (s : Source) (es : List Entry) → HasEntries k s es → NoneLeft s
-entries_end k (One e) es h = tt
-entries_end k (TheItems ts) es h = tt
-entries_end TextKeys (TheMembers m) es h = absurd h
-entries_end (NumberKeys n) (TheMembers m) es h = absurd h
-entries_end k (InPlace ts) es h = tt
-entries_end k (Texts m) es h = tt
-entries_end k (Ranks m) es h = tt
+-- ---- members that are left
+pub left_there : (s : Source) (gs fs : List Wanted) (ms : Members) (n : ℕ) (name : List ℕ) → HasFields s gs fs ms n → IsLeft s name → IsSome (get_member name ms) × (list_any (λ (g : Wanted). bytes_eq name g.0) gs ≡ false)
+left_there (One e) gs fs ms n name h l = absurd l
+left_there (TheItems ts) gs fs ms n name h l = absurd l
+left_there (TheMembers m) gs fs ms n name h l = h.3 name l
+left_there (InPlace ts) gs fs ms n name h l = absurd l
+left_there (Texts m) gs fs ms n name h l = absurd l
+left_there (Ranks m) gs fs ms n name h l = absurd l
 
-pub fields_end : (s : Source) (ms : Members) (n : ℕ) → HasFields s [] ms n → (NoneLeft s → n ≡ 0) × (n ≡ 0 → NoneLeft s)
-fields_end (One e) ms n h = absurd h
-fields_end (TheItems ts) ms n h = absurd h
-fields_end (TheMembers m) ms n h = (λ e. sym h.2 ∙ e, λ e. h.2 ∙ e)
-fields_end (InPlace ts) ms n h = (λ t. h.3, λ e. tt)
-fields_end (Texts m) ms n h = absurd h
-fields_end (Ranks m) ms n h = absurd h
+pub items_left_none : (s : Source) (js : Items) (name : List ℕ) → HasItems s js → IsLeft s name → ⊥
+items_left_none (One e) js name h l = l
+items_left_none (TheItems ts) js name h l = l
+items_left_none (TheMembers m) js name h l = h
+items_left_none (InPlace ts) js name h l = l
+items_left_none (Texts m) js name h l = l
+items_left_none (Ranks m) js name h l = l
+
+pub entries_left_none : (k : KeyKind) (s : Source) (es : List Entry) (name : List ℕ) → HasEntries k s es → IsLeft s name → ⊥
+entries_left_none k (One e) es name h l = l
+entries_left_none k (TheItems ts) es name h l = l
+entries_left_none TextKeys (TheMembers m) es name h l = h
+entries_left_none (NumberKeys n) (TheMembers m) es name h l = h
+entries_left_none k (InPlace ts) es name h l = l
+entries_left_none k (Texts m) es name h l = l
+entries_left_none k (Ranks m) es name h l = l
 
 pub no_row : (js : Items) (a : List Part) → row_parts [] js ≡ Some a → a ≡ []
 no_row no_items a e = cc

@@ -1,5 +1,5 @@
 -- Why the writer stopped, as why bytes have no JSON.
-use Rattle.std.proofs.Common.{ℕ, List, Option, subst}
+use Rattle.std.proofs.Common.{inl, inr, ℕ, List, Option, subst}
 use Rattle.std.specs.BTreeMap.{BTreeMap}
 use Rattle.std.specs.Prelude.{String}
 use Rattle.borsh_walks.specs.Container.{Member}
@@ -9,12 +9,16 @@ use Rattle.borsh_values.specs.Membership.{IsUndecided}
 use Rattle.borsh_json.specs.declared.error.JsonError.{JsonError}
 use Rattle.borsh_json.specs.declared.error.JsonError.TheVariants.{OutOfMemory, NoMember, NoValue, Ambiguous, NotJson, Refused}
 use Rattle.borsh_json.specs.declared.error.Refusal.{Refusal}
-use Rattle.borsh_json.specs.declared.error.Refusal.TheVariants.{TooDeep, RepeatedName, EmptyElements, NotBool, NotUtf8, Zero, NotNumber, Descends, OtherNodes, Expected, MissingField, UnknownName, RepeatedKey, Undefined}
+use Rattle.borsh_json.specs.declared.error.Refusal.TheVariants.{TooDeep, RepeatedName, EmptyElements, NotBool, NotUtf8, Zero, NotNumber, Descends, Expected, MissingField, UnknownName, RepeatedKey, Undefined}
 use Rattle.borsh_json.specs.Errors.{IsUnwritable, IsNoJsonReason}
 use Rattle.borsh_json.specs.Forms.{Form, forms_in}
-use Rattle.borsh_json.specs.NoJson.{RefusesBytes}
+use Rattle.borsh_json.specs.NoJson.{IsAbout, HasNoJsonPart, RefusesBytes}
 use Rattle.borsh_json.specs.Writes.{Stops}
 use Rattle.borsh_json.proofs.FormsLaws.{shapes_are}
+
+-- where a value is refused, the refusal is about some name
+pub about_some : (F : List ℕ → Option Form) (root bytes : List ℕ) (P : Type 0) (r : Refusal) → ((x : List ℕ) → IsAbout F r x → P) → HasNoJsonPart F root bytes r → P
+about_some F root bytes P r f h = elim h.7 [ inl a ↦ f h.4 a.0 | inr a ↦ f a.1 a.7.0 ]
 
 unwritable : (F : List ℕ → Option Form) (root bytes : List ℕ) (r : Refusal) → RefusesBytes F root bytes r → IsUnwritable r
 unwritable F root bytes TooDeep s = tt
@@ -25,12 +29,11 @@ unwritable F root bytes NotUtf8 s = tt
 unwritable F root bytes Zero s = tt
 unwritable F root bytes NotNumber s = tt
 unwritable F root bytes Descends s = tt
-unwritable F root bytes OtherNodes s = tt
-unwritable F root bytes (Expected wanted) s = s
-unwritable F root bytes MissingField s = s
-unwritable F root bytes (UnknownName name) s = s
-unwritable F root bytes (RepeatedKey name) s = s
-unwritable F root bytes (Undefined name) s = s
+unwritable F root bytes (Expected wanted) s = about_some F root bytes ⊥ (Expected wanted) (λ x m. m) s
+unwritable F root bytes MissingField s = about_some F root bytes ⊥ MissingField (λ x m. m) s
+unwritable F root bytes (UnknownName name) s = about_some F root bytes ⊥ (UnknownName name) (λ x m. m) s
+unwritable F root bytes (RepeatedKey name) s = about_some F root bytes ⊥ (RepeatedKey name) (λ x m. m) s
+unwritable F root bytes (Undefined name) s = about_some F root bytes ⊥ (Undefined name) (λ x m. m) s
 
 pub stop_reason : {A : Type 0} (m : BTreeMap (String A) Definition) (root bytes : List ℕ) (e : JsonError) → Member (definitions_in m) root bytes → Stops (forms_in m) root bytes e → IsNoJsonReason (definitions_in m) root bytes e
 stop_reason m root bytes OutOfMemory b s = tt

@@ -9,16 +9,15 @@ use Rattle.json.specs.Lex.{tokens}
 use Rattle.json.specs.Print.{print}
 use Rattle.json.specs.Token.{Token}
 use Rattle.json.specs.Token as token
+use Rattle.json.specs.Written.{Written}
 use Rattle.json.specs.Tree.{json_tokens, members_tokens, members_depth, depth, MembersHaveNumbers}
 use Rattle.json.proofs.Printed.Tokens.{tokens-print}
 use Rattle.json.proofs.Printed.Trees.{document-print, ArePrintable-json_tokens}
 use Rattle.borsh_plan.specs.declared.named.Named.{Named}
-use Rattle.borsh_json.specs.declared.output.Output.{Output}
 use Rattle.borsh_json.specs.declared.kinds.Elements.{Elements}
 use Rattle.borsh_json.specs.declared.kinds.Kind.TheVariants.{ByteList}
 use Rattle.borsh_json.specs.Forms.{Form, HasNoBytes}
-use Rattle.borsh_json.specs.Leaves.{Adds, output_before, output_tokens}
-use Rattle.borsh_json.specs.Names.{IsWord, TellsNames, words_of}
+use Rattle.borsh_json.specs.Names.{IsWord, TellsNames, word_members}
 use Rattle.borsh_json.specs.Orders.{KindTellsOrder, KnowsNoOrder}
 use Rattle.borsh_json.specs.Places.{IsAt, IsKindOf, IsListOf, lengths_of}
 use Rattle.borsh_json.specs.Table.{no_bytes, byte_list, list}
@@ -35,15 +34,15 @@ told_push : (ps : List Told) (q : Told) → told_tokens (ps ++ q ∷ []) ≡ tol
 told_push [] q = refl
 told_push (p ∷ ps) q = ap (λ ts. token.key p.0 ∷ token.string p.1 ∷ ts) (told_push ps q)
 
-told_end : (ps : List Told) → told_tokens ps ++ token.end_object ∷ [] ≡ members_tokens (words_of ps)
+told_end : (ps : List Told) → told_tokens ps ++ token.end_object ∷ [] ≡ members_tokens (word_members ps)
 told_end [] = refl
 told_end (p ∷ ps) = ap (λ ts. token.key p.0 ∷ token.string p.1 ∷ ts) (told_end ps)
 
-no_numbers : (ps : List Told) → MembersHaveNumbers (words_of ps)
+no_numbers : (ps : List Told) → MembersHaveNumbers (word_members ps)
 no_numbers [] = tt
 no_numbers (p ∷ ps) = (tt, no_numbers ps)
 
-flat : (ps : List Told) → members_depth (words_of ps) ≡ 0
+flat : (ps : List Told) → members_depth (word_members ps) ≡ 0
 flat [] = refl
 flat (p ∷ ps) = (let f = flat ps in omega (arith, f))
 
@@ -53,6 +52,10 @@ next_named (n ∷ ns) zero h = (n, refl, refl)
 next_named (n ∷ ns) (suc k) h =
     let r = next_named ns k (omega (arith, h)) in
     (r.0, r.1, ap (λ l. n ∷ l) r.2)
+
+-- the token was written
+abbrev pub Puts : Written → Written → Token → Type 0
+Puts old new t = (new.before ≡ old.before) × (new.tokens ≡ old.tokens ++ t ∷ [])
 
 module _ (F : List ℕ → Option Form) (ns : List Named) where
   -- ---- words
@@ -75,17 +78,17 @@ module _ (F : List ℕ → Option Form) (ns : List Named) where
 
   -- ---- the text
   -- an object was begun, and has the first names
-  abbrev pub HasTold : ℕ → Output → Type 0
-  HasTold k out =
-      (output_before out ≡ []) × (ps : List Told) × (output_tokens out ≡ token.begin_object ∷ told_tokens ps) × (map (λ p. p.0) ps ≡ map (λ n. n.name.now) (take k ns))
+  abbrev pub HasTold : ℕ → Written → Type 0
+  HasTold k w =
+      (w.before ≡ []) × (ps : List Told) × (w.tokens ≡ token.begin_object ∷ told_tokens ps) × (map (λ p. p.0) ps ≡ map (λ n. n.name.now) (take k ns))
       × All (λ p. IsWord F ns p.0 p.1) ps
 
-  pub told_none : (old new : Output) → output_before old ≡ [] → output_tokens old ≡ [] → Adds (token.begin_object ∷ []) old new → HasTold 0 new
-  told_none old new b t a = (a.before ∙ b, [], a.tokens ∙ ap (λ ts. ts ++ token.begin_object ∷ []) t, refl, All-nil (λ p. IsWord F ns p.0 p.1))
+  pub told_none : (old new : Written) → old.before ≡ [] → old.tokens ≡ [] → Puts old new token.begin_object → HasTold 0 new
+  told_none old new b t a = (a.0 ∙ b, [], a.1 ∙ ap (λ ts. ts ++ token.begin_object ∷ []) t, refl, All-nil (λ p. IsWord F ns p.0 p.1))
 
-  pub told_next : (k : ℕ) (name word : List ℕ) (old mid new : Output) → HasTold k old → k < length ns
+  pub told_next : (k : ℕ) (name word : List ℕ) (old mid new : Written) → HasTold k old → k < length ns
       → ((x : List ℕ) → IsAt ns k x → name ≡ x) → ((x : List ℕ) → IsAt ns k x → IsWord F ns x word)
-      → Adds (token.key name ∷ []) old mid → Adds (token.string word ∷ []) mid new → HasTold (k + 1) new
+      → Puts old mid (token.key name) → Puts mid new (token.string word) → HasTold (k + 1) new
   told_next k name word old mid new h l is w a b =
       let n = next_named ns k l in
       let x = n.0.name.now in
@@ -93,19 +96,19 @@ module _ (F : List ℕ → Option Form) (ns : List Named) where
       let e = is x i in
       let one_more : suc k ≡ k + 1 = omega arith in
       let ps = h.1 in (
-        b.before ∙ a.before ∙ h.0,
+        b.0 ∙ a.0 ∙ h.0,
         ps ++ (x, word) ∷ [],
-        b.tokens ∙ ap (λ ts. ts ++ token.string word ∷ []) (a.tokens ∙ ap (λ ts. ts ++ token.key name ∷ []) h.2) ∙ append_assoc (token.begin_object ∷ told_tokens ps) (token.key name ∷ []) (token.string word ∷ [])
+        b.1 ∙ ap (λ ts. ts ++ token.string word ∷ []) (a.1 ∙ ap (λ ts. ts ++ token.key name ∷ []) h.2) ∙ append_assoc (token.begin_object ∷ told_tokens ps) (token.key name ∷ []) (token.string word ∷ [])
             ∙ ap (λ y. token.begin_object ∷ (told_tokens ps ++ token.key y ∷ token.string word ∷ [])) e ∙ ap (λ ts. token.begin_object ∷ ts) (sym (told_push ps (x, word))),
         map-append (λ p. p.0) ps ((x, word) ∷ []) ∙ ap (λ l. l ++ x ∷ []) h.3 ∙ sym (map-append (λ m. m.name.now) (take k ns) (n.0 ∷ [])) ∙ ap (λ l. map (λ m. m.name.now) l) (sym n.2 ∙ ap (λ m. take m ns) one_more),
         All-push (λ p. IsWord F ns p.0 p.1) ps (x, word) h.4 (w x i),
       )
 
-  pub told_all : (text : List ℕ) (old new : Output) → HasTold (length ns) old → Adds (token.end_object ∷ []) old new → tokens text ≡ output_tokens new → TellsNames F ns text
+  pub told_all : (text : List ℕ) (old new : Written) → HasTold (length ns) old → Puts old new token.end_object → tokens text ≡ new.tokens → TellsNames F ns text
   told_all text old new h a e =
       let ps = h.1 in
-      let j = object (words_of ps) in
-      let all : tokens text ≡ json_tokens j = e ∙ a.tokens ∙ ap (λ ts. ts ++ token.end_object ∷ []) h.2 ∙ ap (λ ts. token.begin_object ∷ ts) (told_end ps) in
+      let j = object (word_members ps) in
+      let all : tokens text ≡ json_tokens j = e ∙ a.1 ∙ ap (λ ts. ts ++ token.end_object ∷ []) h.2 ∙ ap (λ ts. token.begin_object ∷ ts) (told_end ps) in
       let s : tokens text ≡ tokens (print (json_tokens j)) = all ∙ sym (tokens-print (json_tokens j) (ArePrintable-json_tokens j (no_numbers ps))) in
       let low : depth j ≤ max_depth = (let f = flat ps in omega (arith, f)) in
       (ps, ap (λ ts. option_and_then (λ p. if_last p.0 p.1) (value max_depth ts)) s ∙ document-print j (no_numbers ps) low, h.3 ∙ ap (λ l. map (λ n. n.name.now) l) (take-length ns), h.4)

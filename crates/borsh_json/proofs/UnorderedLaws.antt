@@ -6,7 +6,8 @@ use Rattle.borsh_walks.specs.declared.definition.Fields.{Fields}
 use Rattle.borsh_walks.specs.declared.definition.Fields.TheVariants.{NamedFields, UnnamedFields, Empty}
 use Rattle.borsh_json.specs.Forms.{Form, primitive, sequence, tuple, newtype, unnamed, named, choice, form_of_parts, form_of_struct, HasNoBytes, IsOption}
 use Rattle.borsh_json.proofs.FoundLaws.{inner}
-use Rattle.borsh_json.specs.Ordered.{listed, Order, single, numbers, text, array, list, parts, tuple_name, AreNumbers, IsSequenceName, IsTreeMapName, IsListName, OrdersBytes, HasOrder}
+use Rattle.borsh_walks.specs.TupleNames.{following, tuple_name}
+use Rattle.borsh_json.specs.Ordered.{Order, single, numbers, text, array, list, parts, AreNumbers, IsSequenceName, IsTreeMapName, IsListName, OrdersBytes, HasOrder}
 use Rattle.borsh_json.specs.Table.{AreKeys, primitive_kind, texts}
 use Rattle.borsh_json.proofs.OrderLaws.{clash}
 
@@ -151,31 +152,31 @@ cancel [] ys zs e = e
 cancel (x ∷ xs) ys zs e = cancel xs ys zs cc
 
 -- a listed name stands behind those before it
-listed_split : (ps : List (List ℕ)) (i : ℕ) (p : List ℕ) → slice_get ps i ≡ Some p → (after : List ℕ) × (listed ps ≡ listed (take i ps) ++ (44 ∷ 32 ∷ ((p ++ []) ++ after)))
+listed_split : (ps : List (List ℕ)) (i : ℕ) (p : List ℕ) → slice_get ps i ≡ Some p → (after : List ℕ) × (following ps ≡ following (take i ps) ++ (44 ∷ 32 ∷ ((p ++ []) ++ after)))
 listed_split [] i p g = absurd cc
 listed_split (q ∷ qs) zero p g =
     let k : q ≡ p = cc in
-    (listed qs, ap (λ q. 44 ∷ 32 ∷ (q ++ listed qs)) (k ∙ sym (nil p)))
+    (following qs, ap (λ q. 44 ∷ 32 ∷ (q ++ following qs)) (k ∙ sym (nil p)))
 listed_split (q ∷ qs) (suc i) p g =
     let r = listed_split qs i p g in
-    (r.0, ap (λ l. 44 ∷ 32 ∷ l) (ap (λ l. q ++ l) r.1 ∙ sym (append_assoc q (listed (take i qs)) (44 ∷ 32 ∷ ((p ++ []) ++ r.0)))))
+    (r.0, ap (λ l. 44 ∷ 32 ∷ l) (ap (λ l. q ++ l) r.1 ∙ sym (append_assoc q (following (take i qs)) (44 ∷ 32 ∷ ((p ++ []) ++ r.0)))))
 
 -- a text in which a name isn't where it is listed doesn't begin with the listed names
-pub listed_not : (ps : List (List ℕ)) (i : ℕ) (p name rest : List ℕ) → slice_get ps i ≡ Some p → name ≡ listed (take i ps) ++ rest → ((after : List ℕ) → rest ≡ 44 ∷ 32 ∷ ((p ++ []) ++ after) → ⊥) → (after : List ℕ) → name ≡ listed ps ++ after → ⊥
+pub listed_not : (ps : List (List ℕ)) (i : ℕ) (p name rest : List ℕ) → slice_get ps i ≡ Some p → name ≡ following (take i ps) ++ rest → ((after : List ℕ) → rest ≡ 44 ∷ 32 ∷ ((p ++ []) ++ after) → ⊥) → (after : List ℕ) → name ≡ following ps ++ after → ⊥
 listed_not ps i p name rest g e n after q =
     let s = listed_split ps i p g in
-    let front = listed (take i ps) in
+    let front = following (take i ps) in
     let l : front ++ rest ≡ front ++ (44 ∷ 32 ∷ ((p ++ []) ++ (s.0 ++ after))) = sym e ∙ q ∙ ap (λ l. l ++ after) s.1 ∙ append_assoc front (44 ∷ 32 ∷ ((p ++ []) ++ s.0)) after ∙ ap (λ l. front ++ (44 ∷ 32 ∷ l)) (append_assoc (p ++ []) s.0 after) in
     n (s.0 ++ after) (cancel front rest (44 ∷ 32 ∷ ((p ++ []) ++ (s.0 ++ after))) l)
 
 -- what comes behind the first part of a tuple's name
-pub tuple_rest : (ps others : List (String Global)) (p : String Global) (head name rest : List ℕ) → ps ≡ p ∷ others → (length others == 0) ≡ false → head ≡ string_bytes p → name ≡ 40 ∷ ((head ++ []) ++ rest) → name ≡ tuple_name (map (λ p. string_bytes p) ps) → rest ≡ listed (map (λ p. string_bytes p) others) ++ codes ")"
+pub tuple_rest : (ps others : List (String Global)) (p : String Global) (head name rest : List ℕ) → ps ≡ p ∷ others → (length others == 0) ≡ false → head ≡ string_bytes p → name ≡ 40 ∷ ((head ++ []) ++ rest) → name ≡ tuple_name (map (λ p. string_bytes p) ps) → rest ≡ following (map (λ p. string_bytes p) others) ++ codes ")"
 tuple_rest ps [] p head name rest e t f n r = let g : (0 == 0) ≡ true = refl in cc
 tuple_rest ps (q ∷ others) p head name rest e t f n r =
     let names = map (λ p. string_bytes p) (q ∷ others) in
-    let a : 40 ∷ ((head ++ []) ++ rest) ≡ 40 ∷ ((string_bytes p ++ listed names) ++ 41 ∷ []) = sym n ∙ r ∙ ap (λ ps. tuple_name (map (λ p. string_bytes p) ps)) e in
-    let b : (head ++ []) ++ rest ≡ (string_bytes p ++ listed names) ++ 41 ∷ [] = cc in
-    cancel head rest (listed names ++ 41 ∷ []) (ap (λ h. h ++ rest) (sym (nil head)) ∙ b ∙ append_assoc (string_bytes p) (listed names) (41 ∷ []) ∙ ap (λ h. h ++ (listed names ++ 41 ∷ [])) (sym f))
+    let a : 40 ∷ ((head ++ []) ++ rest) ≡ 40 ∷ (string_bytes p ++ (following names ++ 41 ∷ [])) = sym n ∙ r ∙ ap (λ ps. tuple_name (map (λ p. string_bytes p) ps)) e in
+    let b : (head ++ []) ++ rest ≡ string_bytes p ++ (following names ++ 41 ∷ []) = cc in
+    cancel head rest (following names ++ 41 ∷ []) (ap (λ h. h ++ rest) (sym (nil head)) ∙ b ∙ ap (λ h. h ++ (following names ++ 41 ∷ [])) (sym f))
 
 -- no more is listed than the parts, and then the end
 pub tuple_end : (names last : List ℕ) (rest : List ℕ) → rest ≡ names ++ last → rest ≡ names ++ codes ")" → last ≡ codes ")"

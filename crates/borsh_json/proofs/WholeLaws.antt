@@ -2,10 +2,6 @@
 use Rattle.std.proofs.Common.{◌≡◌, ◌⊎◌, inl, inr, ℕ, List, [], Option, None, refl, sym, subst}
 use Rattle.borsh_walks.specs.Container.{IsIn}
 use Rattle.borsh_plan.specs.declared.named.Named.{Named}
-use Rattle.borsh_json.specs.declared.error.Refusal.{Refusal}
-use Rattle.borsh_json.specs.declared.error.Refusal.TheVariants.{TooDeep, RepeatedName, EmptyElements, NotBool, NotUtf8, Zero, NotNumber, Descends, OtherNodes, Expected, MissingField, UnknownName, RepeatedKey, Undefined}
-use Rattle.borsh_json.specs.declared.error.WriteError.{WriteError}
-use Rattle.borsh_json.specs.declared.error.WriteError.TheVariants.{OutOfMemory, Refused, Element}
 use Rattle.borsh_json.specs.declared.kinds.Elements.{Elements as FoundElements}
 use Rattle.borsh_json.specs.declared.kinds.Kind.{Kind as Found}
 use Rattle.borsh_json.specs.declared.kinds.Kind.TheVariants.{Number as NumberKind, Bool as Truth, Bytes, Float, List as ListKind}
@@ -13,50 +9,12 @@ use Rattle.borsh_json.specs.declared.numbers.Number.{Number}
 use Rattle.borsh_json.specs.declared.output.Output.{Output}
 use Rattle.borsh_json.specs.Forms.{Form}
 use Rattle.borsh_json.specs.Found.{IsPrimitiveKind}
-use Rattle.borsh_json.specs.NoJson.{IsNoJson}
-use Rattle.borsh_json.specs.Leaves.{IsLeafRefusal, IsOpenedAs, RefusesLeaf, WritesLeaf}
+use Rattle.borsh_json.specs.Leaves.{IsOpenedAs, WritesLeaf}
 use Rattle.borsh_json.specs.Places.{IsKindOf}
 use Rattle.borsh_json.specs.Table.{Kind, truth, whole, float, raw}
-use Rattle.borsh_json.specs.Writes.{RefusesOwn, RefusesValue, IsWrittenAs, leaf_depth}
+use Rattle.borsh_json.specs.Writes.{IsWrittenAs, leaf_depth}
 
 module _ (F : List ℕ → Option Form) (x own : List ℕ) where
-  leaf_none : (r : Refusal) → IsLeafRefusal F r x own → IsNoJson F x own
-  leaf_none TooDeep a = absurd a
-  leaf_none (RepeatedName name) a = absurd a
-  leaf_none EmptyElements a = absurd a
-  leaf_none NotBool a = a.1
-  leaf_none NotUtf8 a = a.2
-  leaf_none Zero a = a.3
-  leaf_none NotNumber a = a.2
-  leaf_none Descends a = absurd a
-  leaf_none OtherNodes a = absurd a
-  leaf_none (Expected wanted) a = absurd a
-  leaf_none MissingField a = absurd a
-  leaf_none (UnknownName name) a = absurd a
-  leaf_none (RepeatedKey name) a = absurd a
-  leaf_none (Undefined name) a = absurd a
-
-  leaf_own : (r : Refusal) (y piece : List ℕ) → IsLeafRefusal F r y piece → IsNoJson F x own → RefusesOwn F x own r
-  leaf_own TooDeep y piece a n = absurd a
-  leaf_own (RepeatedName name) y piece a n = n
-  leaf_own EmptyElements y piece a n = n
-  leaf_own NotBool y piece a n = n
-  leaf_own NotUtf8 y piece a n = n
-  leaf_own Zero y piece a n = n
-  leaf_own NotNumber y piece a n = n
-  leaf_own Descends y piece a n = absurd a
-  leaf_own OtherNodes y piece a n = absurd a
-  leaf_own (Expected wanted) y piece a n = absurd a
-  leaf_own MissingField y piece a n = absurd a
-  leaf_own (UnknownName name) y piece a n = absurd a
-  leaf_own (RepeatedKey name) y piece a n = absurd a
-  leaf_own (Undefined name) y piece a n = absurd a
-
-  pub leaf_refused : (e : WriteError) → RefusesLeaf F x own e → RefusesValue F x own e
-  leaf_refused OutOfMemory a = tt
-  leaf_refused (Refused r) a = leaf_own r x own a (leaf_none r a)
-  leaf_refused (Element i r) a = leaf_own r a.0 a.1 a.2 a.3
-
   module _ (ns : List Named) (f : Form) where
     pub leaf_whole : (kind : Found) (parts : List (List ℕ)) (old new : Output) → IsOpenedAs F x f own parts → parts ≡ [] → ((es : FoundElements) → kind ≡ ListKind es → ⊥) → WritesLeaf F (leaf_depth kind) x own old new → IsWrittenAs F ns kind x f own old new None
     leaf_whole kind parts old new o e n w = (w, parts, o.1, (λ y i. elim (subst (λ (l : List (List ℕ)). IsIn y l) e i) [ ]), n)

@@ -8,6 +8,7 @@ use Rattle.std.specs.BTreeMap.{BTreeMap}
 use Rattle.std.specs.Borrow.{Bor}
 use Rattle.json.specs.Json.{null}
 use Rattle.json.specs.Token.{Token}
+use Rattle.json.specs.Tree.{json_tokens}
 use Rattle.borsh_walks.specs.Container.{Shape, product, Member, of_primitive, of_sequence, of_parts, of_choice, Members, no_members, more_members}
 use Rattle.borsh_walks.specs.Definitions.{definitions_in}
 use Rattle.borsh_walks.specs.declared.definition.Definition.{Definition}
@@ -16,7 +17,7 @@ use Rattle.borsh_plan.specs.Plan.{map_of, names_of as plan_names, root_of}
 use Rattle.borsh_values.specs.Membership.{IsUndecided}
 use Rattle.borsh_values.specs.Nodes.{Opens}
 use Rattle.borsh_values.specs.Cursor.{OpensOnce}
-use Rattle.borsh_values.specs.Walks.{IsReadTo, IsCounted, IsNodeOf, FindsNode, FindsAt, IsWalker}
+use Rattle.borsh_values.specs.Walks.{IsReadTo, IsCounted, IsNodeOf, FindsNode, FindsAt}
 use Rattle.borsh_plan.specs.declared.plan.Plan.{Plan}
 use Rattle.borsh_plan.specs.declared.named.Named.{Named}
 use Rattle.borsh_values.specs.declared.nodes.Node.{Node}
@@ -25,7 +26,7 @@ use Rattle.borsh_json.specs.declared.definitions.Definitions.{Definitions}
 use Rattle.borsh_json.specs.declared.error.PartError.{PartError}
 use Rattle.borsh_json.specs.declared.error.PartError.TheVariants.{OutOfMemory as NoPartMemory, Refused as RefusedPart}
 use Rattle.borsh_json.specs.declared.error.Refusal.{Refusal}
-use Rattle.borsh_json.specs.declared.error.Refusal.TheVariants.{TooDeep, RepeatedName, EmptyElements, NotBool, NotUtf8, Zero, NotNumber, Descends, OtherNodes, Expected, MissingField, UnknownName, RepeatedKey, Undefined}
+use Rattle.borsh_json.specs.declared.error.Refusal.TheVariants.{TooDeep, RepeatedName, EmptyElements, NotBool, NotUtf8, Zero, NotNumber, Descends, Expected, MissingField, UnknownName, RepeatedKey, Undefined}
 use Rattle.borsh_json.specs.declared.error.WriteError.{WriteError}
 use Rattle.borsh_json.specs.declared.error.WriteError.TheVariants.{OutOfMemory, Refused, Element}
 use Rattle.borsh_json.specs.declared.kinds.Elements.{Elements as FoundElements}
@@ -53,23 +54,23 @@ use Rattle.borsh_json.specs.Found.{forms_of, names_of}
 use Rattle.borsh_json.specs.Frames.{Wanted, IsWanted, GivesPart, IsKey, IsEntryKey, IsOf}
 use Rattle.borsh_json.specs.Descents.{HasDescent}
 use Rattle.borsh_json.specs.Inside.{IsInside}
-use Rattle.borsh_json.specs.NoJson.{IsNoJson, HasNoJsonPart, IsOutOfOrder, RefusesBytes}
+use Rattle.borsh_json.specs.NoJson.{HasNoJsonPart, IsOutOfOrder, RefusesBytes}
 use Rattle.borsh_json.specs.Orders.{HasKeyOrder, KindHasOrder, OrderedBy, ValuesCompare}
-use Rattle.borsh_json.specs.Leaves.{output_tokens, output_before, Adds, IsOpenedAs, WritesLeaf, RefusesLeaf}
+use Rattle.borsh_json.specs.Leaves.{Holds, Adds, IsOpenedAs, WritesLeaf, RefusesValue}
 use Rattle.borsh_json.specs.Places.{IsAt, AreKeysOf, IsKindOf, lengths_of}
 use Rattle.borsh_json.specs.Represents.{SaysFirst, next_part}
 use Rattle.borsh_json.specs.Table.{Keys, Kind, no_bytes, whole, utf8, HasKind, key_order, key_json}
 use Rattle.borsh_walks.proofs.Laws.{zero_member}
 use Rattle.borsh_values.proofs.MemberLaws.{opens_member, members_head}
 use Rattle.borsh_values.proofs.WalkedLaws.{read_product}
-use Rattle.borsh_json.specs.Writes.{IsAbove, IsLast, IsBegunOf, IsWhole, IsWrittenOn, ends_of, Rest, IsRest, WritesFront, names_of_rest, names_of_all, leaf_depth, opened, Nested, passed, Mark, AreEach, IsNewPlace, IsAscending, IsKeyed, IsLastKey, IsComparing, IsMarked, IsRestOf, BeginsNext, TellsAscent, RisesAt, IsWriterOf, IsHalved, IsWriting, IsAwaiting, RefusesOwn, RefusesValue, IsWrittenAs, Stops, IsWritingAt, IsAwaitingAt, IsFull, IsFullOrFalls, AscendsFrom, IsOfWrite}
+use Rattle.borsh_json.specs.Writes.{IsAbove, IsLast, IsBegunOf, IsWhole, IsWrittenOn, ends_of, Rest, IsRest, WritesFront, names_of_rest, names_of_all, leaf_depth, opened, Nested, passed, Mark, AreEach, IsNewPlace, IsAscending, IsKeyed, IsLastKey, IsComparing, IsMarked, IsRestOf, BeginsNext, TellsAscent, RisesAt, IsWriterOf, IsHalved, IsWriting, IsAwaiting, IsWrittenAs, Stops, IsWritingAt, IsAwaitingAt, IsFull, IsFullOrFalls, AscendsFrom, IsOfWrite}
 use Rattle.borsh_json.proofs.CheckedLaws.{IsDueAs, IsRisen, kind_free, same_only, product_due, pair_due, leaf_checked, zero_checked}
 use Rattle.borsh_json.proofs.FormsLaws.{shape_is, shapes_are}
 use Rattle.borsh_json.proofs.FallLaws.{neighbours, falls}
 use Rattle.borsh_json.proofs.NestedLaws.{read_leaf, inside_of, as_deep}
 use Rattle.borsh_json.proofs.WritingPlaces.{as_many, each_pushed, each_popped, key_tokens, TakesPart, TakesEntry, takes_part, takes_entry, place_ends}
 use Rattle.borsh_json.proofs.FormKinds.{form_known}
-use Rattle.borsh_json.proofs.WholeLaws.{leaf_refused}
+use Rattle.borsh_json.proofs.StopLaws.{about_some}
 use Rattle.borsh_json.proofs.WritingSteps.{only_in, halved_on, leaf_writes, front_writes, awaits, entry_halved, entry_nested, awaits_entry, end_writes, end_whole}
 
 -- ---- nodes
@@ -102,30 +103,24 @@ module _ (d : Definitions) (old new : Walker) (at : ℕ) (x : List ℕ) (i : IsA
 
 -- ---- refusals
 module _ (F : List ℕ → Option Form) (root bytes : List ℕ) where
-  pub refuses_bytes : (x own : List ℕ) (r : Refusal) → (IsNoJson F x own → HasNoJsonPart F root bytes) → RefusesOwn F x own r → RefusesBytes F root bytes r
-  refuses_bytes x own TooDeep g h = absurd h
-  refuses_bytes x own (RepeatedName name) g h = g h
-  refuses_bytes x own EmptyElements g h = g h
-  refuses_bytes x own NotBool g h = g h
-  refuses_bytes x own NotUtf8 g h = g h
-  refuses_bytes x own Zero g h = g h
-  refuses_bytes x own NotNumber g h = g h
-  refuses_bytes x own Descends g h = absurd h
-  refuses_bytes x own OtherNodes g h = absurd h
-  refuses_bytes x own (Expected wanted) g h = absurd h
-  refuses_bytes x own MissingField g h = absurd h
-  refuses_bytes x own (UnknownName name) g h = absurd h
-  refuses_bytes x own (RepeatedKey name) g h = absurd h
-  refuses_bytes x own (Undefined name) g h = absurd h
+  refuses_bytes : (r : Refusal) → HasNoJsonPart F root bytes r → RefusesBytes F root bytes r
+  refuses_bytes TooDeep h = about_some F root bytes _ TooDeep (λ x m. absurd m) h
+  refuses_bytes (RepeatedName name) h = h
+  refuses_bytes EmptyElements h = h
+  refuses_bytes NotBool h = h
+  refuses_bytes NotUtf8 h = h
+  refuses_bytes Zero h = h
+  refuses_bytes NotNumber h = h
+  refuses_bytes Descends h = about_some F root bytes _ Descends (λ x m. absurd m) h
+  refuses_bytes (Expected wanted) h = h
+  refuses_bytes MissingField h = h
+  refuses_bytes (UnknownName name) h = h
+  refuses_bytes (RepeatedKey name) h = h
+  refuses_bytes (Undefined name) h = h
 
   stops_as : (r : Refusal) (e : PartError) → IsOf r e → RefusesBytes F root bytes r → Stops F root bytes (error_of e)
   stops_as r NoPartMemory i h = tt
   stops_as r (RefusedPart path s) i h = subst (λ (r : Refusal). RefusesBytes F root bytes r) (sym i) h
-
-  pub stops_value : (x own : List ℕ) (w : WriteError) (e : PartError) → IsOfWrite w e → (IsNoJson F x own → HasNoJsonPart F root bytes) → RefusesValue F x own w → Stops F root bytes (error_of e)
-  stops_value x own OutOfMemory e i g h = subst (λ (e : PartError). Stops F root bytes (error_of e)) (sym i) tt
-  stops_value x own (Refused r) e i g h = stops_as r e i (refuses_bytes x own r g h)
-  stops_value x own (Element k r) e i g h = stops_as r e i (refuses_bytes x own r g h)
 
   pub stops_descends : (e : PartError) → IsOf Descends e → IsOutOfOrder F root bytes → Stops F root bytes (error_of e)
   stops_descends e i h = stops_as Descends e i h
@@ -147,8 +142,10 @@ module _ (F : List ℕ → Option Form) (root bytes : List ℕ) where
   stops_either n done own after left x l (RefusedPart path r) d (inr f) = stops_descends (RefusedPart path r) f.0 (d.depth, done, own ++ after, x, d.joined ∙ ap (λ b. done ++ b) l, d.inside, f.1)
 
   -- bytes that no JSON says
-  pub no_json_part : (n : ℕ) (done own after left x : List ℕ) → left ≡ own ++ after → IsDeep n done left x → IsNoJson F x own → HasNoJsonPart F root bytes
-  no_json_part n done own after left x e d j = (d.depth, done, own, after, x, d.joined ∙ ap (λ l. done ++ l) e, d.inside, j)
+  pub stops_value : (n : ℕ) (done own after left x : List ℕ) → left ≡ own ++ after → IsDeep n done left x → (w : WriteError) (e : PartError) → IsOfWrite w e → RefusesValue F x own w → Stops F root bytes (error_of e)
+  stops_value n done own after left x l d OutOfMemory e i h = subst (λ (e : PartError). Stops F root bytes (error_of e)) (sym i) tt
+  stops_value n done own after left x l d (Refused r) e i h = stops_as r e i (refuses_bytes r (d.depth, done, own, after, x, d.joined ∙ ap (λ l. done ++ l) l, d.inside, inl h))
+  stops_value n done own after left x l d (Element k r) e i h = stops_as r e i (refuses_bytes r (d.depth, done, own, after, x, d.joined ∙ ap (λ l. done ++ l) l, d.inside, inr h))
 
 -- a want of room
 pub room_only : (n : ℕ) (P : Type 0) (e : PartError) → IsFull n e → IsFullOrFalls n P e
@@ -220,7 +217,7 @@ module _ (d : Definitions) (b c : Bor (List ℕ)) (same : c ≡ b) where
   still_around ps qs ms e h = subst (λ (b : Bor (List ℕ)). AreEach (IsMarked d b.now) qs ms) (sym same) (subst (λ (ps : List Place). AreEach (IsMarked d b.now) ps ms) (sym e) h)
 
 -- ---- a value was written
-module _ (d : Definitions) (w new : Writing) (x : List ℕ) (f : Form) (own : List ℕ) (a : IsAwaitingAt d w x) (same : new.bytes ≡ w.bytes) (plan : new.walk.plan.now ≡ d.plan.now) (walk : IsWalker new.walk)
+module _ (d : Definitions) (w new : Writing) (x : List ℕ) (f : Form) (own : List ℕ) (a : IsAwaitingAt d w x) (same : new.bytes ≡ w.bytes) (plan : new.walk.plan.now ≡ d.plan.now)
     (bytes : w.walk.left.now ≡ own ++ new.walk.left.now) (next : new.walk.offset ≡ w.walk.offset + length own)
     (onward : (done : List ℕ) (parts ps : List (List ℕ)) → Opens (shapes (forms_of d)) (shape_of_form f) own parts → IsReadTo (shapes (forms_of d)) (root_of d.plan.now) done (x ∷ ps) w.walk.left.now → IsReadTo (shapes (forms_of d)) (root_of d.plan.now) (done ++ own) (parts ++ ps) new.walk.left.now) where
   -- the writer is in front of the next part of the place
@@ -230,17 +227,18 @@ module _ (d : Definitions) (w new : Writing) (x : List ℕ) (f : Form) (own : Li
       let ns = names_of d in
       let root = root_of d.plan.now in
       let s = a.state in
+      let written = a.writer.tokens ++ json_tokens h.0.json in
       let k = halved_on F ns root w.bytes.now x (shape_of_form f) s.done w.walk.left.now own new.walk.left.now h.1 (names_of_all (s.inner ∷ s.around)) bytes (λ r. onward s.done h.1 (names_of_all (s.inner ∷ s.around)) h.2 r) s.halved in
       let n = read_leaf (shapes F) root own (names_of_all (s.inner ∷ s.around)) (shape_of_form f) s.nested c h.2 h.3 k.read.1 in
-      let t = leaf_writes F ns root w.bytes.now x a.room w.position.place w.position.outer.items a.mark a.marks w.walk.left.now w.out s own new.walk.left.now new.out (leaf_depth kind) h.1 l n h.0 h.3 k (leaf_checked F w.bytes.now root x own new.walk.left.now w.walk.left.now h.1 bytes h.3 due s.rises) in
+      let t = leaf_writes F ns root w.bytes.now x a.room w.position.place w.position.outer.items a.mark a.marks w.walk.left.now a.writer.tokens s own new.walk.left.now w.out new.out (leaf_depth kind) h.1 l n h.0 h.3 k (leaf_checked F w.bytes.now root x own new.walk.left.now w.walk.left.now h.1 bytes h.3 due s.rises) in
       record {
-        writer = record { plan = plan; walk = walk; fresh = h.0.adds.before ∙ a.writer.fresh; offset = moved w new own a.writer.offset same bytes next };
+        writer = record { plan = plan; tokens = written; holds = h.0.adds a.writer.tokens a.writer.holds; offset = moved w new own a.writer.offset same bytes next };
         mark = a.mark;
         marks = a.marks;
         state =
-            subst (λ (b : Bor (List ℕ)). IsWriting F ns root b.now new.position.place new.position.outer.items a.mark a.marks new.walk.left.now (output_tokens new.out)) (sym same)
-            (subst (λ (q : Place). IsWriting F ns root w.bytes.now q new.position.outer.items a.mark a.marks new.walk.left.now (output_tokens new.out)) (sym p)
-            (subst (λ (qs : List Place). IsWriting F ns root w.bytes.now w.position.place qs a.mark a.marks new.walk.left.now (output_tokens new.out)) (sym o) t));
+            subst (λ (b : Bor (List ℕ)). IsWriting F ns root b.now new.position.place new.position.outer.items a.mark a.marks new.walk.left.now written) (sym same)
+            (subst (λ (q : Place). IsWriting F ns root w.bytes.now q new.position.outer.items a.mark a.marks new.walk.left.now written) (sym p)
+            (subst (λ (qs : List Place). IsWriting F ns root w.bytes.now w.position.place qs a.mark a.marks new.walk.left.now written) (sym o) t));
         here = still_marked d w.bytes new.bytes same w.position.place new.position.place a.mark p a.here;
         around = still_around d w.bytes new.bytes same w.position.outer.items new.position.outer.items a.marks o a.around;
       }
@@ -252,17 +250,18 @@ module _ (d : Definitions) (w new : Writing) (x : List ℕ) (f : Form) (own : Li
       let ns = names_of d in
       let root = root_of d.plan.now in
       let s = a.state in
+      let written = a.writer.tokens ++ h.2.front in
       let r = h.0 in
       let k = halved_on F ns root w.bytes.now x (shape_of_form f) s.done w.walk.left.now own new.walk.left.now (names_of_rest r) (names_of_all (s.inner ∷ s.around)) bytes (λ t. onward s.done (names_of_rest r) (names_of_all (s.inner ∷ s.around)) h.3 t) s.halved in
       let l = as_many (IsRest F ns) w.position.outer.items s.around s.there in
-      let t = front_writes F ns root w.bytes.now x a.room w.position.place w.position.outer.items a.mark a.marks w.walk.left.now w.out s own new.walk.left.now new.out (shape_of_form f) r q new.position.outer.items (omega (arith, l, room)) c h.3 h.1 h.2 o k keys bytes due in
+      let t = front_writes F ns root w.bytes.now x a.room w.position.place w.position.outer.items a.mark a.marks w.walk.left.now a.writer.tokens s own new.walk.left.now w.out new.out (shape_of_form f) r q new.position.outer.items (omega (arith, l, room)) c h.3 h.1 h.2 o k keys bytes due in
       record {
-        writer = record { plan = plan; walk = walk; fresh = h.2.adds.before ∙ a.writer.fresh; offset = moved w new own a.writer.offset same bytes next };
+        writer = record { plan = plan; tokens = written; holds = h.2.adds a.writer.tokens a.writer.holds; offset = moved w new own a.writer.offset same bytes next };
         mark = (x, None, keys);
         marks = a.mark ∷ a.marks;
         state =
-            subst (λ (b : Bor (List ℕ)). IsWriting F ns root b.now new.position.place new.position.outer.items (x, None, keys) (a.mark ∷ a.marks) new.walk.left.now (output_tokens new.out)) (sym same)
-            (subst (λ (z : Place). IsWriting F ns root w.bytes.now z new.position.outer.items (x, None, keys) (a.mark ∷ a.marks) new.walk.left.now (output_tokens new.out)) (sym p) t);
+            subst (λ (b : Bor (List ℕ)). IsWriting F ns root b.now new.position.place new.position.outer.items (x, None, keys) (a.mark ∷ a.marks) new.walk.left.now written) (sym same)
+            (subst (λ (z : Place). IsWriting F ns root w.bytes.now z new.position.outer.items (x, None, keys) (a.mark ∷ a.marks) new.walk.left.now written) (sym p) t);
         here = still_marked d w.bytes new.bytes same q new.position.place (x, None, keys) p z;
         around = still_around d w.bytes new.bytes same (w.position.outer.items ++ w.position.place ∷ []) new.position.outer.items (a.mark ∷ a.marks) o (each_pushed (IsMarked d w.bytes.now) w.position.outer.items a.marks w.position.place a.mark a.around a.here);
       }
@@ -313,11 +312,11 @@ module _ (d : Definitions) (w : Writing) (x : List ℕ) (a : IsAwaitingAt d w x)
   room_awaiting = let l = as_many (IsRest (forms_of d) (names_of d)) w.position.outer.items a.state.around a.state.there in let m = a.state.room in omega (arith, l, m)
 
 -- nothing was walked
-writer_still : (d : Definitions) (w new : Writing) → IsWriterOf d w → new.walk ≡ w.walk → new.bytes ≡ w.bytes → output_before new.out ≡ [] → IsWriterOf d new
-writer_still d w new a walk same fresh = record {
+abbrev writer_still : (d : Definitions) (w new : Writing) → IsWriterOf d w → new.walk ≡ w.walk → new.bytes ≡ w.bytes → (tokens : List Token) → Holds new.out tokens → IsWriterOf d new
+writer_still d w new a walk same tokens holds = record {
   plan = subst (λ (k : Walker). k.plan.now ≡ d.plan.now) (sym walk) a.plan;
-  walk = subst (λ (k : Walker). IsWalker k) (sym walk) a.walk;
-  fresh = fresh;
+  tokens = tokens;
+  holds = holds;
   offset = subst (λ (k : Walker). k.offset + length k.left.now ≡ length new.bytes.now) (sym walk) (a.offset ∙ ap (λ (b : Bor (List ℕ)). length b.now) (sym same));
 }
 
@@ -339,21 +338,22 @@ module _ (d : Definitions) (w new : Writing) (x : List ℕ) (a : IsAwaitingAt d 
       let ns = names_of d in
       let root = root_of d.plan.now in
       let s = a.state in
+      let written = a.writer.tokens ++ Token.null ∷ [] in
       let names = names_of_all (s.inner ∷ s.around) in
       let leaf : WritesLeaf F 0 x [] w.out new.out = record { json = null; adds = t; numbers = tt; nests = omega arith; says = λ ps bs h. next_part no_bytes [] [] (inl (z, refl)) (refl, refl, refl) h } in
       let h = subst (λ b. IsHalved F root w.bytes.now b w.walk.left.now (x ∷ names)) (sym (append-nil s.done)) s.halved in
       let head = members_head (shapes F) s.halved.read.1 in
       let n = passed s.nested (subst (λ b. Member (shapes F) x b) (zero_member (shapes F) head.2 z) head.2) in
-      let k = leaf_writes F ns root w.bytes.now x a.room w.position.place w.position.outer.items a.mark a.marks w.walk.left.now w.out s [] w.walk.left.now new.out 0 (x ∷ []) (omega arith) n leaf (λ y i. subst (λ y. HasNoBytes F y) (only_in y x i) z) h (zero_checked F w.bytes.now root x w.walk.left.now z s.rises) in
+      let k = leaf_writes F ns root w.bytes.now x a.room w.position.place w.position.outer.items a.mark a.marks w.walk.left.now a.writer.tokens s [] w.walk.left.now w.out new.out 0 (x ∷ []) (omega arith) n leaf (λ y i. subst (λ y. HasNoBytes F y) (only_in y x i) z) h (zero_checked F w.bytes.now root x w.walk.left.now z s.rises) in
       record {
-        writer = writer_still d w new a.writer walk same (t.before ∙ a.writer.fresh);
+        writer = writer_still d w new a.writer walk same written (t a.writer.tokens a.writer.holds);
         mark = a.mark;
         marks = a.marks;
         state =
-            subst (λ (b : Bor (List ℕ)). IsWriting F ns root b.now new.position.place new.position.outer.items a.mark a.marks new.walk.left.now (output_tokens new.out)) (sym same)
-            (subst (λ (k : Walker). IsWriting F ns root w.bytes.now new.position.place new.position.outer.items a.mark a.marks k.left.now (output_tokens new.out)) (sym walk)
-            (subst (λ (q : Place). IsWriting F ns root w.bytes.now q new.position.outer.items a.mark a.marks w.walk.left.now (output_tokens new.out)) (sym p)
-            (subst (λ (qs : List Place). IsWriting F ns root w.bytes.now w.position.place qs a.mark a.marks w.walk.left.now (output_tokens new.out)) (sym o) k)));
+            subst (λ (b : Bor (List ℕ)). IsWriting F ns root b.now new.position.place new.position.outer.items a.mark a.marks new.walk.left.now written) (sym same)
+            (subst (λ (k : Walker). IsWriting F ns root w.bytes.now new.position.place new.position.outer.items a.mark a.marks k.left.now written) (sym walk)
+            (subst (λ (q : Place). IsWriting F ns root w.bytes.now q new.position.outer.items a.mark a.marks w.walk.left.now written) (sym p)
+            (subst (λ (qs : List Place). IsWriting F ns root w.bytes.now w.position.place qs a.mark a.marks w.walk.left.now written) (sym o) k)));
         here = still_marked d w.bytes new.bytes same w.position.place new.position.place a.mark p a.here;
         around = still_around d w.bytes new.bytes same w.position.outer.items new.position.outer.items a.marks o a.around;
       }
@@ -373,7 +373,7 @@ module _ (d : Definitions) (w new : Writing) (x : List ℕ) (a : IsAwaitingAt d 
       let root = root_of d.plan.now in
       let c : shapes F x ≡ Some (shape_of_form f) = ap (λ o. option_map shape_of_form o) e in
       let opens : Opens (shapes F) (shape_of_form f) [] (names_of_rest r) = subst (λ s. Opens (shapes F) s [] (names_of_rest r)) (sym s) (refl, refl) in
-      place_begun d w new x f [] a same (subst (λ (k : Walker). k.plan.now ≡ d.plan.now) (sym walk) a.writer.plan) (subst (λ (k : Walker). IsWalker k) (sym walk) a.writer.walk) (ap (λ (k : Walker). k.left.now) (sym walk)) (let e = ap (λ (k : Walker). k.offset) walk in omega (arith, e))
+      place_begun d w new x f [] a same (subst (λ (k : Walker). k.plan.now ≡ d.plan.now) (sym walk) a.writer.plan) (ap (λ (k : Walker). k.left.now) (sym walk)) (let e = ap (λ (k : Walker). k.offset) walk in omega (arith, e))
       (λ done parts ps n g. subst (λ (k : Walker). IsReadTo (shapes F) root (done ++ []) (parts ++ ps) k.left.now) (sym walk) (struct_on (shapes F) root x w.walk.left.now (names_of_rest r) (shape_of_form f) c s done parts ps n g)) q c room (r, h, t, opens) None (product_due F f (names_of_rest r) e s full) (new_marked d w.bytes.now x None f kind q q z i k refl refl (subst (λ (l : Option Ascent). IsAscending d w.bytes.now l (x, None, None)) (sym z.0) tt) tt) p o
 
 -- ---- parts and their keys
@@ -450,9 +450,6 @@ module _ (d : Definitions) (i : ℕ) (p q : Place) (part : FoundPart) (b : IsBeg
   next_name r h (Name n) e = let t = part_of r (λ es k. let q : Name n ≡ EntryOf es = sym e ∙ k in cc) h in (t.name, names_of_rest t.rest, t.names)
   next_name r h (EntryOf es) e = let t = entry_of es r e h in (t.pair, replicate t.count t.pair, ap names_of_rest t.is)
 
-pub none_added : (out : Output) → Adds [] out out
-none_added out = record { before = refl; tokens = sym (append-nil (output_tokens out)) }
-
 last_there : (bytes done left rest : List ℕ) → bytes ≡ done ++ left → left ≡ rest → drop (length done) bytes ≡ rest
 last_there bytes done left rest e f = ap (λ b. drop (length done) b) e ∙ drop-append_seam done left ∙ f
 
@@ -511,22 +508,23 @@ key_begun d w new p part a b n tells t walk position bytes =
     let ns = names_of d in
     let root = root_of d.plan.now in
     let s = a.state in
+    let written = a.writer.tokens ++ key_tokens part.key in
     let q = w.position.place in
     let m : Mark = (a.mark.0, Some (length s.done), a.mark.2) in
     let h = part_of d w.walk.offset p q part b s.inner n s.here in
-    let r = awaits F ns root w.bytes.now p q w.position.outer.items a.mark a.marks w.walk.left.now (output_tokens w.out) (output_tokens new.out) s b.1 part b.2 h t.tokens (part_rises d w p a tells) in
+    let r = awaits F ns root w.bytes.now p q w.position.outer.items a.mark a.marks w.walk.left.now a.writer.tokens written s b.1 part b.2 h refl (part_rises d w p a tells) in
     let here : IsMarked d w.bytes.now q m = (its_ascent d w.walk.offset p q part b w.bytes.now a.mark (length s.done) (at_offset d w p a) a.here.0, (λ es k e. absurd (n es (its_entries d w.walk.offset p q part b s.inner es k s.here (sym b.1 ∙ e)))), its_turn d w.walk.offset p q part b w.bytes.now a.mark.2 a.here.2) in (
       h.name,
       h.named,
       record {
-        writer = writer_still d w new a.writer walk bytes (t.before ∙ a.writer.fresh);
+        writer = writer_still d w new a.writer walk bytes written (t a.writer.tokens a.writer.holds);
         room = 128 - length s.around;
         mark = m;
         marks = a.marks;
         state =
-            subst (λ (b : Bor (List ℕ)). IsAwaiting F ns root b.now h.name (128 - length s.around) new.position.place new.position.outer.items m a.marks new.walk.left.now (output_tokens new.out)) (sym bytes)
-            (subst (λ (k : Walker). IsAwaiting F ns root w.bytes.now h.name (128 - length s.around) new.position.place new.position.outer.items m a.marks k.left.now (output_tokens new.out)) (sym walk)
-            (subst (λ (k : Position). IsAwaiting F ns root w.bytes.now h.name (128 - length s.around) k.place k.outer.items m a.marks w.walk.left.now (output_tokens new.out)) (sym position) r));
+            subst (λ (b : Bor (List ℕ)). IsAwaiting F ns root b.now h.name (128 - length s.around) new.position.place new.position.outer.items m a.marks new.walk.left.now written) (sym bytes)
+            (subst (λ (k : Walker). IsAwaiting F ns root w.bytes.now h.name (128 - length s.around) new.position.place new.position.outer.items m a.marks k.left.now written) (sym walk)
+            (subst (λ (k : Position). IsAwaiting F ns root w.bytes.now h.name (128 - length s.around) k.place k.outer.items m a.marks w.walk.left.now written) (sym position) r));
         here = still_marked d w.bytes new.bytes bytes q new.position.place m (ap (λ (k : Position). k.place) position) here;
         around = still_around d w.bytes new.bytes bytes w.position.outer.items new.position.outer.items a.marks (ap (λ (k : Position). k.outer.items) position) a.around;
       },
@@ -535,10 +533,10 @@ key_begun d w new p part a b n tells t walk position bytes =
 module _ (d : Definitions) (w new : Writing) (p : Place) (part : FoundPart) (es : FoundEntries) (a : IsWritingAt d w p) (parts : new.position.place.parts ≡ p.parts)
     (t : TakesEntry (forms_of d) (names_of d) es p.parts new.position.place.begun p.last part a.state.inner) where
   pub entry_next : IsHalved (forms_of d) (root_of d.plan.now) w.bytes.now a.state.done w.walk.left.now (t.key ∷ t.value ∷ (replicate t.count t.pair ++ names_of_all a.state.around))
-  entry_next = entry_halved (forms_of d) (names_of d) (root_of d.plan.now) w.bytes.now p new.position.place w.position.outer.items a.mark a.marks w.walk.left.now (output_tokens w.out) (output_tokens new.out) a.state parts es part t
+  entry_next = entry_halved (forms_of d) (names_of d) (root_of d.plan.now) w.bytes.now p new.position.place w.position.outer.items a.mark a.marks w.walk.left.now a.writer.tokens [] a.state parts es part t
 
   entry_open : Nested (shapes (forms_of d)) (root_of d.plan.now) (opened t.pair None (t.key ∷ t.value ∷ []) ∷ opened a.mark.0 (Some (length a.state.done)) (replicate t.count t.pair) ∷ a.state.outer) a.state.done
-  entry_open = entry_nested (forms_of d) (names_of d) (root_of d.plan.now) w.bytes.now p new.position.place w.position.outer.items a.mark a.marks w.walk.left.now (output_tokens w.out) (output_tokens new.out) a.state parts es part t
+  entry_open = entry_nested (forms_of d) (names_of d) (root_of d.plan.now) w.bytes.now p new.position.place w.position.outer.items a.mark a.marks w.walk.left.now a.writer.tokens [] a.state parts es part t
 
   module _ (found : Option Node) (n : Node) (is : found ≡ Some n) (g : FindsAt es.key w.walk new.walk found) where
     pub entry_opened : IsOpenedAs (forms_of d) t.key (form_of n.definition.now) n.bytes.now (node_is d w new.walk es.key t.key a.writer.plan t.key_named found n is g).parts
@@ -548,14 +546,15 @@ module _ (d : Definitions) (w new : Writing) (p : Place) (part : FoundPart) (es 
     entry_keys = keys_of_form (forms_of d) (names_of d) t.key (form_of es.key_definition.now) (form_of n.definition.now) es.key_kind t.keys t.kind entry_opened.0
 
     -- the key was written
-    pub entry_awaits : (key : EntryKey) (names : List (List ℕ)) (s : List ℕ) → IsBegunOf d w.walk.offset p w.position.place part → RisesAt d w p → part.key ≡ EntryOf es → new.position.place.ascent ≡ w.position.place.ascent → new.walk.plan.now ≡ d.plan.now → IsWalker new.walk → new.bytes ≡ w.bytes → new.position.outer.items ≡ w.position.outer.items → new.position.place.last ≡ Some key
+    pub entry_awaits : (key : EntryKey) (names : List (List ℕ)) (s : List ℕ) → IsBegunOf d w.walk.offset p w.position.place part → RisesAt d w p → part.key ≡ EntryOf es → new.position.place.ascent ≡ w.position.place.ascent → new.walk.plan.now ≡ d.plan.now → new.bytes ≡ w.bytes → new.position.outer.items ≡ w.position.outer.items → new.position.place.last ≡ Some key
         → Opens (shapes (forms_of d)) (shape_of_form (form_of n.definition.now)) n.bytes.now names → names ≡ [] → IsEntryKey es.key_kind key s → Adds (Token.key s ∷ []) w.out new.out → SaysFirst (forms_of d) t.key (key_json t.keys s) n.bytes.now [] → IsAbove t.keys t.before s
         → (x : List ℕ) × IsAt (names_of d) part.at x × IsAwaitingAt d new x
-    entry_awaits key names s b tells entry ascent plan walk bytes outer last opens none k adds says above =
+    entry_awaits key names s b tells entry ascent plan bytes outer last opens none k adds says above =
         let F = forms_of d in
         let ns = names_of d in
         let root = root_of d.plan.now in
         let v = a.state in
+        let written = a.writer.tokens ++ Token.key s ∷ [] in
         let rest = t.value ∷ (replicate t.count t.pair ++ names_of_all v.around) in
         let node = node_is d w new.walk es.key t.key a.writer.plan t.key_named found n is g in
         let o = subst (λ l. Opens (shapes F) (shape_of_form (form_of n.definition.now)) n.bytes.now l) none opens in
@@ -571,30 +570,30 @@ module _ (d : Definitions) (w new : Writing) (p : Place) (part : FoundPart) (es 
         let there = subst (λ (fs : FoundEntries). IsLastKey d w.bytes.now fs (Some key) (Some (length v.done))) same (length v.done, t.key, t.keys, s, n.bytes.now, new.walk.left.now, refl, t.key_named, t.kind, k, says, last_there w.bytes.now v.done w.walk.left.now (n.bytes.now ++ new.walk.left.now) v.halved.joined node.bytes) in
         (order, subst (λ (l : Option EntryKey). IsLastKey d w.bytes.now fs l (Some (length v.done))) (sym last) there)) in
         let here : IsMarked d w.bytes.now new.position.place k2 = (subst (λ (o : Option Ascent). IsAscending d w.bytes.now o k2) (sym ascent) (its_ascent d w.walk.offset p w.position.place part b w.bytes.now a.mark (length v.done) (at_offset d w p a) a.here.0), keyed, subst (λ (o : Option Ascent). IsComparing d w.bytes.now o a.mark.2) (sym ascent) (its_turn d w.walk.offset p w.position.place part b w.bytes.now a.mark.2 a.here.2)) in
-        let r = awaits_entry F ns root w.bytes.now p new.position.place w.position.outer.items a.mark a.marks w.walk.left.now (output_tokens w.out) (output_tokens new.out) v parts es part t n.bytes.now new.walk.left.now key s last k says above (subst (λ b. Member (shapes F) t.key b) (append-nil n.bytes.now) m) h adds.tokens (part_rises d w p a tells) node.bytes (pair_due F t.pair t.key t.value t.defined full) first in (
+        let r = awaits_entry F ns root w.bytes.now p new.position.place w.position.outer.items a.mark a.marks w.walk.left.now a.writer.tokens written v parts es part t n.bytes.now new.walk.left.now key s last k says above (subst (λ b. Member (shapes F) t.key b) (append-nil n.bytes.now) m) h refl (part_rises d w p a tells) node.bytes (pair_due F t.pair t.key t.value t.defined full) first in (
           t.value,
           t.named,
           record {
-            writer = record { plan = plan; walk = walk; fresh = adds.before ∙ a.writer.fresh; offset = moved w new n.bytes.now a.writer.offset bytes node.bytes node.next };
+            writer = record { plan = plan; tokens = written; holds = adds a.writer.tokens a.writer.holds; offset = moved w new n.bytes.now a.writer.offset bytes node.bytes node.next };
             room = 128 - length v.around;
             mark = k2;
             marks = a.marks;
             state =
-                subst (λ (b : Bor (List ℕ)). IsAwaiting F ns root b.now t.value (128 - length v.around) new.position.place new.position.outer.items k2 a.marks new.walk.left.now (output_tokens new.out)) (sym bytes)
-                (subst (λ (l : List Place). IsAwaiting F ns root w.bytes.now t.value (128 - length v.around) new.position.place l k2 a.marks new.walk.left.now (output_tokens new.out)) (sym outer) r);
+                subst (λ (b : Bor (List ℕ)). IsAwaiting F ns root b.now t.value (128 - length v.around) new.position.place new.position.outer.items k2 a.marks new.walk.left.now written) (sym bytes)
+                (subst (λ (l : List Place). IsAwaiting F ns root w.bytes.now t.value (128 - length v.around) new.position.place l k2 a.marks new.walk.left.now written) (sym outer) r);
             here = still_marked d w.bytes new.bytes bytes new.position.place new.position.place k2 refl here;
             around = still_around d w.bytes new.bytes bytes w.position.outer.items new.position.outer.items a.marks outer a.around;
           },
         )
 
     -- or is refused
-    pub entry_stops : (e : WriteError) (pe : PartError) → IsOfWrite e pe → RefusesLeaf (forms_of d) t.key n.bytes.now e → Stops (forms_of d) (root_of d.plan.now) w.bytes.now (error_of pe)
+    pub entry_stops : (e : WriteError) (pe : PartError) → IsOfWrite e pe → RefusesValue (forms_of d) t.key n.bytes.now e → Stops (forms_of d) (root_of d.plan.now) w.bytes.now (error_of pe)
     entry_stops e pe i r =
         let F = forms_of d in
         let root = root_of d.plan.now in
         let node = node_is d w new.walk es.key t.key a.writer.plan t.key_named found n is g in
         let deep : IsDeep F root w.bytes.now 0 a.state.done w.walk.left.now t.key = record { joined = entry_next.joined; depth = suc (length a.state.outer); deep = omega arith; inside = inside_of (shapes F) root entry_open } in
-        stops_value F root w.bytes.now t.key n.bytes.now e pe i (no_json_part F root w.bytes.now 0 a.state.done n.bytes.now new.walk.left.now w.walk.left.now t.key node.bytes deep) (leaf_refused F t.key n.bytes.now e r)
+        stops_value F root w.bytes.now 0 a.state.done n.bytes.now new.walk.left.now w.walk.left.now t.key node.bytes deep e pe i r
 
 -- ---- the parts of a place have ended
 pub place_ended : (d : Definitions) (w new : Writing) (p : Place) → IsWritingAt d w p → ((ws : List Wanted) → IsWanted (forms_of d) (names_of d) p.parts p.begun ws → ws ≡ []) → Adds (ends_of p.parts) w.out new.out → new.walk ≡ w.walk → new.bytes ≡ w.bytes
@@ -604,16 +603,17 @@ place_ended d w new p a g t walk bytes true left all =
     let ns = names_of d in
     let root = root_of d.plan.now in
     let s = a.state in
+    let written = a.writer.tokens ++ ends_of p.parts in
     let e = place_ends F ns p.parts p.begun (128 - length s.around) p.last s.inner s.here g in
     let f = each_popped (IsMarked d w.bytes.now) new.position.outer.items a.marks new.position.place (subst (λ (ps : List Place). AreEach (IsMarked d w.bytes.now) ps a.marks) (left refl) a.around) in
-    let r = end_writes F ns root w.bytes.now p w.position.outer.items a.mark a.marks w.walk.left.now (output_tokens w.out) (output_tokens new.out) (ends_of p.parts) s e.0 e.1 t.tokens new.position.place new.position.outer.items f.0 f.1 (left refl) f.4 in
+    let r = end_writes F ns root w.bytes.now p w.position.outer.items a.mark a.marks w.walk.left.now a.writer.tokens written (ends_of p.parts) s e.0 e.1 refl new.position.place new.position.outer.items f.0 f.1 (left refl) f.4 in
     record {
-      writer = writer_still d w new a.writer walk bytes (t.before ∙ a.writer.fresh);
+      writer = writer_still d w new a.writer walk bytes written (t a.writer.tokens a.writer.holds);
       mark = f.0;
       marks = f.1;
       state =
-          subst (λ (b : Bor (List ℕ)). IsWriting F ns root b.now new.position.place new.position.outer.items f.0 f.1 new.walk.left.now (output_tokens new.out)) (sym bytes)
-          (subst (λ (k : Walker). IsWriting F ns root w.bytes.now new.position.place new.position.outer.items f.0 f.1 k.left.now (output_tokens new.out)) (sym walk) r);
+          subst (λ (b : Bor (List ℕ)). IsWriting F ns root b.now new.position.place new.position.outer.items f.0 f.1 new.walk.left.now written) (sym bytes)
+          (subst (λ (k : Walker). IsWriting F ns root w.bytes.now new.position.place new.position.outer.items f.0 f.1 k.left.now written) (sym walk) r);
       here = still_marked d w.bytes new.bytes bytes new.position.place new.position.place f.0 refl f.2;
       around = still_around d w.bytes new.bytes bytes new.position.outer.items new.position.outer.items f.1 refl f.3;
     }
@@ -622,11 +622,13 @@ place_ended d w new p a g t walk bytes false left all =
     let ns = names_of d in
     let root = root_of d.plan.now in
     let s = a.state in
+    let written = a.writer.tokens ++ ends_of p.parts in
     let e = place_ends F ns p.parts p.begun (128 - length s.around) p.last s.inner s.here g in
-    let r = end_whole F ns root w.bytes.now p w.position.outer.items a.mark a.marks w.walk.left.now (output_tokens w.out) (output_tokens new.out) (ends_of p.parts) s e.0 e.1 t.tokens (all refl) (subst (λ (ps : List Place). AreEach (IsMarked d w.bytes.now) ps a.marks) (all refl) a.around) in
+    let r = end_whole F ns root w.bytes.now p w.position.outer.items a.mark a.marks w.walk.left.now a.writer.tokens written (ends_of p.parts) s e.0 e.1 refl (all refl) (subst (λ (ps : List Place). AreEach (IsMarked d w.bytes.now) ps a.marks) (all refl) a.around) in
     record {
-      fresh = t.before ∙ a.writer.fresh;
-      whole = subst (λ (b : Bor (List ℕ)). IsWhole F root (output_tokens new.out) b.now) (sym bytes) r.0;
+      tokens = written;
+      holds = t a.writer.tokens a.writer.holds;
+      whole = subst (λ (b : Bor (List ℕ)). IsWhole F root written b.now) (sym bytes) r.0;
       rises = subst (λ (b : Bor (List ℕ)). AreChecked F (one root ∷ []) b.now) (sym bytes) r.1;
     }
 

@@ -1,5 +1,5 @@
 -- Steps of the writer's loop.
-use Rattle.std.proofs.Common.{◌≡◌, ℕ, suc, ◌+◌, ◌≤◌, List, [], ◌∷◌, ◌++◌, length, Option, Some, refl, sym, ◌∙◌, ap, subst, arith, append_assoc, append-nil}
+use Rattle.std.proofs.Common.{◌≡◌, All, ℕ, suc, ◌+◌, ◌≤◌, List, [], ◌∷◌, ◌++◌, length, Option, Some, refl, sym, ◌∙◌, ap, subst, arith, append_assoc, append-nil}
 use Rattle.json.specs.Token.{Token}
 use Rattle.json.specs.Json.{Json, item, member, document, if_last, value, max_depth}
 use Rattle.json.specs.Lex.{tokens}
@@ -7,22 +7,46 @@ use Rattle.json.specs.Print.{print}
 use Rattle.json.specs.Tree.{json_tokens, depth, HasNumbers}
 use Rattle.json.proofs.Printed.Tokens.{tokens-print}
 use Rattle.json.proofs.Printed.Trees.{document-print, ArePrintable-json_tokens}
-use Rattle.std.specs.Prelude.{option_and_then}
-use Rattle.borsh_json.specs.Forms.{Form}
+use Rattle.std.specs.BTreeMap.{BTreeMap}
+use Rattle.std.specs.Prelude.{String, option_and_then}
+use Rattle.borsh_walks.specs.Container.{Member}
+use Rattle.borsh_json.specs.declared.output.Output.{Output}
+use Rattle.borsh_walks.specs.Definitions.{definitions_in}
+use Rattle.borsh_walks.specs.declared.definition.Definition.{Definition}
+use Rattle.borsh_json.specs.Forms.{Form, forms_in}
 use Rattle.borsh_json.specs.Frames.{Wanted}
+use Rattle.borsh_json.specs.InOrder.{TextRepresents, IsRepresented}
 use Rattle.borsh_json.specs.Represents.{HaveBytes, none_left}
 use Rattle.borsh_json.specs.Table.{Keys, Part, key_json}
-use Rattle.borsh_json.specs.Writes.{Rest, items_rest, members_rest, value_rest, entries_rest, IsAbove, MayFollow, MayFollowAll, MayFollowFirst, IsWhole, Begins}
+use Rattle.borsh_json.specs.Writes.{Rest, items_rest, members_rest, value_rest, entries_rest, IsAbove, MayFollow, MayFollowAll, MayFollowFirst, IsWhole, Begins, WritesJson}
+use Rattle.borsh_json.specs.Printed.{AreWritten, HasShortNumbers, IsShortNumber}
+use Rattle.borsh_json.specs.declared.output.LongNumbers.{LongNumbers}
+use Rattle.borsh_json.specs.declared.output.LongNumbers.TheVariants.{Quoted}
+use Rattle.borsh_json.proofs.FormsLaws.{shapes_are}
+use Rattle.borsh_json.proofs.OpeningLaws.{some_one}
 use Rattle.borsh_json.proofs.StepLaws.{item_back}
+
+-- a number that is written so is short where it has to be, and so is each that the text has
+pub short_numbers : (long : LongNumbers) (j : Json) (text : List ℕ) → document text ≡ Some j → AreWritten long (json_tokens j) → long ≡ Quoted → HasShortNumbers text
+short_numbers long j text d w e k f =
+    let same = some_one k j (sym f ∙ d) in
+    subst (λ (j : Json). All IsShortNumber (json_tokens j)) same (subst (λ (l : LongNumbers). AreWritten l (json_tokens j)) e w)
 
 -- ---- at the end
 -- what was written is the text of the JSON
-pub whole_read : (F : List ℕ → Option Form) (root text : List ℕ) (ts : List Token) (bytes : List ℕ) → tokens text ≡ ts → IsWhole F root ts bytes → (j : Json) × (document text ≡ Some j) × HaveBytes F ((root, j) ∷ []) bytes
-whole_read F root text ts bytes e w =
-    let j = w.0 in
-    let t = tokens-print (json_tokens j) (ArePrintable-json_tokens j w.2) in
-    let s : tokens text ≡ tokens (print (json_tokens j)) = e ∙ w.1 ∙ sym t in
-    (j, ap (λ ts. option_and_then (λ p. if_last p.0 p.1) (value max_depth ts)) s ∙ document-print j w.2 w.3, w.4)
+pub json_read : (text : List ℕ) (j : Json) → tokens text ≡ json_tokens j → HasNumbers j → depth j ≤ 128 → document text ≡ Some j
+json_read text j e n d =
+    let s : tokens text ≡ tokens (print (json_tokens j)) = e ∙ sym (tokens-print (json_tokens j) (ArePrintable-json_tokens j n)) in
+    ap (λ ts. option_and_then (λ p. if_last p.0 p.1) (value max_depth ts)) s ∙ document-print j n d
+
+module _ {A : Type 0} (m : BTreeMap (String A) Definition) (root bytes : List ℕ) (out : Output) (w : WritesJson (forms_in m) root bytes out) (is : Member (definitions_in m) root bytes) where
+  -- the text that was written
+  pub text_represents : (text : List ℕ) → tokens text ≡ json_tokens w.0 → TextRepresents (forms_in m) root text bytes
+  text_represents text e = (w.0, json_read text w.0 e w.2 w.3, w.4, subst (λ C. Member C root bytes) (sym (shapes_are m)) is, w.5)
+
+  -- or that could be
+  pub is_represented : IsRepresented (forms_in m) root bytes
+  is_represented = let ts = json_tokens w.0 in (print ts, text_represents (print ts) (tokens-print ts (ArePrintable-json_tokens w.0 w.2)))
 
 module _ (F : List ℕ → Option Form) (root : List ℕ) where
   -- in front of the root nothing was written

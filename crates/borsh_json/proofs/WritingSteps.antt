@@ -18,7 +18,7 @@ use Rattle.borsh_json.specs.declared.sources.EntryKey.{EntryKey}
 use Rattle.borsh_json.specs.Checked.{one, AreChecked, nothing_due}
 use Rattle.borsh_json.specs.Forms.{Form, shapes, HasNoBytes}
 use Rattle.borsh_json.specs.Frames.{IsEntryKey}
-use Rattle.borsh_json.specs.Leaves.{output_tokens, WritesLeaf}
+use Rattle.borsh_json.specs.Leaves.{WritesLeaf}
 use Rattle.borsh_json.specs.Places.{IsAt}
 use Rattle.borsh_json.specs.Represents.{SaysFirst, HaveBytes, next_part}
 use Rattle.borsh_json.specs.Table.{Part, key_json}
@@ -144,9 +144,9 @@ module _ (F : List ℕ → Option Form) (ns : List Named) (root bytes : List ℕ
     read = f h.read;
   }
 
-  module _ (x : List ℕ) (n : ℕ) (p : Place) (ps : List Place) (m : Mark) (ms : List Mark) (left : List ℕ) (old : Output) (a : IsAwaiting F ns root bytes x n p ps m ms left (output_tokens old)) (own after : List ℕ) (new : Output) where
+  module _ (x : List ℕ) (n : ℕ) (p : Place) (ps : List Place) (m : Mark) (ms : List Mark) (left : List ℕ) (written : List Token) (a : IsAwaiting F ns root bytes x n p ps m ms left written) (own after : List ℕ) (old new : Output) where
     -- a value was written whole
-    pub leaf_writes : (k : ℕ) (zeros : List (List ℕ)) → k ≤ n → Nested (shapes F) root (opened a.value (Some (length a.done)) a.beside ∷ a.outer) (a.done ++ own) → WritesLeaf F k x own old new → ((y : List ℕ) → IsIn y zeros → HasNoBytes F y) → IsHalved F root bytes (a.done ++ own) after (zeros ++ names_of_all (a.inner ∷ a.around)) → IsCheckedTo F root bytes [] (m ∷ ms) (a.inner ∷ a.around) after → IsWriting F ns root bytes p ps m ms after (output_tokens new)
+    pub leaf_writes : (k : ℕ) (zeros : List (List ℕ)) → k ≤ n → Nested (shapes F) root (opened a.value (Some (length a.done)) a.beside ∷ a.outer) (a.done ++ own) → (leaf : WritesLeaf F k x own old new) → ((y : List ℕ) → IsIn y zeros → HasNoBytes F y) → IsHalved F root bytes (a.done ++ own) after (zeros ++ names_of_all (a.inner ∷ a.around)) → IsCheckedTo F root bytes [] (m ∷ ms) (a.inner ∷ a.around) after → IsWriting F ns root bytes p ps m ms after (written ++ json_tokens leaf.json)
     leaf_writes k zeros l nested leaf z h rises =
         let s = settled (shapes F) root nested a.levels in
         record {
@@ -161,11 +161,11 @@ module _ (F : List ℕ → Option Form) (ns : List Named) (root bytes : List ℕ
           levels = s.1;
           nested = s.2;
           rises = rises;
-          begun = begun_so F root _ _ (output_tokens new) _ (a.done ++ own) leaf.adds.tokens refl (leaf_written F root (a.inner ∷ a.around) x n leaf.json own (output_tokens old) a.done leaf.numbers (let d = leaf.nests in omega (arith, d, l)) leaf.says a.begun);
+          begun = leaf_written F root (a.inner ∷ a.around) x n leaf.json own written a.done leaf.numbers (let d = leaf.nests in omega (arith, d, l)) leaf.says a.begun;
         }
 
     -- or its beginning
-    pub front_writes : (d : Shape) (r : Rest) (q : Place) (qs : List Place) → length a.around < 128 → shapes F x ≡ Some d → Opens (shapes F) d own (names_of_rest r) → IsRest F ns q r → WritesFront F x own r old new → qs ≡ ps ++ p ∷ [] → IsHalved F root bytes (a.done ++ own) after (names_of_rest r ++ names_of_all (a.inner ∷ a.around)) → (keys : Option (List ℕ)) → left ≡ own ++ after → IsDueAs F x own (names_of_rest r) keys → IsWriting F ns root bytes q qs (x, None, keys) (m ∷ ms) after (output_tokens new)
+    pub front_writes : (d : Shape) (r : Rest) (q : Place) (qs : List Place) → length a.around < 128 → shapes F x ≡ Some d → Opens (shapes F) d own (names_of_rest r) → IsRest F ns q r → (f : WritesFront F x own r old new) → qs ≡ ps ++ p ∷ [] → IsHalved F root bytes (a.done ++ own) after (names_of_rest r ++ names_of_all (a.inner ∷ a.around)) → (keys : Option (List ℕ)) → left ≡ own ++ after → IsDueAs F x own (names_of_rest r) keys → IsWriting F ns root bytes q qs (x, None, keys) (m ∷ ms) after (written ++ f.front)
     front_writes d r q qs l c o k f e h keys joins due =
         record {
           inner = r;
@@ -179,7 +179,7 @@ module _ (F : List ℕ → Option Form) (ns : List Named) (root bytes : List ℕ
           levels = a.levels;
           nested = entered d own a.nested c o;
           rises = front_checked F bytes root x own after left r keys joins due a.rises;
-          begun = begun_so F root _ _ (output_tokens new) _ (a.done ++ own) f.adds.tokens refl (front_written F root r (a.inner ∷ a.around) x n f.front own (output_tokens old) a.done (let m = a.room in omega (arith, m)) f.whole a.begun);
+          begun = front_written F root r (a.inner ∷ a.around) x n f.front own written a.done (let m = a.room in omega (arith, m)) f.whole a.begun;
         }
 
   module _ (p : Place) (ps : List Place) (m : Mark) (ms : List Mark) (left : List ℕ) (written new brackets : List Token) (w : IsWriting F ns root bytes p ps m ms left written) (none : names_of_rest w.inner ≡ []) (last : MayFollow w.inner (128 - length w.around) brackets []) (e : new ≡ written ++ brackets) where

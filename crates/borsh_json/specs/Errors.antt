@@ -1,8 +1,11 @@
 -- Why bytes have no JSON, and why a text is no value.
-use Rattle.std.specs.Prelude.{◌≡◌, ⊤, ℕ, List, Option, None, IsSome}
-use Rattle.json.specs.Json.{document}
+use Rattle.std.specs.Prelude.{◌≡◌, ◌⊎◌, ⊤, ℕ, suc, ◌-◌, ◌<◌, List, [], ◌∷◌, ◌++◌, Option, None, IsSome}
+use Rattle.json.specs.Token.{Token, begin_object, end_object, begin_array, end_array, key, string, number, boolean, null, bad}
+use Rattle.json.specs.Lex.{tokens}
+use Rattle.json.specs.Json.{document, max_depth}
 use Rattle.borsh_walks.specs.Container.{Shape, Member}
 use Rattle.borsh_values.specs.Membership.{IsUndecided, IsFault}
+use Rattle.borsh_values.specs.declared.faults.Path.{Path}
 use Rattle.borsh_json.specs.declared.error.JsonError.{JsonError}
 use Rattle.borsh_json.specs.declared.error.JsonError.TheVariants.{OutOfMemory, NoMember, NoValue, Ambiguous, NotJson, Refused}
 use Rattle.borsh_json.specs.declared.error.PartError.{PartError}
@@ -10,7 +13,7 @@ use Rattle.borsh_json.specs.declared.error.PartError.TheVariants.{OutOfMemory as
 use Rattle.borsh_json.specs.declared.error.ReadError.{ReadError}
 use Rattle.borsh_json.specs.declared.error.ReadError.TheVariants.{OutOfMemory as NoRoom, Refused as RefusedRead, Descends as DescendsAt}
 use Rattle.borsh_json.specs.declared.error.Refusal.{Refusal}
-use Rattle.borsh_json.specs.declared.error.Refusal.TheVariants.{TooDeep, RepeatedName, EmptyElements, NotBool, NotUtf8, Zero, NotNumber, Descends, OtherNodes, Expected, MissingField, UnknownName, RepeatedKey, Undefined}
+use Rattle.borsh_json.specs.declared.error.Refusal.TheVariants.{TooDeep, RepeatedName, EmptyElements, NotBool, NotUtf8, Zero, NotNumber, Descends, Expected, MissingField, UnknownName, RepeatedKey, Undefined}
 
 -- ---- which refusals a call may return
 
@@ -24,7 +27,6 @@ IsTooDeep NotUtf8 = ⊥
 IsTooDeep Zero = ⊥
 IsTooDeep NotNumber = ⊥
 IsTooDeep Descends = ⊥
-IsTooDeep OtherNodes = ⊥
 IsTooDeep (Expected wanted) = ⊥
 IsTooDeep MissingField = ⊥
 IsTooDeep (UnknownName name) = ⊥
@@ -41,7 +43,6 @@ IsUnwritable NotUtf8 = ⊤
 IsUnwritable Zero = ⊤
 IsUnwritable NotNumber = ⊤
 IsUnwritable Descends = ⊤
-IsUnwritable OtherNodes = ⊤
 IsUnwritable (Expected wanted) = ⊥
 IsUnwritable MissingField = ⊥
 IsUnwritable (UnknownName name) = ⊥
@@ -58,7 +59,6 @@ IsUnreadable NotUtf8 = ⊥
 IsUnreadable Zero = ⊥
 IsUnreadable NotNumber = ⊥
 IsUnreadable Descends = ⊤
-IsUnreadable OtherNodes = ⊤
 IsUnreadable (Expected wanted) = ⊤
 IsUnreadable MissingField = ⊤
 IsUnreadable (UnknownName name) = ⊤
@@ -83,19 +83,45 @@ error_of (RefusedPart path refusal) = Refused path refusal
 
 -- ---- errors of whole calls
 
--- the error may be returned for a text that is no JSON: an allocation failed, or the text is wrong at a byte or nests too deep
-abbrev pub TellsNoJson : JsonError → Type 0
-TellsNoJson OutOfMemory = ⊤
-TellsNoJson (NoMember f) = ⊥
-TellsNoJson NoValue = ⊥
-TellsNoJson (Ambiguous x) = ⊥
-TellsNoJson (NotJson offset) = ⊤
-TellsNoJson (Refused path refusal) = IsTooDeep refusal
+-- how many arrays and objects are open behind a token, where so many are in front of it
+abbrev pub open_after : ℕ → Token → ℕ
+open_after n begin_object = suc n
+open_after n end_object = n - 1
+open_after n begin_array = suc n
+open_after n end_array = n - 1
+open_after n (key s) = n
+open_after n (string s) = n
+open_after n (number s) = n
+open_after n (boolean b) = n
+open_after n null = n
+open_after n bad = n
 
--- a text may be refused so: whether it is JSON or not, since it nests too deep; otherwise only if it is JSON that can't be read
-abbrev pub IsTextRefusal : List ℕ → Refusal → Type 0
-IsTextRefusal text TooDeep = ⊤
-IsTextRefusal text refusal = IsSome (document text) × IsUnreadable refusal
+-- and behind several
+abbrev pub open_behind : ℕ → List Token → ℕ
+open_behind n [] = n
+open_behind n (t ∷ ts) = open_behind (open_after n t) ts
+
+-- behind some of a text's tokens more than 128 arrays and objects are open
+abbrev pub OpensTooMany : List ℕ → Type 0
+OpensTooMany text = (front : List Token) × (rest : List Token) × (tokens text ≡ front ++ rest) × (max_depth < open_behind 0 front)
+
+-- the path is the root's, and the text nests too deep, whether it is JSON or not
+abbrev pub IsDeepText : List ℕ → List ℕ → Path → Type 0
+IsDeepText root text path = (path.root.now ≡ root) × (path.steps.items ≡ []) × OpensTooMany text
+
+-- the error may be returned for a text that is no JSON: an allocation failed, or the text is wrong at a byte or nests too deep
+abbrev pub TellsNoJson : List ℕ → List ℕ → JsonError → Type 0
+TellsNoJson root text OutOfMemory = ⊤
+TellsNoJson root text (NoMember f) = ⊥
+TellsNoJson root text NoValue = ⊥
+TellsNoJson root text (Ambiguous x) = ⊥
+TellsNoJson root text (NotJson offset) = ⊤
+TellsNoJson root text (Refused path refusal) = (refusal ≡ TooDeep) × IsDeepText root text path
+
+-- a text is refused so: it is JSON that can't be read; or its tokens open too many arrays and objects
+abbrev pub IsTextRefusal : List ℕ → List ℕ → Path → Refusal → Type 0
+IsTextRefusal root text path TooDeep = IsSome (document text) ⊎ IsDeepText root text path
+IsTextRefusal root text path refusal = IsSome (document text) × IsUnreadable refusal
 
 module _ (C : List ℕ → Option Shape) (root : List ℕ) where
   -- the error is a true reason why a call has no answer for the bytes: they are no member of the root, or undecided, or a member that is refused in one of these ways
@@ -126,4 +152,4 @@ module _ (C : List ℕ → Option Shape) (root : List ℕ) where
   IsTextReason text NoValue = IsSome (document text)
   IsTextReason text (Ambiguous x) = IsSome (document text) × IsUndecided C root x.now
   IsTextReason text (NotJson offset) = document text ≡ None
-  IsTextReason text (Refused path refusal) = IsTextRefusal text refusal
+  IsTextReason text (Refused path refusal) = IsTextRefusal root text path refusal

@@ -5,12 +5,12 @@ use Rattle.std.specs.Float.Ieee.{top}
 use Rattle.std.specs.Float.Parse.{parse_float}
 use Rattle.json.specs.Json.{Json}
 use Rattle.json.specs.Print.{IsNumber}
-use Rattle.borsh_walks.specs.Container.{low_bytes}
+use Rattle.borsh_walks.specs.Container.{little_endian}
 use Rattle.borsh_json.specs.Table.{float_size, float_of, infinity_of, IsFloat}
 
 -- the bytes are those of a NaN
 abbrev pub IsNan : Format → List ℕ → Type 0
-IsNan f bytes = (bits : ℕ) × (bytes ≡ low_bytes (float_size f) bits) × (bits < 256 ^ float_size f) × (is_nan (from_bits f bits) ≡ true)
+IsNan f bytes = (bits : ℕ) × (bytes ≡ little_endian (float_size f) bits) × (bits < 256 ^ float_size f) × (is_nan (from_bits f bits) ≡ true)
 
 -- the text reads back as the float: it is a number, or the word of an infinity
 abbrev pub ReadsBack : Format → Float → List ℕ → Type 0

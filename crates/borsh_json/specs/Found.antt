@@ -14,7 +14,7 @@ use Rattle.borsh_json.specs.declared.kinds.Kind.TheVariants.{Number, Bool as Tru
 use Rattle.borsh_json.specs.declared.kinds.Elements.{Elements as FoundElements}
 use Rattle.borsh_json.specs.declared.kinds.Entries.{Entries as FoundEntries}
 use Rattle.borsh_json.specs.Forms.{Form, form_of, forms_in, HasNoBytes, IsList, IsMap}
-use Rattle.borsh_json.specs.Table.{Kind, whole, truth, raw, float, float_size, Keys, AreKeys}
+use Rattle.borsh_json.specs.Table.{Kind, whole, truth, raw, float, float_size, Keys, AreKeys, ComesTwice}
 use Rattle.borsh_json.specs.Places.{IsAt, IsKindOf, AreKeysOf}
 use Rattle.borsh_json.specs.Represents.{TextSays}
 
@@ -73,9 +73,9 @@ IsPrimitiveKind (Optional at) kind = ⊥
 IsPrimitiveKind (Choice w vs) kind = ⊥
 IsPrimitiveKind (Repeated name) kind = ⊥
 
--- a name that comes twice, if there is one
+-- a name that comes twice, if one does
 abbrev pub IsRepeated : List (List ℕ) → Option (Bor (List ℕ)) → Type 0
-IsRepeated names found = MatchOption found (IsDistinct bytes_eq names) (λ name. IsDistinct bytes_eq names → ⊥)
+IsRepeated names found = MatchOption found (IsDistinct bytes_eq names) (λ name. (IsDistinct bytes_eq names → ⊥) × ComesTwice name.now names)
 
 -- `BTreeSet<T>` or `HashSet<T>`, where e is T
 abbrev pub IsSetName : List ℕ → List ℕ → Type 0

@@ -1,5 +1,5 @@
 -- What the frames of the reader stand for, and what its steps return.
-use Rattle.std.specs.Prelude.{◌≡◌, ◌⊎◌, ⊤, ℕ, suc, zero, ℤ, String, slice_get, List, [], ◌∷◌, ◌++◌, ◌+◌, ◌-◌, ◌*◌, ◌<◌, ◌≤◌, All, length, map, drop, replicate, Bool, true, false, Option, Some, None, Result, MatchOption, MatchResult, codes, string_bytes}
+use Rattle.std.specs.Prelude.{◌≡◌, ◌⊎◌, ⊤, ℕ, suc, zero, ℤ, String, slice_get, List, [], ◌∷◌, ◌++◌, ◌+◌, ◌-◌, ◌*◌, ◌<◌, ◌≤◌, All, length, map, drop, replicate, Bool, true, false, Option, Some, None, IsSome, Result, MatchOption, MatchResult, codes, string_bytes}
 use Rattle.std.specs.Borrow.{Bor}
 use Rattle.std.specs.Global.{Global}
 use Rattle.std.specs.Str.{bytes_eq}
@@ -23,7 +23,7 @@ use Rattle.borsh_json.specs.declared.error.PartError.TheVariants.{OutOfMemory as
 use Rattle.borsh_json.specs.declared.error.ReadError.{ReadError}
 use Rattle.borsh_json.specs.declared.error.ReadError.TheVariants.{OutOfMemory, Refused, Descends as DescendsAt}
 use Rattle.borsh_json.specs.declared.error.Refusal.{Refusal}
-use Rattle.borsh_json.specs.declared.error.Refusal.TheVariants.{Descends, OtherNodes, Expected, RepeatedKey}
+use Rattle.borsh_json.specs.declared.error.Refusal.TheVariants.{Descends, Expected, RepeatedKey}
 use Rattle.borsh_json.specs.Errors.{IsUnreadable}
 use Rattle.borsh_json.specs.declared.kinds.Elements.{Elements as FoundElements}
 use Rattle.borsh_json.specs.declared.kinds.KeyKind.{KeyKind}
@@ -51,28 +51,38 @@ use Rattle.borsh_json.specs.Forms.{Form, named, form_of, shape_of_form}
 use Rattle.borsh_json.specs.Found.{forms_of, names_of}
 use Rattle.borsh_json.specs.Descents.{NumbersDescend}
 use Rattle.borsh_json.specs.InOrder.{Step, field as field_step, place as place_step, element as element_step, variant as variant_step, AreSteps, BeginsParts, DigitsFall, IsReached, ItemsFall, InOrder}
-use Rattle.borsh_json.specs.NoValue.{step_of, path_steps, RepeatsKey, LacksField, HasOthers, Why, FailsAt, SaysNothing}
+use Rattle.borsh_json.specs.NoValue.{step_of, path_steps, RepeatsKey, FailsHere, LacksField, HasOther, Why, FailsAt, SaysNothing}
 use Rattle.borsh_json.specs.Orders.{AreOrderedNumbers, KeysAscend, OrderedBy, ValuesCompare}
 use Rattle.borsh_json.specs.Places.{IsAt, AreKeysOf}
 use Rattle.borsh_json.specs.Ranks.{HasRank}
-use Rattle.borsh_json.specs.Represents.{SaysFirst, HaveBytes, SaysSome}
+use Rattle.borsh_json.specs.Represents.{SaysFirst, HaveBytes}
 use Rattle.borsh_json.specs.Table.{Lengths, Keys, Kind, byte_list, list, row, inner, fields, optional, variants, entries, HasKind, Part as JsonPart, row_parts, list_parts, field_parts, Entry, entries_of, key_order, key_json, entry_parts, IsVariant, IsWhole, IsPrefixed, IsArray, Says}
 
 -- ---- errors
 
--- the error shows that P doesn't hold, for a reason of these; or that the element at an index falls
+-- the error shows P, for a reason of these; or that the element at an index falls
+abbrev pub ShowsOr : (ℕ → Type 0) → (Refusal → Type 0) → ReadError → Type 0 → Type 0
+ShowsOr Falls Reason OutOfMemory P = ⊤
+ShowsOr Falls Reason (Refused refusal) P = Reason refusal × P
+ShowsOr Falls Reason (DescendsAt index) P = Falls index
+
+abbrev pub ShowsRead : (Refusal → Type 0) → ReadError → Type 0 → Type 0
+ShowsRead Reason e P = ShowsOr (λ index. ⊥) Reason e P
+
+-- that P doesn't hold
 abbrev pub DeniesOr : (ℕ → Type 0) → (Refusal → Type 0) → ReadError → Type 0 → Type 0
-DeniesOr Falls Reason OutOfMemory P = ⊤
-DeniesOr Falls Reason (Refused refusal) P = Reason refusal × (P → ⊥)
-DeniesOr Falls Reason (DescendsAt index) P = Falls index
+DeniesOr Falls Reason e P = ShowsOr Falls Reason e (P → ⊥)
 
 abbrev pub DeniesRead : (Refusal → Type 0) → ReadError → Type 0 → Type 0
 DeniesRead Reason e P = DeniesOr (λ index. ⊥) Reason e P
 
+-- that the JSON of the name fails itself
+abbrev pub FailsRead : (List ℕ → Option Form) → List ℕ → Json → ReadError → Type 0
+FailsRead F x j e = ShowsRead (Why F x j) e (FailsHere F x j)
+
 -- other JSON is expected
 abbrev pub IsUnexpected : Refusal → Type 0
 IsUnexpected (Expected wanted) = ⊤
-IsUnexpected OtherNodes = ⊤
 IsUnexpected refusal = ⊥
 
 -- or a key comes twice
@@ -162,10 +172,10 @@ found_step (Some step) = step_of step ∷ []
 
 -- ---- what is left of a place
 
--- items of these types; fields that are looked up in an object, of whose members so many are left; or entries
+-- items of these types; behind fields that were looked up in an object others, of whose members so many are left; or entries
 pub data Left : Type 0 where
   items_left : List (List ℕ) → Items → Left
-  fields_left : List (List ℕ × List ℕ) → Members → ℕ → Left
+  fields_left : List (List ℕ × List ℕ) → List (List ℕ × List ℕ) → Members → ℕ → Left
   entries_left : Keys → List ℕ → List ℕ → List Entry → Left
 
 -- a list, set or array
@@ -259,13 +269,17 @@ abbrev pub AreNext : List Wanted → Members → Members → Type 0
 AreNext [] rest ms = rest ≡ no_members
 AreNext (f ∷ fs) rest ms = (j : Json) × (more : Members) × (rest ≡ member f.0 j more) × (get_member f.0 ms ≡ Some j) × AreNext fs more ms
 
-abbrev pub HasFields : Source → List Wanted → Members → ℕ → Type 0
-HasFields (One e) fs ms n = ⊥
-HasFields (TheItems ts) fs ms n = ⊥
-HasFields (TheMembers m) fs ms n = IsDistinct bytes_eq (map (λ f. f.0) fs) × AreFound m fs ms × (btree_map_len m ≡ n)
-HasFields (InPlace ts) fs ms n = (rest : Members) × InMembers ts rest × AreNext fs rest ms × (n ≡ length fs)
-HasFields (Texts m) fs ms n = ⊥
-HasFields (Ranks m) fs ms n = ⊥
+-- each text that the map finds is a key of the object, and the name of none of these fields
+abbrev pub AreOthers : BTreeMap (Bor (List ℕ)) (List Token) → List Wanted → Members → Type 0
+AreOthers m gs ms = (name : List ℕ) → IsSome (mark_of m name) → IsSome (get_member name ms) × (list_any (λ (g : Wanted). bytes_eq name g.0) gs ≡ false)
+
+abbrev pub HasFields : Source → List Wanted → List Wanted → Members → ℕ → Type 0
+HasFields (One e) gs fs ms n = ⊥
+HasFields (TheItems ts) gs fs ms n = ⊥
+HasFields (TheMembers m) gs fs ms n = IsDistinct bytes_eq (map (λ f. f.0) fs) × AreFound m fs ms × (btree_map_len m ≡ n) × AreOthers m gs ms
+HasFields (InPlace ts) gs fs ms n = (rest : Members) × InMembers ts rest × AreNext fs rest ms × (n ≡ length fs)
+HasFields (Texts m) gs fs ms n = ⊥
+HasFields (Ranks m) gs fs ms n = ⊥
 
 -- the key of a map stands for the text: it is the text, or the rank of the number that the text is
 abbrev pub IsText : Bor (List ℕ) → List ℕ → Type 0
@@ -297,9 +311,11 @@ HasEntries (NumberKeys n) (Ranks m) es = AreKeyed (IsRank n) m.entries es
 abbrev pub HaveOneEach : List Entry → Type 0
 HaveOneEach es = (xs ys : List Entry) (e : Entry) → es ≡ xs ++ e ∷ ys → list_any (λ x. bytes_eq e.0 x.0) xs ≡ false
 
--- each key is a number of the type
-abbrev pub HaveNumbers : Number → List Entry → Type 0
-HaveNumbers n es = (xs ys : List Entry) (e : Entry) → es ≡ xs ++ e ∷ ys → (own : List ℕ) × IsWhole n.size n.is_signed n.is_non_zero e.0 own
+-- a key of the object is no number of the type
+abbrev pub HasNoNumber : Number → Json → Type 0
+HasNoNumber n j =
+    (ms : Members) × (xs : List Entry) × (e : Entry) × (ys : List Entry) × (j ≡ object ms) × (entries_of ms ≡ xs ++ e ∷ ys)
+    × ((own : List ℕ) → IsWhole n.size n.is_signed n.is_non_zero e.0 own → ⊥)
 
 -- the entries of a JSON object in the order of their keys, and how many they are
 abbrev pub AreSorted : Keys → KeyKind → Json → Source × ℕ → Type 0
@@ -320,6 +336,15 @@ NoneLeft (TheMembers m) = btree_map_len m ≡ 0
 NoneLeft (InPlace ts) = ⊤
 NoneLeft (Texts m) = ⊤
 NoneLeft (Ranks m) = ⊤
+
+-- a member of this name is left
+abbrev pub IsLeft : Source → List ℕ → Type 0
+IsLeft (One e) name = ⊥
+IsLeft (TheItems ts) name = ⊥
+IsLeft (TheMembers m) name = IsSome (mark_of m name)
+IsLeft (InPlace ts) name = ⊥
+IsLeft (Texts m) name = ⊥
+IsLeft (Ranks m) name = ⊥
 
 -- all these parts are in order
 abbrev pub AreInOrder : (List ℕ → Option Form) → List JsonPart → Type 0
@@ -360,13 +385,13 @@ module _ (F : List ℕ → Option Form) (ns : List Named) where
   -- a place, and the JSON of its parts
   abbrev pub HasLeft : Parts → ℕ → Source → Left → Type 0
   HasLeft p i s (items_left xs js) = (ws : List Wanted) × IsWanted F ns p i ws × (xs ≡ map (λ w. w.1) ws) × HasItems s js × (ps : List JsonPart) × (row_parts xs js ≡ Some ps) × (IsMapPlace p → ⊥)
-  HasLeft p i s (fields_left fs ms n) = IsObject p × IsWanted F ns p i fs × HasFields s fs ms n
+  HasLeft p i s (fields_left gs fs ms n) = IsObject p × IsWanted F ns p i fs × HasFields s gs fs ms n
   HasLeft p i s (entries_left keys k v es) = (ws : List Wanted) × IsWanted F ns p i ws × (length ws ≡ length es) × AreEntriesOf p s keys k v es
 
   -- JSON of this kind says the own bytes, the parts that were begun and those that are left; of an object the fields are there that were begun
   abbrev pub SaysOn : Kind → Json → List ℕ → List JsonPart → Left → Type 0
   SaysOn kind i own ds (items_left xs js) = (ps : List JsonPart) × (row_parts xs js ≡ Some ps) × Says F kind i own (ds ++ ps)
-  SaysOn kind i own ds (fields_left fs ms n) = (gs : List Wanted) × (kind ≡ fields (gs ++ fs)) × IsDistinct bytes_eq (map (λ f. f.0) (gs ++ fs)) × (own ≡ []) × (i ≡ object ms) × (field_parts gs ms ≡ Some ds) × (length (entries_of ms) ≡ n + length gs)
+  SaysOn kind i own ds (fields_left gs fs ms n) = (kind ≡ fields (gs ++ fs)) × IsDistinct bytes_eq (map (λ f. f.0) (gs ++ fs)) × (own ≡ []) × (i ≡ object ms) × (field_parts gs ms ≡ Some ds) × (length (entries_of ms) ≡ n + length gs)
   SaysOn kind i own ds (entries_left keys k v es) = Says F kind i own (ds ++ entry_parts keys k v es)
 
   -- a place of a value of this kind, of which so many parts were begun
@@ -390,11 +415,11 @@ module _ (F : List ℕ → Option Form) (ns : List Named) where
   SaysAll zero x i own ds = (own ≡ []) × (ds ≡ (x, i) ∷ [])
   SaysAll (suc d) x i own ds = SaysFirst F x i own ds
 
-  -- the error denies that the key of the next entry says some bytes
+  -- the error is of the key of the next entry, which fails
   abbrev pub DeniesKey : ℕ → List ℕ → Json → List ℕ → List JsonPart → Place → ReadError → Type 0
   DeniesKey d x i own ds p e =
       (kind : Kind) × (y : List ℕ) × (k : Json) × (0 < d) × HasKind F x kind × BeginsParts F kind i own (ds ++ (y, k) ∷ [])
-      × AreSteps kind i (length ds) (first_steps p.parts p.begun ++ place_step 0 ∷ []) × DeniesRead (Why F y k) e (SaysSome F y k)
+      × AreSteps kind i (length ds) (first_steps p.parts p.begun ++ place_step 0 ∷ []) × FailsRead F y k e
 
   -- the next entry of a map, whose key was added
   abbrev pub IsNextEntry : Keys → List ℕ → List ℕ → List Entry → KeyKind → Source → List ℕ → List ℕ → Next → Type 0
@@ -428,13 +453,13 @@ module _ (F : List ℕ → Option Form) (ns : List Named) where
     abbrev pub IsOpened : List ℕ → Json → List ℕ → List ℕ → Result (Option Frame) ReadError → Type 0
     IsOpened x j old new result = MatchResult result
         (λ found. (own : List ℕ) × (new ≡ old ++ own) × IsFound x j own found)
-        (λ e. DeniesRead (Why F x j) e (SaysSome F x j))
+        (λ e. FailsRead F x j e)
 
     -- or its digits don't ascend
     abbrev pub IsOpenedOrFalls : List ℕ → Json → List ℕ → List ℕ → Result (Option Frame) ReadError → Type 0
     IsOpenedOrFalls x j old new result = MatchResult result
         (λ found. (own : List ℕ) × (new ≡ old ++ own) × IsFound x j own found)
-        (λ e. DeniesOr (DigitsFall F x j) (Why F x j) e (SaysSome F x j))
+        (λ e. ShowsOr (DigitsFall F x j) (Why F x j) e (FailsHere F x j))
 
     -- what comes next of a place: a part, behind the key if it is of an entry; a field that the object hasn't; or nothing
     abbrev pub IsNext : ℕ → List ℕ → Json → List ℕ → List JsonPart → Place → Source → List ℕ → List ℕ → Next → Type 0
@@ -442,7 +467,7 @@ module _ (F : List ℕ → Option Form) (ns : List Named) where
         (es : List JsonPart) × (key : List ℕ) × (y : List ℕ) × (k : Json)
         × HaveBytes F es key × (new ≡ old ++ key) × IsAt ns at y × BeginsWith e k × IsDoing p s d x i own (ds ++ (es ++ (y, k) ∷ [])) × ((es ≡ []) ⊎ IsMapPlace p.parts) × AreInOrder F es
     IsNext d x i own ds p s old new Missing = (name : List ℕ) × LacksField F x i name × (0 < d) × (steps_at p ≡ field_step name ∷ [])
-    IsNext d x i own ds p s old new End = (new ≡ old) × (NoneLeft s → SaysAll d x i own ds) × ((NoneLeft s → ⊥) → HasOthers F x i)
+    IsNext d x i own ds p s old new End = (new ≡ old) × (NoneLeft s → SaysAll d x i own ds) × ((name : List ℕ) → IsLeft s name → HasOther F x i name)
 
 -- for any definitions and places: the JSON of a name of this kind was opened
 abbrev pub Opens : ((List ℕ → Option Form) → List Named → List ℕ → Type 0) → List Token → List ℕ → List ℕ → Result (Option Frame) ReadError → Type 0
@@ -520,8 +545,8 @@ module _ (F : List ℕ → Option Form) (ns : List Named) (orders : List Known) 
     pub done : HaveBytes F ds mid
     pub out_is : out ≡ before ++ (own ++ mid)
 
-  -- all are read, and it has no others where no member of its object is left
-  pub record IsEnded (p : Place) (none : Type 0) (out : List ℕ) (d : ℕ) (path : List Step) (before x : List ℕ) (i : Json) : Type 0 where
+  -- all are read, and it has others where a member of its object is left
+  pub record IsEnded (p : Place) (s : Source) (out : List ℕ) (d : ℕ) (path : List Step) (before x : List ℕ) (i : Json) : Type 0 where
     pub own : List ℕ
     pub ds : List JsonPart
     pub mid : List ℕ
@@ -529,9 +554,9 @@ module _ (F : List ℕ → Option Form) (ns : List Named) (orders : List Known) 
     pub done : HaveBytes F ds mid
     pub out_is : out ≡ before ++ (own ++ mid)
     pub at_root : d ≡ 0 → steps_at p ≡ []
-    pub all : none → SaysAll F ns d x i own ds
-    pub in_order : none → InOrder F x i
-    pub others : (none → ⊥) → HasOthers F x i
+    pub all : NoneLeft s → SaysAll F ns d x i own ds
+    pub in_order : NoneLeft s → InOrder F x i
+    pub others : (name : List ℕ) → IsLeft s name → HasOther F x i name
 
   -- from a place on, which is inside of so many: the last part of each, that was begun, is the value of the next one; R holds of the innermost
   abbrev pub HaveAround : List Place → List Source → ℕ → List Step → List ℕ → List ℕ → Json → (ℕ → List Step → List ℕ → List ℕ → Json → Type 0) → Type 0
@@ -555,7 +580,7 @@ HasBegun d root j r at e = Holds d root j r (λ n path before x i. (y : List ℕ
 
 -- it read the last part of a value
 abbrev pub HasEnded : Definitions → List ℕ → Json → Reading → Type 0
-HasEnded d root j r = Holds d root j r (IsEnded (forms_of d) (names_of d) d.orders.items root j r.position.place (NoneLeft r.source) r.out.items)
+HasEnded d root j r = Holds d root j r (IsEnded (forms_of d) (names_of d) d.orders.items root j r.position.place r.source r.out.items)
 
 -- more is to be read; or all was, and the root's JSON says these bytes, in order
 abbrev pub IsReadOn : Definitions → List ℕ → Json → Reading → Bool → Type 0

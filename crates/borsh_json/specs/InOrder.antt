@@ -90,3 +90,7 @@ module _ (F : List ℕ → Option Form) where
   -- the text is JSON that says the bytes, these are a member of the root, and what has to ascend does
   abbrev pub TextRepresents : List ℕ → List ℕ → List ℕ → Type 0
   TextRepresents root text bytes = (j : Json) × (document text ≡ Some j) × HaveBytes F ((root, j) ∷ []) bytes × Member (shapes F) root bytes × InOrder root j
+
+  -- some text is such JSON of the bytes
+  abbrev pub IsRepresented : List ℕ → List ℕ → Type 0
+  IsRepresented root bytes = (text : List ℕ) × TextRepresents root text bytes

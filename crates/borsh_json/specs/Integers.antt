@@ -1,5 +1,5 @@
 -- Whole numbers that bytes encode.
-use Rattle.std.specs.Prelude.{◌≡◌, ℕ, ◌-◌, ℤ, pos, negsuc, List, Bool, true, false}
+use Rattle.std.specs.Prelude.{◌≡◌, ℕ, ℤ, pos, negsuc, List, Bool, true, false}
 use Rattle.borsh_walks.specs.Container.{tag}
 use Rattle.borsh_json.specs.Table.{InRange}
 use Rattle.borsh_json.specs.declared.integers.Integer.{Integer}
@@ -15,8 +15,3 @@ integer_of i = signed_as i.is_negative i.magnitude
 -- the bytes are those of the number, which they have room for
 abbrev pub IsEncoded : ℕ → Bool → ℤ → List ℕ → Type 0
 IsEncoded n signed z own = (own ≡ tag n z) × InRange n signed z
-
--- a byte, or its complement
-abbrev pub turned : Bool → ℕ → ℕ
-turned true b = 255 - b
-turned false b = b

@@ -18,8 +18,8 @@ pub mod Orders
 pub mod Names
 pub mod Checked
 pub mod Frames
-pub mod Leaves
 pub mod Printed
+pub mod Leaves
 pub mod Writes
 pub mod Rows
 pub mod Words

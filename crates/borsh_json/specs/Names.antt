@@ -46,11 +46,11 @@ IsFoundWord kind word =
     → IsKindOf F ns x f kind → KindHasOrder F ns orders x kind → KindTellsOrder F x kind → IsWord F ns x word
 
 -- a member for each name, which is its word
-abbrev pub words_of : List (List ℕ × List ℕ) → Members
-words_of [] = no_members
-words_of (p ∷ ps) = member p.0 (string p.1) (words_of ps)
+abbrev pub word_members : List (List ℕ × List ℕ) → Members
+word_members [] = no_members
+word_members (p ∷ ps) = member p.0 (string p.1) (word_members ps)
 
 -- the text is a JSON object with a member for each of the names, in their order, which is its word
 abbrev pub TellsNames : (List ℕ → Option Form) → List Named → List ℕ → Type 0
 TellsNames F ns text =
-    (ps : List (List ℕ × List ℕ)) × (document text ≡ Some (object (words_of ps))) × (map (λ p. p.0) ps ≡ map (λ n. n.name.now) ns) × All (λ p. IsWord F ns p.0 p.1) ps
+    (ps : List (List ℕ × List ℕ)) × (document text ≡ Some (object (word_members ps))) × (map (λ p. p.0) ps ≡ map (λ n. n.name.now) ns) × All (λ p. IsWord F ns p.0 p.1) ps

@@ -1,20 +1,21 @@
 -- Why a text says no value, or says one that isn't read: what an error of `from_json` says.
-use Rattle.std.specs.Prelude.{◌≡◌, ◌⊎◌, ⊤, ℕ, ℤ, ◌≤◌, List, [], ◌∷◌, ◌++◌, length, map, string_bytes, true, Option, Some, None, slice_get}
+use Rattle.std.specs.Prelude.{◌≡◌, ◌⊎◌, ⊤, ℕ, ℤ, ◌≤◌, List, [], ◌∷◌, ◌++◌, map, string_bytes, true, false, Option, Some, None, IsSome, slice_get}
 use Rattle.std.specs.List.{list_any}
 use Rattle.std.specs.Str.{bytes_eq}
 use Rattle.json.specs.Json.{Json, string, object, Members, no_members, member, document}
 use Rattle.json.specs.Find.{get_member}
+use Rattle.borsh_walks.specs.Container.{Member}
 use Rattle.borsh_values.specs.declared.faults.Path.{Path}
 use Rattle.borsh_values.specs.declared.faults.PathStep.{PathStep}
 use Rattle.borsh_values.specs.declared.faults.PathStep.TheVariants.{Field, Place, Element, Variant}
 use Rattle.borsh_json.specs.declared.error.JsonError.{JsonError}
 use Rattle.borsh_json.specs.declared.error.JsonError.TheVariants.{OutOfMemory, NoMember, NoValue, Ambiguous, NotJson, Refused}
 use Rattle.borsh_json.specs.declared.error.Refusal.{Refusal}
-use Rattle.borsh_json.specs.declared.error.Refusal.TheVariants.{TooDeep, RepeatedName, EmptyElements, Descends, OtherNodes, Expected, MissingField, UnknownName, RepeatedKey, Undefined}
-use Rattle.borsh_json.specs.Forms.{Form}
+use Rattle.borsh_json.specs.declared.error.Refusal.TheVariants.{TooDeep, RepeatedName, EmptyElements, Descends, Expected, MissingField, UnknownName, RepeatedKey, Undefined}
+use Rattle.borsh_json.specs.Forms.{Form, shapes}
 use Rattle.borsh_json.specs.InOrder.{Step, field, place, element, variant, IsReached, Falls}
-use Rattle.borsh_json.specs.Represents.{SaysSome, TextSays}
-use Rattle.borsh_json.specs.Table.{fields, variants, HasKind, Part, Entry, entries_of, IsVariant}
+use Rattle.borsh_json.specs.Represents.{HaveBytes, SaysFirst, SaysSome}
+use Rattle.borsh_json.specs.Table.{Lengths, Keys, fields, variants, entries, HasKind, HasEmptyElements, RepeatsName, Part, Entry, entries_of, key_json, IsVariant}
 
 -- ---- the path of a refusal
 
@@ -33,13 +34,27 @@ abbrev pub RepeatsKey : Json → List ℕ → Type 0
 RepeatsKey i name = (ms : Members) × (xs : List Entry) × (e : Entry) × (ys : List Entry) × (i ≡ object ms) × (entries_of ms ≡ xs ++ e ∷ ys) × (e.0 ≡ name) × (list_any (λ (x : Entry). bytes_eq e.0 x.0) xs ≡ true)
 
 module _ (F : List ℕ → Option Form) where
+  -- JSON of the name says own bytes and parts, whatever these say
+  abbrev pub SaysOwn : List ℕ → Json → Type 0
+  SaysOwn x i = (own : List ℕ) × (ps : List Part) × SaysFirst F x i own ps
+
+  -- of a map that is an object a key says nothing
+  abbrev pub HasBadKey : List ℕ → Json → Type 0
+  HasBadKey x i =
+      (l : Lengths) × (keys : Keys) × (k : List ℕ) × (v : List ℕ) × (ms : Members) × (xs : List Entry) × (e : Entry) × (ys : List Entry)
+      × HasKind F x (entries l keys k v) × (i ≡ object ms) × (entries_of ms ≡ xs ++ e ∷ ys) × (SaysOwn k (key_json keys e.0) → ⊥)
+
+  -- the JSON itself fails, and not only that of its parts: it says no own bytes and parts; or it is an object with a key that says nothing
+  abbrev pub FailsHere : List ℕ → Json → Type 0
+  FailsHere x i = (SaysOwn x i → ⊥) ⊎ HasBadKey x i
+
   -- JSON of a struct, whose object has no field of this name
   abbrev pub LacksField : List ℕ → Json → List ℕ → Type 0
   LacksField x i name = (fs : List (List ℕ × List ℕ)) × (n : ℕ) × (f : List ℕ × List ℕ) × (ms : Members) × HasKind F x (fields fs) × (slice_get fs n ≡ Some f) × (f.0 ≡ name) × (i ≡ object ms) × (get_member name ms ≡ None)
 
-  -- of a struct, whose object has another number of members than fields
-  abbrev pub HasOthers : List ℕ → Json → Type 0
-  HasOthers x i = (fs : List (List ℕ × List ℕ)) × (ms : Members) × HasKind F x (fields fs) × (i ≡ object ms) × (length (entries_of ms) ≡ length fs → ⊥)
+  -- of a struct, whose object has a member of this name, which no field has
+  abbrev pub HasOther : List ℕ → Json → List ℕ → Type 0
+  HasOther x i name = (fs : List (List ℕ × List ℕ)) × (ms : Members) × HasKind F x (fields fs) × (i ≡ object ms) × IsSome (get_member name ms) × (list_any (λ (f : List ℕ × List ℕ). bytes_eq name f.0) fs ≡ false)
 
   -- of an enum, no variant of which has this name
   abbrev pub NamesNoVariant : List ℕ → Json → List ℕ → Type 0
@@ -48,12 +63,12 @@ module _ (F : List ℕ → Option Form) where
   -- why JSON of the name says no bytes: of JSON that isn't what is expected no more than that
   abbrev pub Why : List ℕ → Json → Refusal → Type 0
   Why x i (Expected wanted) = ⊤
-  Why x i OtherNodes = ⊤
-  -- no JSON says a value of the name
-  Why x i EmptyElements = (k : Json) → SaysSome F x k → ⊥
-  Why x i (RepeatedName name) = (k : Json) → SaysSome F x k → ⊥
+  -- the elements of the list, or the keys of the map, have no bytes; so no JSON says a value of the name
+  Why x i EmptyElements = HasEmptyElements F x × ((k : Json) → SaysOwn x k → ⊥)
+  -- two fields or two variants have the name; so no JSON says a value
+  Why x i (RepeatedName name) = RepeatsName F x (string_bytes name) × ((k : Json) → SaysOwn x k → ⊥)
   Why x i (Undefined name) = (string_bytes name ≡ x) × (F x ≡ None)
-  Why x i (UnknownName name) = NamesNoVariant x i (string_bytes name) ⊎ HasOthers x i
+  Why x i (UnknownName name) = NamesNoVariant x i (string_bytes name) ⊎ HasOther x i (string_bytes name)
   Why x i (RepeatedKey name) = RepeatsKey i (string_bytes name)
   Why x i refusal = ⊥
 
@@ -67,8 +82,8 @@ module _ (F : List ℕ → Option Form) (root : List ℕ) where
     FailsAt path Descends = (n : ℕ) × (outer : List Step) × (index : ℕ) × (before : List ℕ) × (x : List ℕ) × (i : Json) × (path ≡ outer ++ element index ∷ []) × IsReached F root j n outer before (x, i) × Falls F x i index
     -- the last step is to a field that the object hasn't
     FailsAt path MissingField = (n : ℕ) × (outer : List Step) × (name : List ℕ) × (before : List ℕ) × (x : List ℕ) × (i : Json) × (path ≡ outer ++ field name ∷ []) × IsReached F root j n outer before (x, i) × LacksField F x i name
-    -- the part's JSON says no bytes
-    FailsAt path refusal = (n : ℕ) × (before : List ℕ) × (x : List ℕ) × (i : Json) × IsReached F root j n path before (x, i) × Why F x i refusal × (SaysSome F x i → ⊥)
+    -- the part's JSON fails itself
+    FailsAt path refusal = (n : ℕ) × (before : List ℕ) × (x : List ℕ) × (i : Json) × IsReached F root j n path before (x, i) × Why F x i refusal × FailsHere F x i
 
     -- JSON that is refused otherwise than for its depth or its order says no bytes at all
     abbrev pub SaysNothing : Refusal → Type 0
@@ -76,11 +91,11 @@ module _ (F : List ℕ → Option Form) (root : List ℕ) where
     SaysNothing Descends = ⊤
     SaysNothing refusal = SaysSome F root j → ⊥
 
-  -- the error of a call is a true reason why the text has no answer: it isn't JSON; or it is, and what it says is no member of the root, or a part of it fails
+  -- the error of a call is a true reason why the text has no answer: it isn't JSON; or it is, and says bytes that are no member of the root, or a part of it fails
   abbrev pub ShowsNoValue : List ℕ → JsonError → Type 0
   ShowsNoValue text OutOfMemory = ⊤
   ShowsNoValue text (NoMember f) = ⊥
-  ShowsNoValue text NoValue = (bytes : List ℕ) → TextSays F root text bytes → ⊥
+  ShowsNoValue text NoValue = (j : Json) → document text ≡ Some j → (bytes : List ℕ) × HaveBytes F ((root, j) ∷ []) bytes × (Member (shapes F) root bytes → ⊥)
   ShowsNoValue text (Ambiguous x) = ⊤
   ShowsNoValue text (NotJson offset) = document text ≡ None
   ShowsNoValue text (Refused path refusal) = (j : Json) → document text ≡ Some j → (path.root.now ≡ root) × FailsAt j (path_steps path) refusal × SaysNothing j refusal

@@ -1,11 +1,12 @@
 -- How the values of a name are ordered, where names and definitions tell it: by numbers, the first that differs of which decides.
-use Rattle.std.specs.Prelude.{◌≡◌, ◌⊎◌, ℕ, suc, zero, ◌<◌, ◌^◌, ℤ, pos, negsuc, List, [], ◌∷◌, ◌++◌, length, map, Bool, true, false, codes, Option, Some}
+use Rattle.std.specs.Prelude.{◌≡◌, ◌⊎◌, ℕ, suc, zero, ◌<◌, ◌^◌, ℤ, pos, List, [], ◌∷◌, ◌++◌, length, map, Bool, false, codes, Option, Some}
 use Rattle.std.specs.Fmt.{decimal}
 use Rattle.std.specs.Ordering.{int_cmp, MatchOrdering}
 use Rattle.std.specs.Cmp.Lexicographic.{slice_cmp}
 use Rattle.std.specs.declared.cmp.Ordering.{Ordering}
 use Rattle.std.specs.declared.cmp.Ordering.TheVariants.{Less, Greater}
 use Rattle.borsh_walks.specs.Container.{IsIn, tag}
+use Rattle.borsh_walks.specs.TupleNames.{tuple_name}
 use Rattle.borsh_json.specs.Forms.{Form, primitive, sequence, tuple, HasNoBytes, IsList, IsOption}
 use Rattle.borsh_json.specs.Table.{Kind, texts, truth, whole, primitive_kind, AreKeys, InRange}
 
@@ -27,17 +28,6 @@ needs (array n e) = e ∷ []
 needs (list w e) = e ∷ []
 needs (parts ps) = ps
 
--- the names, each behind a comma
-abbrev pub listed : List (List ℕ) → List ℕ
-listed [] = []
-listed (p ∷ ps) = codes ", " ++ p ++ listed ps
-
--- the name of a tuple of these parts: `(A, B)`, and `(A,)` of one
-abbrev pub tuple_name : List (List ℕ) → List ℕ
-tuple_name [] = codes "()"
-tuple_name (p ∷ []) = codes "(" ++ p ++ codes ",)"
-tuple_name (p ∷ q ∷ ps) = codes "(" ++ p ++ listed (q ∷ ps) ++ codes ")"
-
 -- `Vec<T>`, `VecDeque<T>`, `LinkedList<T>` or `BTreeSet<T>`, where e is T
 abbrev pub IsSequenceName : List ℕ → List ℕ → Type 0
 IsSequenceName x e =
@@ -49,10 +39,6 @@ IsSequenceName x e =
 -- `BTreeMap<K, V>`, where k is K and v is V
 abbrev pub IsTreeMapName : List ℕ → List ℕ → List ℕ → Type 0
 IsTreeMapName x k v = x ≡ codes "BTreeMap<" ++ k ++ codes ", " ++ v ++ codes ">"
-
-abbrev pub is_below_zero : ℤ → Bool
-is_below_zero (pos m) = false
-is_below_zero (negsuc m) = true
 
 -- the numbers of a primitive of n bytes, `bool` among them, and whether they have a sign
 abbrev pub AreNumbers : Kind → ℕ → Bool → Type 0

@@ -64,13 +64,13 @@ abbrev pub KeepsOrders : List Known → List Known → Type 0
 KeepsOrders old new = (k : ℕ) → HasFound old k → HasFound new k
 
 -- orders were found of these names, wherever they are
-abbrev pub AreFound : List Named → List Known → List (List ℕ) → Type 0
-AreFound ns orders ps = (p : List ℕ) (k : ℕ) → IsIn p ps → IsAt ns k p → HasFound orders k
+abbrev pub OrdersFound : List Named → List Known → List (List ℕ) → Type 0
+OrdersFound ns orders ps = (p : List ℕ) (k : ℕ) → IsIn p ps → IsAt ns k p → HasFound orders k
 
 module _ (F : List ℕ → Option Form) (ns : List Named) where
   -- and so are the orders of its parts
   abbrev pub IsOrderIn : List Known → List ℕ → Ordered → Type 0
-  IsOrderIn orders x found = (o : Order) × HasOrder F x o × IsOrderOf F ns x found o × AreFound ns orders (needs o)
+  IsOrderIn orders x found = (o : Order) × HasOrder F x o × IsOrderOf F ns x found o × OrdersFound ns orders (needs o)
 
   -- each order that was found is right, and so are those of its parts
   abbrev pub AreOrders : List Known → Type 0
@@ -79,7 +79,7 @@ module _ (F : List ℕ → Option Form) (ns : List Named) where
   -- what is pending, of the one value and of the other
   abbrev pub IsPending : List Known → Pending → List Ranked → List Ranked → Type 0
   IsPending orders (TwoLists at n m) ts us = (e : List ℕ) × IsAt ns at e × HasFound orders at × (ts ≡ elements e n ∷ []) × (us ≡ elements e m ∷ [])
-  IsPending orders (Parts at n i) ts us = (x : List ℕ) × (ps : List (List ℕ)) × IsAt ns at x × (F x ≡ Some (tuple ps)) × (n ≡ length ps) × AreFound ns orders ps × (ts ≡ map (λ p. a_value p) (drop i ps)) × (us ≡ map (λ p. a_value p) (drop i ps))
+  IsPending orders (Parts at n i) ts us = (x : List ℕ) × (ps : List (List ℕ)) × IsAt ns at x × (F x ≡ Some (tuple ps)) × (n ≡ length ps) × OrdersFound ns orders ps × (ts ≡ map (λ p. a_value p) (drop i ps)) × (us ≡ map (λ p. a_value p) (drop i ps))
 
   -- the next first
   abbrev pub ArePending : List Known → List Pending → List Ranked → List Ranked → Type 0

@@ -15,7 +15,7 @@ use Rattle.borsh_json.specs.declared.kinds.Kind.TheVariants.{Number, Bool as Tru
 use Rattle.borsh_json.specs.declared.kinds.KeyKind.{KeyKind}
 use Rattle.borsh_json.specs.declared.kinds.KeyKind.TheVariants.{Text as TextKeys, Number as NumberKeys}
 use Rattle.borsh_json.specs.Forms.{Form, primitive, sequence, tuple, newtype, unnamed, named, choice, form_of, shape_of_form, shapes, HasNoBytes}
-use Rattle.borsh_json.specs.Table.{Lengths, Keys, texts, numbers, Kind, truth, whole, float, float_size, raw, utf8, byte_list, list, row, inner, fields, optional, variants, entries, HasKind, Part, Says}
+use Rattle.borsh_json.specs.Table.{Lengths, Keys, texts, numbers, Kind, truth, whole, float, float_size, raw, utf8, byte_list, list, row, inner, fields, optional, variants, entries, HasKind, HasEmptyElements, RepeatsName, Part, Says}
 
 -- the name at the place is x
 abbrev pub IsAt : List Named → ℕ → List ℕ → Type 0
@@ -38,7 +38,7 @@ module _ (F : List ℕ → Option Form) (ns : List Named) where
 
   -- a list of these elements, unless it is refused
   abbrev pub IsListOf : List ℕ → Form → ℕ → Bool → Type 0
-  IsListOf x f at true = IsUnsayable x
+  IsListOf x f at true = IsUnsayable x × HasEmptyElements F x
   IsListOf x f at false = (e : List ℕ) × IsAt ns at e × HasKind F x (list (lengths_of f) e)
 
   -- the kind of the keys of an object
@@ -62,7 +62,7 @@ module _ (F : List ℕ → Option Form) (ns : List Named) where
   IsKindOf x f (Object fs) = HasKind F x (fields (map (λ f. (string_bytes f.0, string_bytes f.1)) fs.now.items)) × IsDistinct bytes_eq (map (λ f. string_bytes f.0) fs.now.items)
   IsKindOf x f (Optional at) = (p : List ℕ) × IsAt ns at p × HasKind F x (optional p)
   IsKindOf x f (Choice w vs) = HasKind F x (variants w (map (λ v. (v.0, string_bytes v.1, string_bytes v.2)) vs.now.items)) × IsDistinct bytes_eq (map (λ v. string_bytes v.1) vs.now.items)
-  IsKindOf x f (Repeated name) = IsUnsayable x
+  IsKindOf x f (Repeated name) = IsUnsayable x × RepeatsName F x name.now
 
   -- what was found of the name at a place: its definition and its kind, if it has bytes; and nothing only where it has no definition
   abbrev pub IsKindAt : ℕ → Option (Bor Definition × Found) → Type 0

@@ -14,17 +14,12 @@ abbrev pub IsLeading : ℕ → Type 0
 IsLeading c = (49 ≤ c) × (c ≤ 57)
 
 -- the text is `0`, or begins with another digit, perhaps after a minus
-abbrev pub IsPlain : List ℕ → Type 0
-IsPlain s =
+abbrev pub HasNoLeadingZero : List ℕ → Type 0
+HasNoLeadingZero s =
     (0 < length s)
     × (((slice_index s 0 ≡ 48) × (length s ≡ 1))
     ⊎ IsLeading (slice_index s 0)
     ⊎ ((slice_index s 0 ≡ 45) × (1 < length s) × IsLeading (slice_index s 1)))
-
--- the number, or one less than its absolute value if it is negative
-abbrev pub magnitude : ℤ → ℕ
-magnitude (pos m) = m
-magnitude (negsuc m) = m
 
 -- a number without a sign, greater for a greater number of the type
 abbrev pub rank_of : Bool → ℤ → ℕ

@@ -102,15 +102,15 @@ module _ (F : List ℕ → Option Form) where
   IsTextOf x e = (x ≡ codes "String") × IsByte F e
 
   -- the format's `String`
-  abbrev pub IsText : List ℕ → Form → List ℕ → Type 0
-  IsText x f e = IsTextOf x e × (lengths_of f ≡ any_length)
+  abbrev pub IsRowText : List ℕ → Form → List ℕ → Type 0
+  IsRowText x f e = IsTextOf x e × (lengths_of f ≡ any_length)
 
   -- what the own bytes of a part say, by its name and definition: a primitive, a text, the number of elements, or the name of a variant; nothing of others
   abbrev pub IsValueText : List ℕ → Form → List ℕ → List ℕ → Type 0
   IsValueText x (primitive n) own v = IsPrimitiveText (primitive_kind x n) own v
   IsValueText x (sequence w lo hi e) own v =
-      (IsText x (sequence w lo hi e) e × IsQuoted (drop w own) v)
-      ⊎ ((IsText x (sequence w lo hi e) e → ⊥) × (count : Option ℕ) × IsCountOf (counted_sequence w lo hi e) own count × MatchOption count (v ≡ []) (λ k. v ≡ counted k))
+      (IsRowText x (sequence w lo hi e) e × IsQuoted (drop w own) v)
+      ⊎ ((IsRowText x (sequence w lo hi e) e → ⊥) × (count : Option ℕ) × IsCountOf (counted_sequence w lo hi e) own count × MatchOption count (v ≡ []) (λ k. v ≡ counted k))
   IsValueText x (tuple ps) own v = v ≡ []
   IsValueText x (newtype p) own v = v ≡ []
   IsValueText x (unnamed ps) own v = v ≡ []

@@ -1,5 +1,5 @@
 -- How the values of a name are written as JSON: the kinds of names, and what JSON of each kind says.
-use Rattle.std.specs.Prelude.{◌≡◌, ◌⊎◌, ℕ, suc, zero, ◌*◌, ◌<◌, ◌≤◌, ◌^◌, ℤ, pos, negsuc, List, [], ◌∷◌, ◌++◌, length, map, Bool, true, false, ◌&&◌, ◌==◌, if◌then◌else◌, nat_le, codes, Option, Some, None, option_map, option_and_then, Ok, IsUtf8, is_nan, from_bits}
+use Rattle.std.specs.Prelude.{◌≡◌, ◌⊎◌, ℕ, suc, zero, ◌*◌, ◌<◌, ◌≤◌, ◌^◌, ℤ, pos, negsuc, List, [], ◌∷◌, ◌++◌, length, map, Bool, true, false, ◌&&◌, ◌==◌, if◌then◌else◌, nat_le, codes, count_by, Option, Some, None, option_map, option_and_then, Ok, IsUtf8, is_nan, from_bits}
 use Rattle.std.specs.Float.{Float, Format, binary32, binary64, inf}
 use Rattle.std.specs.Float.Parse.{parse_float}
 use Rattle.std.specs.Str.{bytes_eq}
@@ -13,7 +13,7 @@ use Rattle.std.specs.Cmp.Lexicographic.{slice_cmp}
 use Rattle.hex.specs.Hex.{decode_of}
 use Rattle.json.specs.Json.{Json, null, boolean, number, string, array, object, Items, no_items, item, Members, no_members, member}
 use Rattle.json.specs.Find.{get_member}
-use Rattle.borsh_walks.specs.Container.{tag, low_bytes}
+use Rattle.borsh_walks.specs.Container.{tag, little_endian}
 use Rattle.borsh_json.specs.Forms.{Form, primitive, sequence, tuple, newtype, unnamed, named, choice, HasNoBytes, IsList, IsByte, IsOption, IsMap}
 
 -- ---- how the values of a name are written
@@ -75,6 +75,10 @@ primitive_kind x n =
     else if bytes_eq x (codes "f64") && (n == 8) then float binary64
     else number_kind number_types x n
 
+-- the name comes twice among these
+abbrev pub ComesTwice : List ℕ → List (List ℕ) → Type 0
+ComesTwice name names = 2 ≤ count_by (λ n. bytes_eq n name) names
+
 module _ (F : List ℕ → Option Form) where
   -- the JSON of the name may be `null`: the name has no bytes; or it is an `Option`, even one that is never written as `null`; or it is a
   -- newtype of a name that may. After n newtypes, as many as values may nest, a name counts as one that may, so that circles end
@@ -125,6 +129,20 @@ module _ (F : List ℕ → Option Form) where
   abbrev pub HasKind : List ℕ → Kind → Type 0
   HasKind x kind = (HasNoBytes F x × (kind ≡ no_bytes)) ⊎ ((HasNoBytes F x → ⊥) × (d : Form) × (F x ≡ Some d) × DefinedKind x d kind)
 
+  -- ---- definitions without JSON
+
+  -- the elements of a list, or the keys of a map, have no bytes
+  abbrev pub HasEmptyElements : List ℕ → Type 0
+  HasEmptyElements x =
+      (w : ℕ) × (lo : ℕ) × (hi : ℕ) × (e : List ℕ) × (F x ≡ Some (sequence w lo hi e))
+      × (HasNoBytes F e ⊎ ((k : List ℕ) × (v : List ℕ) × IsMap F x k v × HasNoBytes F k))
+
+  -- two fields or two variants have the name
+  abbrev pub RepeatsName : List ℕ → List ℕ → Type 0
+  RepeatsName x name =
+      ((fs : List (List ℕ × List ℕ)) × HasKind x (fields fs) × ComesTwice name (map (λ f. f.0) fs))
+      ⊎ ((w : ℕ) × (vs : List (ℤ × List ℕ × List ℕ)) × HasKind x (variants w vs) × ComesTwice name (map (λ v. v.1) vs))
+
 -- ---- numbers, digits and lengths
 
 -- a number that n bytes have room for
@@ -166,7 +184,7 @@ float_of f (object ms) = None
 
 -- the bytes are those of the bits of the float, which is no NaN
 abbrev pub IsFloat : Format → Float → List ℕ → Type 0
-IsFloat f v bytes = (bits : ℕ) × (bytes ≡ low_bytes (float_size f) bits) × (bits < 256 ^ float_size f) × (from_bits f bits ≡ v) × (is_nan v ≡ false)
+IsFloat f v bytes = (bits : ℕ) × (bytes ≡ little_endian (float_size f) bits) × (bits < 256 ^ float_size f) × (from_bits f bits ≡ v) × (is_nan v ≡ false)
 
 -- the prefix of a length k that is in range, and then these bytes
 abbrev pub IsPrefixed : Lengths → ℕ → List ℕ → List ℕ → Type 0

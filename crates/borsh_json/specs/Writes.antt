@@ -9,14 +9,13 @@ use Rattle.json.specs.Tree.{json_tokens, items_tokens, members_tokens, depth, it
 use Rattle.borsh_walks.specs.Container.{Shape, product, IsIn, Member}
 use Rattle.borsh_plan.specs.Plan.{root_of}
 use Rattle.borsh_values.specs.Nodes.{Opens, AreElementsOf}
-use Rattle.borsh_values.specs.Walks.{IsReadTo, IsWalker}
+use Rattle.borsh_values.specs.Walks.{IsReadTo}
 use Rattle.borsh_values.specs.Membership.{IsUndecided}
 use Rattle.borsh_plan.specs.declared.named.Named.{Named}
 use Rattle.borsh_values.specs.declared.nodes.Node.{Node}
 use Rattle.borsh_json.specs.declared.definitions.Definitions.{Definitions}
 use Rattle.borsh_json.specs.declared.definitions.Known.{Known}
-use Rattle.borsh_json.specs.declared.error.Refusal.{Refusal}
-use Rattle.borsh_json.specs.declared.error.Refusal.TheVariants.{TooDeep, RepeatedName, EmptyElements, NotBool, NotUtf8, Zero, NotNumber, Descends, OtherNodes, Expected, MissingField, UnknownName, RepeatedKey, Undefined}
+use Rattle.borsh_json.specs.declared.error.Refusal.TheVariants.{TooDeep, Descends}
 use Rattle.borsh_json.specs.declared.error.PartError.{PartError}
 use Rattle.borsh_json.specs.declared.error.PartError.TheVariants.{OutOfMemory as NoPartMemory, Refused as RefusedPart}
 use Rattle.borsh_json.specs.declared.error.JsonError.{JsonError}
@@ -45,8 +44,9 @@ use Rattle.borsh_json.specs.Found.{forms_of, names_of}
 use Rattle.borsh_json.specs.Places.{IsAt, AreKeysOf, IsKindOf}
 use Rattle.borsh_json.specs.Orders.{HasKeyOrder, KindHasOrder, OrderedBy, ValuesCompare}
 use Rattle.borsh_json.specs.Represents.{SaysFirst, HaveBytes}
-use Rattle.borsh_json.specs.Leaves.{output_tokens, output_before, Adds, IsOpenedAs, WritesLeaf}
-use Rattle.borsh_json.specs.NoJson.{IsNoJson, RefusesBytes}
+use Rattle.borsh_json.specs.InOrder.{InOrder}
+use Rattle.borsh_json.specs.Leaves.{Holds, Adds, IsOpenedAs, RefusesValue, WritesLeaf}
+use Rattle.borsh_json.specs.NoJson.{RefusesBytes}
 use Rattle.borsh_json.specs.Table.{Keys, Part, row_parts, Entry, entries_of, entry_parts, key_json, key_order}
 
 -- ---- what is left to be written of a place
@@ -217,28 +217,6 @@ module _ (F : List ℕ → Option Form) where
 
   -- ---- one value
 
-  -- the refusal is right of a value of x that begins with these bytes
-  abbrev pub RefusesOwn : List ℕ → List ℕ → Refusal → Type 0
-  RefusesOwn x own TooDeep = ⊥
-  RefusesOwn x own (RepeatedName name) = IsNoJson F x own
-  RefusesOwn x own EmptyElements = IsNoJson F x own
-  RefusesOwn x own NotBool = IsNoJson F x own
-  RefusesOwn x own NotUtf8 = IsNoJson F x own
-  RefusesOwn x own Zero = IsNoJson F x own
-  RefusesOwn x own NotNumber = IsNoJson F x own
-  RefusesOwn x own Descends = ⊥
-  RefusesOwn x own OtherNodes = ⊥
-  RefusesOwn x own (Expected wanted) = ⊥
-  RefusesOwn x own MissingField = ⊥
-  RefusesOwn x own (UnknownName name) = ⊥
-  RefusesOwn x own (RepeatedKey name) = ⊥
-  RefusesOwn x own (Undefined name) = ⊥
-
-  abbrev pub RefusesValue : List ℕ → List ℕ → WriteError → Type 0
-  RefusesValue x own OutOfMemory = ⊤
-  RefusesValue x own (Refused refusal) = RefusesOwn x own refusal
-  RefusesValue x own (Element index refusal) = RefusesOwn x own refusal
-
   -- behind these tokens whatever may follow of a place makes JSON of x that says these own bytes
   abbrev pub IsFront : List ℕ → List ℕ → Rest → List Token → Type 0
   IsFront x own r front =
@@ -315,13 +293,13 @@ module _ (F : List ℕ → Option Form) where
 
     -- a value of x was written whole or begun, or is refused
     abbrev pub WritesValue : Found → List ℕ → Form → List ℕ → Output → Output → Result (Option Place) WriteError → Type 0
-    WritesValue kind x f own old new result = MatchResult result (λ found. IsWrittenAs kind x f own old new found) (λ e. RefusesValue x own e)
+    WritesValue kind x f own old new result = MatchResult result (λ found. IsWrittenAs kind x f own old new found) (λ e. RefusesValue F x own e)
 
     -- the same of a value of a kind without own bytes; nothing is written of another
     abbrev pub WritesStruct : List ℕ → Form → Found → Output → Output → Result (Option Place) WriteError → Type 0
     WritesStruct x f kind old new result = MatchResult result
         (λ found. MatchOption found (HasNode kind × (new ≡ old)) (λ p. (r : Rest) × IsRest p r × WritesFront x [] r old new × (shape_of_form f ≡ product (names_of_rest r)) × IsNewPlace kind p))
-        (λ e. RefusesValue x [] e)
+        (λ e. RefusesValue F x [] e)
 
 -- of the name at the place, that the code found this kind of, the value whose node this is was written or begun, or is refused
 abbrev pub WritesValueOf : (List ℕ → Option Form) → List Named → ℕ → Found → Node → Output → Output → Result (Option Place) WriteError → Type 0
@@ -408,11 +386,11 @@ module _ (d : Definitions) (bytes : List ℕ) where
 -- ---- the writer
 
 module _ (d : Definitions) (w : Writing) where
-  -- the writer walks by these definitions, and its text is all its own
+  -- the writer walks by these definitions, and has written these tokens
   pub record IsWriterOf : Type 0 where
     pub plan : w.walk.plan.now ≡ d.plan.now
-    pub walk : IsWalker w.walk
-    pub fresh : output_before w.out ≡ []
+    pub tokens : List Token
+    pub holds : Holds w.out tokens
     pub offset : w.walk.offset + length w.walk.left.now ≡ length w.bytes.now
 
   -- it is in front of a part of this place
@@ -420,7 +398,7 @@ module _ (d : Definitions) (w : Writing) where
     pub writer : IsWriterOf
     pub mark : Mark
     pub marks : List Mark
-    pub state : IsWriting (forms_of d) (names_of d) (root_of d.plan.now) w.bytes.now p w.position.outer.items mark marks w.walk.left.now (output_tokens w.out)
+    pub state : IsWriting (forms_of d) (names_of d) (root_of d.plan.now) w.bytes.now p w.position.outer.items mark marks w.walk.left.now writer.tokens
     pub here : IsMarked d w.bytes.now p mark
     pub around : AreEach (IsMarked d w.bytes.now) w.position.outer.items marks
 
@@ -430,19 +408,24 @@ module _ (d : Definitions) (w : Writing) where
     pub room : ℕ
     pub mark : Mark
     pub marks : List Mark
-    pub state : IsAwaiting (forms_of d) (names_of d) (root_of d.plan.now) w.bytes.now x room w.position.place w.position.outer.items mark marks w.walk.left.now (output_tokens w.out)
+    pub state : IsAwaiting (forms_of d) (names_of d) (root_of d.plan.now) w.bytes.now x room w.position.place w.position.outer.items mark marks w.walk.left.now writer.tokens
     pub here : IsMarked d w.bytes.now w.position.place mark
     pub around : AreEach (IsMarked d w.bytes.now) w.position.outer.items marks
 
   -- or at the end
   pub record HasWritten : Type 0 where
-    pub fresh : output_before w.out ≡ []
-    pub whole : IsWhole (forms_of d) (root_of d.plan.now) (output_tokens w.out) w.bytes.now
+    pub tokens : List Token
+    pub holds : Holds w.out tokens
+    pub whole : IsWhole (forms_of d) (root_of d.plan.now) tokens w.bytes.now
     pub rises : AreChecked (forms_of d) (one (root_of d.plan.now) ∷ []) w.bytes.now
 
   abbrev pub IsWrittenOn : Bool → Type 0
   IsWrittenOn true = IsWritingAt w.position.place
   IsWrittenOn false = HasWritten
+
+-- JSON of the root was written that can be printed and read, says the bytes, and in which what has to ascend does
+abbrev pub WritesJson : (List ℕ → Option Form) → List ℕ → List ℕ → Output → Type 0
+WritesJson F root bytes out = (j : Json) × Holds out (json_tokens j) × HasNumbers j × (depth j ≤ 128) × HaveBytes F ((root, j) ∷ []) bytes × InOrder F root j
 
 -- an error of the writer of these definitions
 abbrev pub StopsBy : Definitions → List ℕ → JsonError → Type 0

@@ -80,8 +80,6 @@ pub enum Refusal {
     NotNumber,
     /// The elements of a set, or the keys of a map, don't ascend up to this one.
     Descends,
-    /// The nodes aren't those of the definitions.
-    OtherNodes,
     /// The JSON isn't this.
     Expected(String),
     /// The field is missing.
@@ -201,7 +199,6 @@ impl fmt::Display for Refusal {
             Refusal::Zero => write!(f, "zero"),
             Refusal::NotNumber => write!(f, "not a number"),
             Refusal::Descends => write!(f, "not above the one before it"),
-            Refusal::OtherNodes => write!(f, "other nodes than the schema's"),
             Refusal::Expected(wanted) => write!(f, "expected {wanted}"),
             Refusal::MissingField => write!(f, "missing"),
             Refusal::UnknownName(name) => write!(f, "`{name}` isn't in the schema"),

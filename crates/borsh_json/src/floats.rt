@@ -1,8 +1,10 @@
 // Floats, by their bytes.
 ghost use Rattle.borsh_json.specs.Floats.{AreBitsOf, IsFloatText, IsNan, ReadsBack};
+ghost use Rattle.borsh_json.specs.Printed.{IsMarked};
 ghost use Rattle.borsh_json.specs.Words.{BeginsWith, Json, bytes_eq, float_of, float_size, infinity_of};
+ghost use Rattle.json.specs.Print.{IsNumber};
 ghost use Rattle.std.specs.Float.{Format};
-ghost use Rattle.std.specs.Prelude.{◌≡◌, ◌==◌, ◌&&◌, ◌||◌, MatchOption, codes, false, is_nan, length, option_map, true};
+ghost use Rattle.std.specs.Prelude.{◌≡◌, ◌==◌, ◌&&◌, ◌||◌, IfSome, MatchOption, codes, false, is_nan, length, option_map, true};
 
 use fast_float::parse;
 use json::Element;
@@ -20,23 +22,11 @@ pub fn is_float(name: &str, size: u8) -> bool
     }
 }
 
-/// Whether the bytes of a float are those of a NaN, which its type refuses.
-pub fn is_nan(bytes: &[u8]) -> bool
-    ensures { (f : Format) → length bytes.now ≡ float_size f → result ≡ true → IsNan f bytes.now }
-{
-    match bytes {
-        [a, b, c, d] => f32_from_bits_with_nan(u32::from_le_bytes([*a, *b, *c, *d])).is_nan(),
-        [a, b, c, d, e, f, g, h] => {
-            f64_from_bits_with_nan(u64::from_le_bytes([*a, *b, *c, *d, *e, *f, *g, *h])).is_nan()
-        }
-        _ => false,
-    }
-}
-
 /// The shortest text that reads back as the float of these bytes, `inf` or `-inf`; none of a NaN.
 pub fn shortest<'b>(bytes: &[u8], buffer: &'b mut Buffer) -> Option<&'b str>
-    ensures { (f : Format) → length bytes.now ≡ float_size f →
+    ensures float { (f : Format) → length bytes.now ≡ float_size f →
         MatchOption result (IsNan f bytes.now) (λ s. IsFloatText f bytes.now s.now) }
+    ensures marked { IfSome result (λ s. IsNumber s.now → IsMarked s.now) }
 {
     match bytes {
         [a, b, c, d] => {
@@ -53,8 +43,9 @@ pub fn shortest<'b>(bytes: &[u8], buffer: &'b mut Buffer) -> Option<&'b str>
 
 /// The shortest text that reads back as the float; none of a NaN.
 fn text_of<'b, T: Float>(value: T, buffer: &'b mut Buffer) -> Option<&'b str>
-    ensures { MatchOption result (is_nan (T.value value) ≡ true)
+    ensures float { MatchOption result (is_nan (T.value value) ≡ true)
         (λ s. (is_nan (T.value value) ≡ false) × ReadsBack T.format (T.value value) s.now) }
+    ensures marked { IfSome result (λ s. IsNumber s.now → IsMarked s.now) }
 {
     if value.is_number() {
         Some(buffer.format(value))

@@ -1,6 +1,6 @@
 // Whole numbers that bytes encode.
-ghost use Rattle.borsh_values.specs.Tags.{value_of};
-ghost use Rattle.borsh_json.specs.Integers.{IsEncoded, integer_of, turned};
+ghost use Rattle.borsh_values.specs.Tags.{byte_as, number_of};
+ghost use Rattle.borsh_json.specs.Integers.{IsEncoded, integer_of};
 ghost use Rattle.borsh_json.specs.Words.{InRange, rank_of};
 ghost use Rattle.std.specs.Fmt.{signed_decimal};
 ghost use Rattle.std.specs.Prelude.{◌≡◌, ◌≤◌, ◌-◌, ℕ, Bool, Decides, length, map, pos, slice_index};
@@ -70,21 +70,21 @@ fn has_top_bit(bytes: &[u8]) -> bool
 
 /// The number that the bytes encode, or their complements do.
 fn magnitude_in(bytes: &[u8], is_negative: bool) -> u128
-    ensures { length bytes.now ≤ 16 → result ≡ value_of (map (turned is_negative) bytes.now) }
+    ensures { length bytes.now ≤ 16 → result ≡ number_of (map (byte_as is_negative) bytes.now) }
 {
     let mut value: u128 = 0;
     let mut place = bytes.len();
     while place > 0 {
         place -= 1;
-        let byte = turned(bytes[place], is_negative);
+        let byte = byte_as(bytes[place], is_negative);
         value = value.wrapping_mul(256).wrapping_add(u128::from(byte));
     }
     value
 }
 
 /// The byte, or its complement.
-fn turned(byte: u8, is_negative: bool) -> u8
-    ensures { result ≡ turned is_negative byte }
+fn byte_as(byte: u8, is_negative: bool) -> u8
+    ensures { result ≡ byte_as is_negative byte }
 {
     if is_negative { 255 - byte } else { byte }
 }

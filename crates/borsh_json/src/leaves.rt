@@ -1,16 +1,16 @@
 // What is written of a value without places of its own.
-ghost use Rattle.borsh_json.specs.Leaves.{ForPrimitives, HasSize, IsElementWritten, IsOpenedAs, IsWritten, RefusesElement, RefusesLeaf, TellsAbove, WritesHex, WritesKey, WritesNode};
+ghost use Rattle.borsh_json.specs.Leaves.{ForPrimitives, HasSize, IsElementWritten, IsOpenedAs, IsWritten, RefusesAt, RefusesValue, TellsAbove, WritesHex, WritesKey, WritesNode};
 ghost use Rattle.borsh_json.specs.Words.{Form, FoundBytes, FoundNumbers, FoundText, HasKind, IsKindOf, IsPrimitiveKind, SaysFirst, TableKind, float, float_size, form_of, forms_of, names_of, null, string, truth, whole};
 ghost use Rattle.hex.specs.Hex.{encode_lower};
 ghost use Rattle.std.specs.Float.{Format};
-ghost use Rattle.std.specs.Prelude.{◌≡◌, ◌≤◌, ◌+◌, ◌*◌, ◌∷◌, ◌++◌, [], if◌then◌else◌, ℕ, List, MatchBool, MatchOption, Option, codes, length};
+ghost use Rattle.std.specs.Prelude.{◌≡◌, ◌≤◌, ◌+◌, ◌*◌, ◌∷◌, ◌++◌, [], if◌then◌else◌, ℕ, List, MatchOption, Option, codes, length};
 
 use crate::error::{Refusal, WriteError};
 use crate::floats::shortest;
 use crate::integers::Integer;
 use crate::kinds::{Elements, KeyKind, Kind, kind_of_primitive};
 use crate::numbers::Number;
-use crate::output::{LongNumbers, Output};
+use crate::output::Output;
 use crate::sources::EntryKey;
 use crate::table::Table;
 use borsh_values::{Node, elements_of};
@@ -43,13 +43,12 @@ pub fn write_primitive(
     alloc: Global,
     kind: Kind<'_>,
     node: &Node<'_, '_>,
-    long_numbers: LongNumbers,
     out: &mut Output,
 ) -> Written
     ensures { (k : TableKind) → IsPrimitiveKind kind.entry k →
         WritesNode kind.entry 0 node.now.definition.now node.now.bytes.now out.old out.new result }
 {
-    put_primitive(alloc, kind, node.bytes, long_numbers, out)
+    put_primitive(alloc, kind, node.bytes, out)
 }
 
 /// Writes a `String`.
@@ -80,7 +79,6 @@ pub fn write_numbers(
     json: &Table<'_, '_>,
     node: &Node<'_, '_>,
     elements: Elements,
-    long_numbers: LongNumbers,
     out: &mut Output,
 ) -> Written
     ensures { let F = forms_of json.now in let f = form_of node.now.definition.now in
@@ -96,7 +94,7 @@ pub fn write_numbers(
     out.put(Token::BeginArray)?;
     'elements: while !rest.is_empty() {
         let (element, after) = rest.split_at(size.clamp(1, rest.len()));
-        match put_element(json.alloc(), kind, index, element, long_numbers, out) {
+        match put_element(json.alloc(), kind, index, element, out) {
             Ok(()) => rest = after,
             Err(error) => return Err(error),
         }
@@ -106,18 +104,11 @@ pub fn write_numbers(
 }
 
 /// Writes the element of an index.
-fn put_element(
-    alloc: Global,
-    kind: Kind<'_>,
-    index: usize,
-    own: &[u8],
-    long_numbers: LongNumbers,
-    out: &mut Output,
-) -> Written
+fn put_element(alloc: Global, kind: Kind<'_>, index: usize, own: &[u8], out: &mut Output) -> Written
     ensures { ForPrimitives kind.entry own.now
         (λ F e. IsElementWritten F e own.now out.old out.new result) }
 {
-    match put_primitive(alloc, kind, own, long_numbers, out) {
+    match put_primitive(alloc, kind, own, out) {
         Ok(()) => Ok(()),
         Err(error) => Err(of_element(error, index)),
     }
@@ -125,8 +116,8 @@ fn put_element(
 
 /// The error, as that of the element of an index.
 fn of_element(error: WriteError, index: usize) -> WriteError
-    ensures { (F : List ℕ → Option Form) (e own : List ℕ) →
-        RefusesLeaf F e own error → RefusesElement F e own result }
+    ensures { (F : List ℕ → Option Form) (e own : List ℕ) (k : TableKind) → HasKind F e k →
+        HasSize k (length own) → RefusesValue F e own error → RefusesAt F e own result }
 {
     match error {
         WriteError::OutOfMemory => WriteError::OutOfMemory,
@@ -175,24 +166,18 @@ pub fn is_above(key: EntryKey<'_>, last: EntryKey<'_>) -> bool
 }
 
 /// Writes a primitive.
-fn put_primitive(
-    alloc: Global,
-    kind: Kind<'_>,
-    own: &[u8],
-    long_numbers: LongNumbers,
-    out: &mut Output,
-) -> Written
+fn put_primitive(alloc: Global, kind: Kind<'_>, own: &[u8], out: &mut Output) -> Written
     ensures { ForPrimitives kind.entry own.now (λ F x. IsWritten F 0 x own.now out.old out.new result) }
 {
     match kind {
-        Kind::Number(number) => put_number(number, own, long_numbers, out),
+        Kind::Number(number) => put_number(number, own, out),
         Kind::Bool => put_bool(own, out),
         Kind::Float(_) => put_float(own, out),
         _ => put_bytes(alloc, own, out),
     }
 }
 
-fn put_number(number: Number, own: &[u8], long_numbers: LongNumbers, out: &mut Output) -> Written
+fn put_number(number: Number, own: &[u8], out: &mut Output) -> Written
     ensures { let k = whole number.size number.is_signed number.is_non_zero in
         (F : List ℕ → Option Form) (x : List ℕ) → HasKind F x k → HasSize k (length own.now) →
         IsWritten F 0 x own.now out.old out.new result }
@@ -203,18 +188,13 @@ fn put_number(number: Number, own: &[u8], long_numbers: LongNumbers, out: &mut O
     }
     let mut buffer = Buffer::new();
     let text = integer.decimal(&mut buffer);
-    if is_quoted(own.len(), long_numbers) {
-        Ok(out.put(Token::String(text))?)
-    } else {
+    if own.len() <= 4 {
         Ok(out.put(Token::Number(text))?)
+    } else if own.len() <= 8 {
+        Ok(out.put_long(text)?)
+    } else {
+        Ok(out.put(Token::String(text))?)
     }
-}
-
-/// Whether a number of so many bytes is written as a string.
-fn is_quoted(size: usize, long_numbers: LongNumbers) -> bool
-    ensures { MatchBool result (8 ≤ size) (size ≤ 8) }
-{
-    size > 8 || size == 8 && long_numbers == LongNumbers::Quoted
 }
 
 fn put_bool(own: &[u8], out: &mut Output) -> Written
@@ -260,6 +240,9 @@ fn put_float(own: &[u8], out: &mut Output) -> Written
 fn put_bytes(alloc: Global, own: &[u8], out: &mut Output) -> Written
     ensures { WritesHex own.now out.old out.new result }
 {
+    if out.is_nothing() {
+        return Ok(());
+    }
     if own.len() <= 32 {
         return put_short(own, out);
     }

@@ -1,6 +1,6 @@
 // The members of an object, by their keys.
-ghost use Rattle.borsh_json.specs.Words.{AreKeyed, AreKeysOf, AreSorted, BeginsWith, DeniesRead, Entry, Finds, Form, HasFields, HasKind, HaveNumbers, HaveOneEach, InMembers, IsDistinct, IsKeyReason, IsPermutation, IsRank, IsText, Json, JsonMembers, Keys, Lengths, NamedPlace, SaysSome, TextKeys, Why, bytes_eq, entries_of, get_member, map_entries, mark_of, object, texts};
-ghost use Rattle.std.specs.Prelude.{◌≡◌, ◌≤◌, ℕ, IfSome, List, MatchResult, Option, length, map, string_bytes};
+ghost use Rattle.borsh_json.specs.Words.{AreKeyed, AreKeysOf, AreSorted, BeginsWith, DeniesRead, Entry, FailsRead, Finds, Form, HasFields, HasKind, HasNoNumber, HaveOneEach, InMembers, IsDistinct, IsKeyReason, IsPermutation, IsRank, IsText, Json, JsonMembers, Keys, Lengths, NamedPlace, ShowsRead, TextKeys, bytes_eq, entries_of, get_member, map_entries, mark_of, object, texts};
+ghost use Rattle.std.specs.Prelude.{◌≡◌, ◌⊎◌, ◌≤◌, [], ℕ, IfSome, List, MatchResult, Option, length, map, string_bytes};
 
 use crate::error::{ReadError, Refusal};
 use crate::kinds::{KeyKind, NamedFields};
@@ -43,8 +43,8 @@ fn ranks_of<'t, 's>(
     ensures { number.size ≤ 16 → (j : Json) → BeginsWith element.now j → MatchResult result
         (λ m. (ms : JsonMembers) × (es : List Entry) × (j ≡ object ms) × IsPermutation (entries_of ms) es ×
         AreKeyed (IsRank number) m.entries es)
-        (λ e. DeniesRead (IsKeyReason j) e ((ms : JsonMembers) × (j ≡ object ms) × HaveOneEach (entries_of ms) ×
-        HaveNumbers number (entries_of ms))) }
+        (λ e. ShowsRead (IsKeyReason j) e
+        ((((ms : JsonMembers) × (j ≡ object ms) × HaveOneEach (entries_of ms)) → ⊥) ⊎ HasNoNumber number j)) }
 {
     let Some(mut members) = element.members() else {
         return Err(expected(alloc, "an object"));
@@ -72,7 +72,7 @@ pub fn sorted_entries<'t, 's>(
     ensures { (F : List ℕ → Option Form) (ns : List NamedPlace) (x k v : List ℕ) (l : Lengths) (g : Form) (keys : Keys)
         (j : Json) → HasKind F x (map_entries l keys k v) → AreKeysOf F ns k g key_kind keys →
         BeginsWith element.now j →
-        MatchResult result (AreSorted keys key_kind j) (λ e. DeniesRead (Why F x j) e (SaysSome F x j)) }
+        MatchResult result (AreSorted keys key_kind j) (FailsRead F x j) }
 {
     match key_kind {
         KeyKind::Text => match in_place(element) {
@@ -124,7 +124,7 @@ pub fn fields_of<'t, 's>(
     ensures { let all = fields.now.items in IsDistinct bytes_eq (map (λ f. string_bytes f.0) all) → (j : Json) →
         BeginsWith element.now j → MatchResult result
         (λ s. (ms : JsonMembers) × (n : ℕ) × (j ≡ object ms) × (n ≡ length (entries_of ms)) ×
-        HasFields s (map (λ f. (string_bytes f.0, string_bytes f.1)) all) ms n)
+        HasFields s [] (map (λ f. (string_bytes f.0, string_bytes f.1)) all) ms n)
         (λ e. DeniesRead (IsKeyReason j) e ((ms : JsonMembers) × (j ≡ object ms) × HaveOneEach (entries_of ms))) }
 {
     match fields_in_place(fields, element) {

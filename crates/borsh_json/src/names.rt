@@ -4,10 +4,9 @@ ghost use Rattle.borsh_json.specs.Words.{IsAt, forms_of, names_of};
 ghost use Rattle.std.specs.Prelude.{ℕ, List, IfOk, string_bytes};
 
 use crate::kinds::Kind;
-use crate::output::{Layout, Output};
 use crate::table::Table;
 use crate::writing::text_of;
-use json::Token;
+use json::{Token, Writer};
 use std::alloc::AllocError;
 
 impl Table<'_, '_> {
@@ -22,14 +21,14 @@ impl Table<'_, '_> {
     pub fn names(&self) -> Result<String, AllocError>
         ensures { IfOk result (λ text. TellsNames (forms_of self.now) (names_of self.now) (string_bytes text)) }
     {
-        let mut output = Output::new(self.alloc(), Layout::Compact);
-        output.put(Token::BeginObject)?;
+        let mut writer = Writer::new(Vec::new(self.alloc()));
+        writer.begin_object()?;
         for at in 0..self.plan().len() {
-            output.put(Token::Key(self.name(at)))?;
-            output.put(Token::String(self.word(at)))?;
+            writer.key(self.name(at))?;
+            writer.string(self.word(at))?;
         }
-        output.put(Token::EndObject)?;
-        Ok(text_of(output.into_bytes()))
+        writer.end_object()?;
+        Ok(text_of(writer.into_inner()))
     }
 
     /// How the values of the name at a place are written.

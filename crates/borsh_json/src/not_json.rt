@@ -8,7 +8,7 @@ use std::alloc::Global;
 
 /// Why a text isn't JSON that is read: it nests too deep, or is wrong at a byte, where a token begins that can't follow.
 pub fn why_not_json<'a>(alloc: Global, root: &'a str, text: &str) -> JsonError<'a>
-    ensures { TellsNoJson result }
+    ensures { TellsNoJson root.now text.now result }
 {
     let mut scratch = Scratch::new(alloc);
     let Ok(mut reader) = Reader::new(text, &mut scratch) else {

@@ -1,5 +1,5 @@
 // Whole numbers as text.
-ghost use Rattle.borsh_json.specs.Words.{FitsSigned, HasRank, InRange, IsLeading, IsPlain, IsWhole, decimal, magnitude, number_found, number_kind, number_types, rank_of, raw, signed_decimal, w128, whole};
+ghost use Rattle.borsh_json.specs.Words.{FitsSigned, HasRank, InRange, IsLeading, HasNoLeadingZero, IsWhole, decimal, magnitude_of, number_found, number_kind, number_types, rank_of, raw, signed_decimal, w128, whole};
 ghost use Rattle.std.specs.Prelude.{◌==◌, if◌then◌else◌, ◌≡◌, ◌<◌, ◌≤◌, ◌*◌, ◌^◌, ℕ, ℤ, List, Decides, MatchOption, false, length, negsuc, pos, take, true};
 
 use crate::integers::Integer;
@@ -153,7 +153,7 @@ fn sized(bytes: u8, size: u8, is_signed: bool, is_non_zero: bool) -> Option<Numb
 
 /// Whether a text begins as decimal numbers are printed: with a digit other than 0, perhaps after a minus, or is `0`.
 fn is_plain(text: &[u8]) -> bool
-    ensures { Decides result (IsPlain text.now) }
+    ensures { Decides result (HasNoLeadingZero text.now) }
 {
     if text.is_empty() {
         return false;
@@ -211,7 +211,7 @@ fn fits_signed(number: i128, size: u8) -> bool
 
 /// The number, or one less than its absolute value if it is negative.
 fn magnitude(number: i128) -> u128
-    ensures value { result ≡ magnitude number }
+    ensures value { result ≡ magnitude_of number }
     ensures small { result < 2 ^ 127 }
 {
     if number < 0 {

@@ -361,7 +361,8 @@ fn put_length(
         ..
     } = definition
     else {
-        return Err(ReadError::Refused(Refusal::OtherNodes));
+        // Only sequences have lengths.
+        return Err(expected(alloc, "a value of another kind"));
     };
     let count = count as u64;
     let (start, end) = (length_range.start, length_range.end);

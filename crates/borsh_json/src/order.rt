@@ -1,5 +1,5 @@
 // The order of the keys of maps and sets, where names and definitions tell it.
-ghost use Rattle.borsh_json.specs.Words.{AreNumbers, AreOrderedNumbers, ComparesFronts, ComparesNumbers, ComparesTexts, Comparison, DecidesAscent, FindsBytesAt, FindsNext, FindsNoBytesAt, HasForm, InRange, IsAt, IsCut, IsNeeded, IsOrderOf, IsSequenceName, IsTreeMapName, NumberOrder, NumbersDescend, Order, OrderedBy, OrdersBytes, TakesCount, ValuesCompare, array_order, decimal, form_of, forms_of, int_cmp, is_below_zero, listed, low_bytes, names_of, nat_cmp, needs, plan_names, primitive_kind, sequence, tag, tuple, tuple_name};
+ghost use Rattle.borsh_json.specs.Words.{AreNumbers, AreOrderedNumbers, ComparesFronts, ComparesNumbers, ComparesTexts, Comparison, DecidesAscent, FindsBytesAt, FindsNext, FindsNoBytesAt, HasForm, InRange, IsAt, IsCut, IsNeeded, IsOrderOf, IsSequenceName, IsTreeMapName, NumberOrder, NumbersDescend, Order, OrderedBy, OrdersBytes, TakesCount, ValuesCompare, array_order, decimal, form_of, forms_of, int_cmp, is_negative, following, little_endian, names_of, nat_cmp, needs, plan_names, primitive_kind, sequence, tag, tuple, tuple_name};
 ghost use Rattle.std.specs.Prelude.{◌≡◌, ◌⊎◌, ◌+◌, ◌++◌, ◌∷◌, [], ◌<◌, ◌^◌, ℕ, ℤ, Bool, List, Decides, IfOk, IfSome, MatchBool, MatchOption, None, Some, codes, drop, length, map, option_map, pos, string_bytes, true};
 
 use crate::definitions::Definitions;
@@ -215,7 +215,7 @@ fn is_tuple_name(name: &str, parts: &[Declaration]) -> bool
 
 /// What of a text comes behind these parts, each behind a comma.
 fn behind_parts<'n>(text: &'n str, parts: &[Declaration]) -> Option<&'n str>
-    ensures { let front = listed (map (λ p. string_bytes p) parts.now) in MatchOption result
+    ensures { let front = following (map (λ p. string_bytes p) parts.now) in MatchOption result
         ((rest : List ℕ) → text.now ≡ front ++ rest → ⊥) (λ rest. text.now ≡ front ++ rest.now) }
 {
     let mut rest = text;
@@ -288,8 +288,8 @@ fn split<'b>(bytes: &'b [u8], count: usize) -> (&'b [u8], &'b [u8])
 
 /// The number that one byte or four are.
 fn count_in(bytes: &[u8]) -> u64
-    ensures one { (n : ℕ) → n < 256 ^ 1 → bytes.now ≡ low_bytes 1 n → result ≡ n }
-    ensures four { (n : ℕ) → n < 256 ^ 4 → bytes.now ≡ low_bytes 4 n → result ≡ n }
+    ensures one { (n : ℕ) → n < 256 ^ 1 → bytes.now ≡ little_endian 1 n → result ≡ n }
+    ensures four { (n : ℕ) → n < 256 ^ 4 → bytes.now ≡ little_endian 4 n → result ≡ n }
 {
     match bytes {
         [count] => u64::from(*count),
@@ -406,7 +406,7 @@ pub fn compare_numbers(left: &[u8], right: &[u8], is_signed: bool) -> Ordering
 }
 
 fn is_negative(bytes: &[u8]) -> bool
-    ensures { (n : ℕ) (z : ℤ) → 0 < n → InRange n true z → bytes.now ≡ tag n z → result ≡ is_below_zero z }
+    ensures { (n : ℕ) (z : ℤ) → 0 < n → InRange n true z → bytes.now ≡ tag n z → result ≡ is_negative z }
 {
     match bytes {
         [.., last] => *last >= 128,
@@ -416,7 +416,7 @@ fn is_negative(bytes: &[u8]) -> bool
 
 /// How two numbers of the same size without signs compare.
 fn compare_bytes(left: &[u8], right: &[u8]) -> Ordering
-    ensures { (n y z : ℕ) → y < 256 ^ n → z < 256 ^ n → left.now ≡ low_bytes n y → right.now ≡ low_bytes n z →
+    ensures { (n y z : ℕ) → y < 256 ^ n → z < 256 ^ n → left.now ≡ little_endian n y → right.now ≡ little_endian n z →
         result ≡ nat_cmp y z }
 {
     let mut end = left.len().min(right.len());

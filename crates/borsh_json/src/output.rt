@@ -1,10 +1,12 @@
 // The JSON text that is being written.
-ghost use Rattle.borsh_json.specs.Leaves.{Adds, output_before, output_tokens};
-ghost use Rattle.borsh_json.specs.Printed.{laid_out, layout_in};
+ghost use Rattle.borsh_json.specs.Leaves.{Adds, Holds};
+ghost use Rattle.borsh_json.specs.Printed.{AreWritten, IsShortNumber, laid_out};
+ghost use Rattle.borsh_json.specs.declared.output.Output.TheVariants.{Nothing};
 ghost use Rattle.json.specs.Lex.{tokens};
-ghost use Rattle.json.specs.Print.{IsPrintable};
+ghost use Rattle.json.specs.Print.{IsNumber, IsPrintable};
 ghost use Rattle.json.specs.Reads.{token_of};
-ghost use Rattle.std.specs.Prelude.{◌≡◌, ◌∷◌, [], IsUtf8, OnOk, true};
+ghost use Rattle.json.specs.Token.{Token as TokenOf, number as a_number, string as a_string};
+ghost use Rattle.std.specs.Prelude.{◌≡◌, ◌⊎◌, ◌∷◌, [], IfSome, IsUtf8, List, OnOk, true};
 
 use json::{Pretty, Token, Writer};
 use std::alloc::{AllocError, Global};
@@ -60,52 +62,81 @@ impl Style {
     };
 }
 
-/// The JSON text that is being written.
+/// The JSON text that is being written; or nothing of it is kept.
 #[derive(Drop)]
 pub enum Output {
-    Compact(Writer),
-    Pretty(Pretty),
+    Compact(Writer, LongNumbers),
+    Pretty(Pretty, LongNumbers),
+    Nothing,
 }
 
 impl Output {
-    pub fn new(alloc: Global, layout: Layout) -> Output
-        ensures { (output_before result ≡ []) × (output_tokens result ≡ []) }
+    pub fn new(alloc: Global, style: Style) -> Output
+        ensures { Holds result [] }
     {
-        match layout {
-            Layout::Compact => Output::Compact(Writer::new(Vec::new(alloc))),
-            Layout::Pretty => Output::Pretty(Pretty::new(alloc)),
+        let long_numbers = style.long_numbers;
+        match style.layout {
+            Layout::Compact => Output::Compact(Writer::new(Vec::new(alloc)), long_numbers),
+            Layout::Pretty => Output::Pretty(Pretty::new(alloc), long_numbers),
         }
     }
 
-    /// The text of the tokens that were written.
-    pub fn into_bytes(self) -> Vec<u8>
-        ensures tokens { output_before self ≡ [] → tokens result.items ≡ output_tokens self }
-        ensures utf8 { output_before self ≡ [] → IsUtf8 result.items }
-        ensures layout { output_before self ≡ [] → result.items ≡ laid_out (layout_in self) (output_tokens self) }
+    /// The text of the tokens that were written; none of another layout, or with other numbers of 64 bits.
+    pub fn into_bytes(self, style: Style) -> Option<Vec<u8>>
+        ensures tokens { (ts : List TokenOf) → Holds self ts → IfSome result (λ text. tokens text.items ≡ ts) }
+        ensures utf8 { (ts : List TokenOf) → Holds self ts → IfSome result (λ text. IsUtf8 text.items) }
+        ensures layout { (ts : List TokenOf) → Holds self ts → IfSome result (λ text. text.items ≡ laid_out style.layout ts) }
+        ensures long { (ts : List TokenOf) → Holds self ts → IfSome result (λ _. AreWritten style.long_numbers ts) }
     {
-        match self {
-            Output::Compact(writer) => writer.into_inner(),
-            Output::Pretty(writer) => writer.into_inner(),
+        if !self.has_long(style.long_numbers) {
+            return None;
+        }
+        match (self, style.layout) {
+            (Output::Compact(writer, _), Layout::Compact) => Some(writer.into_inner()),
+            (Output::Pretty(writer, _), Layout::Pretty) => Some(writer.into_inner()),
+            _ => None,
         }
     }
 
-    /// Whether the text is laid out so.
-    pub fn is_in(&self, layout: Layout) -> bool
-        ensures { result ≡ true → layout_in self.now ≡ layout }
+    /// Whether a text is kept in which numbers of 64 bits are written so.
+    fn has_long(&self, long_numbers: LongNumbers) -> bool
+        ensures { result ≡ true → (ts : List TokenOf) → Holds self.now ts → AreWritten long_numbers ts }
     {
         match self {
-            Output::Compact(_) => layout == Layout::Compact,
-            Output::Pretty(_) => layout == Layout::Pretty,
+            Output::Compact(_, long) | Output::Pretty(_, long) => *long == long_numbers,
+            Output::Nothing => false,
         }
+    }
+
+    /// Whether nothing is kept.
+    pub fn is_nothing(&self) -> bool
+        ensures { result ≡ true → self.now ≡ Nothing }
+    {
+        matches!(self, Output::Nothing)
     }
 
     pub fn put(&mut self, token: Token<'_>) -> Result<(), AllocError>
-        requires { IsPrintable (token_of token) }
+        requires printable { IsPrintable (token_of token) }
+        requires short { IsShortNumber (token_of token) }
         ensures { OnOk result (Adds (token_of token.entry ∷ []) self.old self.new) }
     {
         match self {
-            Output::Compact(writer) => writer.token(token),
-            Output::Pretty(writer) => writer.token(token),
+            Output::Compact(writer, _) => writer.token(token),
+            Output::Pretty(writer, _) => writer.token(token),
+            Output::Nothing => Ok(()),
+        }
+    }
+
+    /// Puts a number of 64 bits: a number, or a string.
+    pub fn put_long(&mut self, number: &str) -> Result<(), AllocError>
+        requires { IsNumber number.now }
+        ensures { OnOk result (Adds (a_string number.now ∷ []) self.old self.new
+            ⊎ Adds (a_number number.now ∷ []) self.old self.new) }
+    {
+        match self {
+            Output::Compact(writer, LongNumbers::Plain) => writer.token(Token::Number(number)),
+            Output::Pretty(writer, LongNumbers::Plain) => writer.token(Token::Number(number)),
+            _ => self.put(Token::String(number)),
         }
     }
 }

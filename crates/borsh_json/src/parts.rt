@@ -1,5 +1,5 @@
 // The reader's loop over the parts of a value.
-ghost use Rattle.borsh_json.specs.Words.{AreKeysOf, AscentFalls, AscentRises, BeginsAscending, BeginsWith, DeniesKey, DeniesRead, Entry, Form, HasBegun, HasEnded, HasEntries, HasPath, HasRead, HaveBytes, InOrder, IsAt, IsDoing, IsEntryKey, IsFull, IsNext, IsNextEntry, IsUnread, Json, JsonPart, Keys, NamedPlace, NextMissing, NextPart, ReadsOn, SaysFirst, SaysSome, Why, form_of, forms_in, forms_of, key_json, map_of, names_of, root_of, steps_at, steps_through};
+ghost use Rattle.borsh_json.specs.Words.{AreKeysOf, AscentFalls, AscentRises, BeginsAscending, BeginsWith, DeniesKey, Entry, FailsRead, Form, HasBegun, HasEnded, HasEntries, HasPath, HasRead, HaveBytes, InOrder, IsAt, IsDoing, IsEntryKey, IsFull, IsNext, IsNextEntry, IsUnread, Json, JsonPart, Keys, NamedPlace, NextMissing, NextPart, ReadsOn, SaysFirst, form_of, forms_in, forms_of, key_json, map_of, names_of, root_of, steps_at, steps_through};
 ghost use Rattle.std.specs.Prelude.{◌≡◌, ◌∷◌, ◌++◌, [], true, IfErr, IfOk, ℕ, List, MatchBool, MatchOption, MatchResult, OnOk, Option, length};
 
 use crate::error::{PartError, PartResult, ReadError, Refusal};
@@ -214,7 +214,7 @@ fn next_entry<'t, 's>(
         HasEntries entries.entry.key_kind source.old es → MatchResult result
         (IsNextEntry F ns keys k v es entries.entry.key_kind source.new out.old.items out.new.items)
         (λ e. (s : List ℕ) × (j : Json) × (rest : List Entry) × (es ≡ (s, j) ∷ rest) ×
-        DeniesRead (Why F k (key_json keys s)) e (SaysSome F k (key_json keys s))) }
+        FailsRead F k (key_json keys s) e) }
 {
     match source.take_entry() {
         Some((key, element)) => {
@@ -238,7 +238,7 @@ fn put_key(
         AreKeysOf F ns k (form_of entries.entry.key_definition.now) entries.entry.key_kind keys →
         IsEntryKey entries.entry.key_kind key.entry s → MatchResult result
         (λ _. (own : List ℕ) × (out.new.items ≡ out.old.items ++ own) × SaysFirst F k (key_json keys s) own [])
-        (λ e. DeniesRead (Why F k (key_json keys s)) e (SaysSome F k (key_json keys s))) }
+        (FailsRead F k (key_json keys s)) }
 {
     match entries.key_kind {
         KeyKind::Text => match key {

@@ -22,10 +22,13 @@ use std::collections::BTreeMap;
 /// Determined: after `Ok` the text says the bytes, and no others, and the keys of its sets and maps ascend where their order is
 /// known. A text that says bytes, with its keys in order, is refused with `OutOfMemory`, `Ambiguous` or `TooDeep` alone; after any
 /// other error but `Descends` the text says no bytes at all. A refusal's path leads from the root to the first place that fails: the
-/// parts before it, in the order of the bytes, have bytes. The JSON of this part says none, for the reason of the refusal; or it is a
-/// field that the object hasn't (`MissingField`), a part inside of 128 others (`TooDeep`), or an element of a set or map that isn't
-/// above the one before it (`Descends`). `NotJson` is of a text that isn't JSON, `Ambiguous` as of [`borsh_values::is_member`], and
-/// `NoMember` isn't returned. Left open: memory; what is expected, in words; the byte of `NotJson`: tested.
+/// parts before it, in the order of the bytes, have bytes. The JSON of this part fails itself, whatever its parts say, for the reason
+/// of the refusal (a map also for a key that is no number); or it is a field that the object hasn't (`MissingField`), a part inside of
+/// 128 others (`TooDeep`), or an element of a set or map that isn't above the one before it (`Descends`). `UnknownName` has a key
+/// that is no field, or the name of no variant. `NoValue` is of JSON that says bytes, which are no member. A text that isn't JSON
+/// gives `NotJson`, or `TooDeep` at the root where its tokens open more than 128 arrays and objects; `Ambiguous` is as of
+/// [`borsh_values::is_member`]; `NoMember` isn't returned. Left open: memory; what is expected, in words; which of several refusals
+/// of one part; the byte of `NotJson`: tested.
 ///
 /// ```
 /// let bytes = from_json(alloc, "(u8, bool)", &definitions, "[7, true]")?;

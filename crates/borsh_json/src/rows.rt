@@ -10,7 +10,6 @@ use crate::floats::shortest;
 use crate::formats::is_list;
 use crate::kinds::{Kind, kind_of_primitive};
 use crate::numbers::Number;
-use crate::strict::path_to;
 use borsh_values::{
     Membership, Node, Path, Plan, Preorder, PreorderError, count_of, elements_of, is_member_of,
     variant_of,
@@ -98,15 +97,16 @@ impl<'a, 'l, 'b> Rows<'a, 'l, 'b> {
     fn too_deep(&self) -> JsonError<'a>
         ensures { IsNoRow (rows_plan self.now).now result }
     {
-        match path_to(self.alloc, self.nodes.path(), None) {
-            Ok(path) => JsonError::Refused(path, Refusal::TooDeep),
+        let Path { root, steps } = self.nodes.path();
+        match Vec::from_slice(self.alloc, steps.as_slice()) {
+            Ok(steps) => JsonError::Refused(Path { root, steps }, Refusal::TooDeep),
             Err(_) => JsonError::OutOfMemory,
         }
     }
 }
 
 /// The next node of a member.
-pub(crate) fn next_node<'a, 'b>(
+fn next_node<'a, 'b>(
     nodes: &mut Preorder<'a, '_, 'b>,
 ) -> Result<Option<Node<'a, 'b>>, JsonError<'a>>
     requires { IsInValue nodes.old }

@@ -1,6 +1,6 @@
 // The JSON of the parts of a value that are left.
-ghost use Rattle.borsh_json.specs.Words.{BeginsWith, Entry, FoundKeyKind, HasEntries, HasFields, HasItems, IsEntryKey, Json, JsonItems, JsonMembers, NoneLeft, Wanted, get_member, item, no_items};
-ghost use Rattle.std.specs.Prelude.{◌≡◌, ◌∷◌, [], ℕ, List, MatchOption, None, Some, suc};
+ghost use Rattle.borsh_json.specs.Words.{BeginsWith, Entry, FoundKeyKind, HasEntries, HasFields, HasItems, IsEntryKey, IsLeft, Json, JsonItems, JsonMembers, NoneLeft, Wanted, get_member, item, no_items};
+ghost use Rattle.std.specs.Prelude.{◌≡◌, ◌∷◌, ◌++◌, [], ℕ, List, MatchOption, None, Some, suc};
 
 use json::{Element, Items, Members};
 use std::collections::BTreeMap;
@@ -31,10 +31,10 @@ impl<'t, 's> Source<'t, 's> {
     pub fn take(&mut self, field: &str) -> Option<Element<'t, 's>>
         ensures items { (js : JsonItems) → HasItems self.old js → MatchOption result (js ≡ no_items)
             (λ e. (j : Json) × (rest : JsonItems) × (js ≡ item j rest) × BeginsWith e j × HasItems self.new rest) }
-        ensures fields { (f : Wanted) (fs : List Wanted) (ms : JsonMembers) (n : ℕ) →
-            HasFields self.old (f ∷ fs) ms n → field.now ≡ f.0 → MatchOption result (get_member f.0 ms ≡ None)
+        ensures fields { (gs : List Wanted) (f : Wanted) (fs : List Wanted) (ms : JsonMembers) (n : ℕ) →
+            HasFields self.old gs (f ∷ fs) ms n → field.now ≡ f.0 → MatchOption result (get_member f.0 ms ≡ None)
             (λ e. (j : Json) × (m : ℕ) × (get_member f.0 ms ≡ Some j) × BeginsWith e j × (n ≡ suc m) ×
-            HasFields self.new fs ms m) }
+            HasFields self.new (gs ++ f ∷ []) fs ms m) }
     {
         match self {
             Source::One(element) => element.take(),
@@ -74,7 +74,7 @@ impl<'t, 's> Source<'t, 's> {
 
     /// A key of an object that is no field: one that is left.
     pub fn unknown_key(&self) -> Option<&'s str>
-        ensures { MatchOption result (NoneLeft self.now) (λ key. NoneLeft self.now → ⊥) }
+        ensures { MatchOption result (NoneLeft self.now) (λ key. IsLeft self.now key.now) }
     {
         match self {
             Source::Members(members) => match members.first_key_value() {

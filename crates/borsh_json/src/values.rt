@@ -7,7 +7,7 @@ use crate::kinds::{Elements, Entries, Kind, Variants};
 use crate::leaves::{
     write_byte_list, write_name, write_null, write_numbers, write_primitive, write_text,
 };
-use crate::output::{LongNumbers, Output};
+use crate::output::Output;
 use crate::position::{Parts, Place};
 use crate::table::Table;
 use borsh_values::{Node, count_of, variant_of};
@@ -69,7 +69,6 @@ pub fn begin_value<'a, 'b>(
     at: usize,
     kind: Kind<'a>,
     node: &Node<'a, 'b>,
-    long_numbers: LongNumbers,
     out: &mut Output,
 ) -> Begun<'a, 'b>
     ensures { HasNode kind.entry →
@@ -77,7 +76,7 @@ pub fn begin_value<'a, 'b>(
 {
     match kind {
         Kind::Number(_) | Kind::Bool | Kind::Bytes(_) | Kind::Float(_) => {
-            write_primitive(json.alloc(), kind, node, long_numbers, out)?;
+            write_primitive(json.alloc(), kind, node, out)?;
             Ok(None)
         }
         Kind::Text => {
@@ -89,7 +88,7 @@ pub fn begin_value<'a, 'b>(
             Ok(None)
         }
         Kind::Numbers(elements) => {
-            write_numbers(json, node, elements, long_numbers, out)?;
+            write_numbers(json, node, elements, out)?;
             Ok(None)
         }
         Kind::List(elements) => begin_list(elements, node, out),

@@ -1,17 +1,18 @@
 // A value as JSON.
-ghost use Rattle.borsh_json.specs.Words.{Adds, AreKeysOf, BeginsNext, EntryOf, Form, FoundBytes, FoundElements, FoundKeyKind, FoundList, FoundNumbers, FoundPart, HasNoBytes, HasNode, IsAbove, IsAt, IsAwaitingAt, IsBegunOf, IsEntryKey, IsKeyPut, IsKindOf, IsLast, IsNoJsonReason, IsPartWritten, IsWalker, IsWritingAt, IsWrittenNext, Keys, KindHasOrder, KindTellsOrder, Member, NamedPlace, NoneFallsIn, Place, RefusesElements, RisesAt, ShowsNoJson, StopsBy, TellsAscent, TextRepresents, definitions_in, definitions_of, ends_of, form_of, forms_in, forms_of, map_of, names_of, root_of, shapes};
+ghost use Rattle.borsh_json.specs.Words.{Adds, AreKeysOf, BeginsNext, EntryOf, Form, FoundBytes, FoundElements, FoundKeyKind, FoundList, FoundNumbers, FoundPart, HasNoBytes, HasNode, Holds, IsAbove, IsAt, IsAwaitingAt, IsBegunOf, IsEntryKey, IsKeyPut, IsKindOf, IsLast, IsNoJsonReason, IsPartWritten, IsWritingAt, IsWrittenNext, Keys, KindHasOrder, KindTellsOrder, Member, NamedPlace, NoneFallsIn, Place, RefusesElements, RisesAt, ShowsNoJson, StopsBy, TellsAscent, TextRepresents, WritesJson, definitions_in, definitions_of, ends_of, form_of, forms_in, forms_of, map_of, names_of, root_of, shapes};
 ghost use Rattle.borsh_json.specs.Ascii.{IsInLine, IsPlain, IsSameJson};
-ghost use Rattle.borsh_json.specs.Printed.{IsPrinted};
+ghost use Rattle.borsh_json.specs.Printed.{HasShortNumbers, IsPrinted};
 ghost use Rattle.borsh_json.specs.declared.output.Layout.TheVariants.{Compact};
+ghost use Rattle.borsh_json.specs.declared.output.LongNumbers.TheVariants.{Quoted};
 ghost use Rattle.borsh_json.specs.declared.output.Characters.TheVariants.{Any, Ascii};
-ghost use Rattle.std.specs.Prelude.{◌≡◌, ◌<◌, ℕ, All, Decides, IfErr, IfOk, IfSome, IsUtf8, List, MatchResult, OnOk, Option, Some, length, string_bytes, true};
+ghost use Rattle.std.specs.Prelude.{◌≡◌, ◌<◌, [], ℕ, All, Decides, IfErr, IfOk, IfSome, IsUtf8, List, MatchResult, OnOk, Option, Some, length, string_bytes, true};
 
 use crate::ascii::{in_ascii, is_ascii};
 use crate::error::{JsonError, PartResult, Refusal};
 use crate::kinds::{Entries, Kind};
 use crate::leaves::{is_above, write_key};
 use crate::order::Ordered;
-use crate::output::{Characters, LongNumbers, Output, Style};
+use crate::output::{Characters, Output, Style};
 use crate::position::{Key, Part, Parts, Place, Position};
 use crate::sources::EntryKey;
 use crate::table::Table;
@@ -40,11 +41,13 @@ use std::collections::BTreeMap;
 /// `bool`, texts, and of tuples, arrays, lists, ordered sets and maps, and options of these, and not of structs and enums.
 ///
 /// Determined: after `Ok` the text is JSON that says these bytes, and in which keys ascend where their order is known, of the
-/// characters of the style; a compact one is one line, without control characters; where any are allowed, it has no white space but
-/// that of its layout. So no other bytes have it, they are a member of the root ([`crate::text_determines_bytes`]), and
-/// [`crate::from_json`] gives them back, but for `OutOfMemory`, `Ambiguous` and `TooDeep`. `NoMember` and `Ambiguous` are as of [`borsh_values::is_member`], and `NoValue` and `NotJson` aren't returned. After `Refused` they are a
-/// member with a part of this kind: `TooDeep`, a value inside of 128 others; `Descends`, a set or map of which two neighbours don't
-/// ascend in the known order of its keys; others, a value that no JSON says. Left open: memory; which of such texts: tested.
+/// characters of the style; a compact one is one line, without control characters; where any are allowed, it has no white space
+/// but that of its layout; with quoted numbers no whole number has more than eleven characters. So no other bytes have it, they
+/// are a member of the root ([`crate::text_determines_bytes`]), and [`crate::from_json`] gives them back, but for `OutOfMemory`,
+/// `Ambiguous` and `TooDeep`. `NoMember` and `Ambiguous` are as of [`borsh_values::is_member`], and `NoValue` and `NotJson`
+/// aren't returned. After `Refused` they are a member with a part of this kind: `TooDeep`, a value inside of 128 others;
+/// `Descends`, a set or map of which two neighbours don't ascend in the known order of its keys; others, a value of the kind that
+/// the refusal names, which no JSON says. Left open: memory; which of such texts, and the paths of refusals: tested.
 ///
 /// ```
 /// let text = to_json(alloc, "(u8, bool)", &definitions, &[7, 1], Style::COMPACT)?;
@@ -63,6 +66,8 @@ pub fn to_json<'a>(
     ensures line { style.layout ≡ Compact → IfOk result (λ text. All IsInLine (string_bytes text)) }
     ensures printed { style.characters ≡ Any →
         IfOk result (λ text. IsPrinted style.layout (string_bytes text)) }
+    ensures short { style.long_numbers ≡ Quoted →
+        IfOk result (λ text. HasShortNumbers (string_bytes text)) }
     ensures reason { IfErr result (λ e. IsNoJsonReason (definitions_in map.now) root.now bytes.now e) }
     ensures refused { IfErr result (λ e. ShowsNoJson (forms_in map.now) root.now bytes.now e) }
 {
@@ -80,16 +85,34 @@ impl<'a, 'l> Table<'a, 'l> {
         ensures line { style.layout ≡ Compact → IfOk result (λ text. All IsInLine (string_bytes text)) }
         ensures printed { style.characters ≡ Any →
             IfOk result (λ text. IsPrinted style.layout (string_bytes text)) }
+        ensures short { style.long_numbers ≡ Quoted →
+            IfOk result (λ text. HasShortNumbers (string_bytes text)) }
+        ensures reason { let l = self.now.plan.now in
+            IfErr result (λ e. IsNoJsonReason (definitions_of l) (root_of l) bytes.now e) }
+        ensures refused { let l = self.now.plan.now in
+            IfErr result (λ e. ShowsNoJson (forms_in (map_of l)) (root_of l) bytes.now e) }
+    {
+        let out = self.write(bytes, Output::new(self.alloc(), style))?;
+        let Some(text) = out.into_bytes(style) else {
+            return Err(JsonError::OutOfMemory);
+        };
+        Ok(in_characters(self.alloc(), text_of(text), style.characters)?)
+    }
+
+    /// Writes the value that the bytes are. Left open: memory.
+    pub(crate) fn write(&self, bytes: &[u8], out: Output) -> Result<Output, JsonError<'a>>
+        requires { Holds out [] }
+        ensures member { let l = self.now.plan.now in
+            OnOk result (Member (definitions_of l) (root_of l) bytes.now) }
+        ensures written { let l = self.now.plan.now in
+            IfOk result (WritesJson (forms_in (map_of l)) (root_of l) bytes.now) }
         ensures reason { let l = self.now.plan.now in
             IfErr result (λ e. IsNoJsonReason (definitions_of l) (root_of l) bytes.now e) }
         ensures refused { let l = self.now.plan.now in
             IfErr result (λ e. ShowsNoJson (forms_in (map_of l)) (root_of l) bytes.now e) }
     {
         match self.membership(bytes)? {
-            Membership::Member => {
-                let text = text_of(write_value(self, bytes, style)?);
-                Ok(in_characters(self.alloc(), text, style.characters)?)
-            }
+            Membership::Member => write_value(self, bytes, out),
             Membership::NoMember(fault) => Err(JsonError::NoMember(fault)),
             Membership::Ambiguous(name) => Err(JsonError::Ambiguous(name)),
         }
@@ -120,39 +143,27 @@ pub fn text_of(bytes: Vec<u8>) -> String
     }
 }
 
-/// The JSON text of a member.
-fn write_value<'a>(
-    json: &Table<'a, '_>,
-    bytes: &[u8],
-    style: Style,
-) -> Result<Vec<u8>, JsonError<'a>>
-    requires { Member (shapes (forms_of json.now)) (root_of json.now.plan.now) bytes.now }
-    ensures says { let l = json.now.plan.now in
-        IfOk result (λ text. TextRepresents (forms_in (map_of l)) (root_of l) text.items bytes.now) }
-    ensures utf8 { IfOk result (λ text. IsUtf8 text.items) }
-    ensures line { style.layout ≡ Compact → IfOk result (λ text. All IsInLine text.items) }
-    ensures printed { IfOk result (λ text. IsPrinted style.layout text.items) }
+/// Writes a member.
+fn write_value<'a>(json: &Table<'a, '_>, bytes: &[u8], out: Output) -> Result<Output, JsonError<'a>>
+    requires member { Member (shapes (forms_of json.now)) (root_of json.now.plan.now) bytes.now }
+    requires empty { Holds out [] }
+    ensures written { IfOk result (WritesJson (forms_of json.now) (root_of json.now.plan.now) bytes.now) }
     ensures stops { IfErr result (StopsBy json.now bytes.now) }
 {
     let alloc = json.alloc();
     let plan = json.plan();
     let walk = Walker::new(alloc, plan, bytes);
     let position = Position::new(alloc, plan.root());
-    let out = Output::new(alloc, style.layout);
     let mut writing = Writing {
         walk,
         position,
         out,
         bytes,
-        long_numbers: style.long_numbers,
     };
     for _ in 0..u64::MAX {
         let more = writing.write_next(json)?;
         if !more {
-            if writing.out.is_in(style.layout) {
-                return Ok(writing.out.into_bytes());
-            }
-            break;
+            return Ok(writing.out);
         }
     }
     Err(JsonError::OutOfMemory)
@@ -165,7 +176,6 @@ struct Writing<'a, 'l, 'b> {
     position: Position<'a, 'b>,
     out: Output,
     bytes: &'b [u8],
-    long_numbers: LongNumbers,
 }
 
 impl<'a, 'l, 'b> Writing<'a, 'l, 'b> {
@@ -191,7 +201,6 @@ impl<'a, 'l, 'b> Writing<'a, 'l, 'b> {
 
     /// Writes the key of a part that was begun, where it has one.
     fn write_key(&mut self, json: &Table<'a, '_>, part: Part<'a>) -> Result<(), JsonError<'a>>
-        requires walk { IsWalker self.old.walk }
         ensures key { (p : Place) → IsWritingAt json.now self.old p → RisesAt json.now self.old p →
             IsBegunOf json.now self.old.walk.offset p self.old.position.place part.entry →
             IsKeyPut json.now part.entry.at self.old self.new result }
@@ -210,7 +219,6 @@ impl<'a, 'l, 'b> Writing<'a, 'l, 'b> {
         json: &Table<'a, '_>,
         entries: Entries<'a>,
     ) -> Result<(), JsonError<'a>>
-        requires walk { IsWalker self.old.walk }
         ensures key { (p : Place) (part : FoundPart) →
             IsWritingAt json.now self.old p → RisesAt json.now self.old p → part.key ≡ EntryOf entries.entry →
             IsBegunOf json.now self.old.walk.offset p self.old.position.place part →
@@ -234,7 +242,6 @@ impl<'a, 'l, 'b> Writing<'a, 'l, 'b> {
 
     /// Writes a part, or its beginning, and goes into its parts.
     fn write_part(&mut self, json: &Table<'a, '_>, at: usize) -> Result<(), JsonError<'a>>
-        requires walk { IsWalker self.old.walk }
         ensures part { (x : List ℕ) → IsAt (names_of json.now) at x →
             IsAwaitingAt json.now self.old x → IsPartWritten json.now self.old self.new result }
         ensures bytes { self.new.bytes ≡ self.old.bytes }
@@ -259,7 +266,6 @@ impl<'a, 'l, 'b> Writing<'a, 'l, 'b> {
         at: usize,
         kind: Kind<'a>,
     ) -> Result<(), JsonError<'a>>
-        requires walk { IsWalker self.old.walk }
         ensures part { let F = forms_of json.now in let ns = names_of json.now in
             (x : List ℕ) (f : Form) → IsAt ns at x → F x ≡ Some f →
             IsKindOf F ns x f kind.entry → KindHasOrder F ns json.now.orders.items x kind.entry →
@@ -271,7 +277,7 @@ impl<'a, 'l, 'b> Writing<'a, 'l, 'b> {
             return Err(JsonError::Ambiguous(json.name(at)));
         };
         check_elements(&self.position, kind, &node)?;
-        match begin_value(json, at, kind, &node, self.long_numbers, &mut self.out) {
+        match begin_value(json, at, kind, &node, &mut self.out) {
             Ok(Some(place)) => Ok(self.position.enter(place.in_order(order_of(kind)))?),
             Ok(None) => Ok(()),
             Err(error) => Err(self.position.refused_value(error).into()),

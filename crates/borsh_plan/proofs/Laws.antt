@@ -7,7 +7,7 @@ use Rattle.borsh_walks.specs.declared.definition.Definition.{Definition}
 use Rattle.borsh_walks.specs.Container.{Reached, Shape}
 use Rattle.borsh_walks.specs.Definitions.{definitions_in}
 use Rattle.borsh_plan.specs.declared.plan.Plan.{Plan}
-use Rattle.borsh_plan.specs.Names.{name_of, name_at, named_definition, shape_at}
+use Rattle.borsh_plan.specs.Names.{name_of, name_at, found_definition, shape_at}
 use Rattle.borsh_plan.specs.Plan.{IsPlanOf, definitions_of, map_of, names_of, parts_of, planned, root_of}
 use Rattle.borsh_plan.proofs.Places as places
 
@@ -15,7 +15,7 @@ module _ (p : Plan) where
   pub root_there : (0 < length (names_of p)) × (name_at (names_of p) 0 ≡ root_of p)
   root_there = places.root_there (map_of p) (root_of p) (names_of p) (parts_of p) (planned p)
 
-  pub looked_up : (x : List ℕ) (i : ℕ) → name_of (names_of p) i ≡ Some x → get_by_text (map_of p) x ≡ named_definition (slice_get (names_of p) i)
+  pub looked_up : (x : List ℕ) (i : ℕ) → name_of (names_of p) i ≡ Some x → get_by_text (map_of p) x ≡ found_definition (slice_get (names_of p) i)
   looked_up = (planned p).looked_up
 
   pub defined : (x : List ℕ) (i : ℕ) → name_of (names_of p) i ≡ Some x → definitions_of p x ≡ shape_at (names_of p) i

@@ -7,7 +7,7 @@ use Rattle.borsh_walks.specs.declared.definition.Definition.{Definition}
 use Rattle.borsh_walks.specs.Definitions.{definitions_in, shape_of}
 use Rattle.borsh_walks.proofs.Names.{name_cases}
 use Rattle.borsh_walks.proofs.Tables.{Updated}
-use Rattle.borsh_plan.specs.Names.{name_of, named_shape, named_definition, shape_at, AreParts, IsIndex, Grows, IsAdded}
+use Rattle.borsh_plan.specs.Names.{name_of, named_shape, found_definition, shape_at, AreParts, IsIndex, Grows, IsAdded}
 use Rattle.borsh_plan.specs.declared.named.Named.{Named}
 
 -- ---- a list and one more
@@ -64,7 +64,7 @@ module _ {Added : Named → Type 0} {most : ℕ} {old new : List Named} (g : Gro
       cc
 
 -- the shape of a definition that was looked up
-named_is_shape : (o : Option Named) → option_map shape_of (named_definition o) ≡ named_shape o
+named_is_shape : (o : Option Named) → option_map shape_of (found_definition o) ≡ named_shape o
 named_is_shape None = refl
 named_is_shape (Some n) = of_definition n.definition
   where
@@ -72,7 +72,7 @@ named_is_shape (Some n) = of_definition n.definition
     of_definition None = refl
     of_definition (Some d) = refl
 
-pub shape_found : {A : Type 0} (m : BTreeMap (String A) Definition) (ns : List Named) (x : List ℕ) (i : ℕ) → get_by_text m x ≡ named_definition (slice_get ns i) → definitions_in m x ≡ shape_at ns i
+pub shape_found : {A : Type 0} (m : BTreeMap (String A) Definition) (ns : List Named) (x : List ℕ) (i : ℕ) → get_by_text m x ≡ found_definition (slice_get ns i) → definitions_in m x ≡ shape_at ns i
 shape_found m ns x i e = ap (λ o. option_map shape_of o) e ∙ named_is_shape (slice_get ns i)
 
 -- ---- how names grow
@@ -103,7 +103,7 @@ grows_on f g h = record {
 
 -- ---- one name more
 module _ {A : Type 0} (m : BTreeMap (String A) Definition) where
-  pub index_more : {ns : List Named} {T U : List ℕ → Option ℕ} (n : Named) → IsIndex m ns T → T n.name.now ≡ None → named_definition (Some n) ≡ get_by_text m n.name.now → Updated T U n.name.now (length ns) → IsIndex m (ns ++ n ∷ []) U
+  pub index_more : {ns : List Named} {T U : List ℕ → Option ℕ} (n : Named) → IsIndex m ns T → T n.name.now ≡ None → found_definition (Some n) ≡ get_by_text m n.name.now → Updated T U n.name.now (length ns) → IsIndex m (ns ++ n ∷ []) U
   index_more {ns} {T} {U} n s none d u = record {
     sound = λ x i e. elim (name_cases x n.name.now) [
       | inl q ↦ (let g : i ≡ length ns = (let a = u.here in let b = ap U q in cc) in named_is (ns ++ n ∷ []) i n (ap (λ k. slice_get (ns ++ n ∷ []) k) g ∙ get_last n ns) ∙ ap (λ y. Some y) (sym q))
@@ -114,8 +114,8 @@ module _ {A : Type 0} (m : BTreeMap (String A) Definition) where
       | inr h ↦ ap U (sym k.2 ∙ ap (λ z. z.name.now) h.1) ∙ u.here ∙ ap (λ z. Some z) (sym h.0)
     ];
     looked_up = λ x i e. let k = some_named (ns ++ n ∷ []) i x e in elim (get_more n ns i k.1) [
-      | inl h ↦ (let g = named_is ns i k.0 h ∙ ap (λ y. Some y) k.2 in s.looked_up x i g ∙ ap named_definition (h ∙ sym k.1))
-      | inr h ↦ ap (λ y. get_by_text m y) (sym k.2 ∙ ap (λ z. z.name.now) h.1) ∙ sym d ∙ ap (λ z. named_definition (Some z)) (sym h.1) ∙ ap named_definition (sym k.1)
+      | inl h ↦ (let g = named_is ns i k.0 h ∙ ap (λ y. Some y) k.2 in s.looked_up x i g ∙ ap found_definition (h ∙ sym k.1))
+      | inr h ↦ ap (λ y. get_by_text m y) (sym k.2 ∙ ap (λ z. z.name.now) h.1) ∙ sym d ∙ ap (λ z. found_definition (Some z)) (sym h.1) ∙ ap found_definition (sym k.1)
     ];
   }
 

@@ -7,7 +7,7 @@ use Rattle.std.proofs.Math.Seq.{get_or-append_seam}
 use Rattle.borsh_walks.specs.Container.{Shape, primitive, sequence, product, choice, IsIn, IsZeroSize, zeroed, zero_size_references}
 use Rattle.borsh_plan.specs.declared.named.Named.{Named}
 use Rattle.borsh_plan.specs.Names.{parts_in}
-use Rattle.borsh_plan.specs.Zeros.{IsFull, IsProduct, ZeroAt, AreZeros}
+use Rattle.borsh_plan.specs.Zeros.{IsNeverZero, IsProduct, ZeroAt, AreZeros}
 
 module _ (C : List ℕ → Option Shape) where
   pub unit_zero : {x : List ℕ} (d : Shape) → C x ≡ Some d → zero_size_references d ≡ Some [] → IsZeroSize C x
@@ -20,16 +20,16 @@ module _ (C : List ℕ → Option Shape) where
       let t : None ≡ Some ps = sym n ∙ ap (λ k. zero_size_references k) q ∙ z in
       cc
 
-  pub full_at : {x : List ℕ} (o : Option Shape) → C x ≡ o → IsFull o → IsZeroSize C x → ⊥
-  full_at None e n = absurd n
-  full_at (Some d) e n = full d e n
+  pub never_zero_at : {x : List ℕ} (o : Option Shape) → C x ≡ o → IsNeverZero o → IsZeroSize C x → ⊥
+  never_zero_at None e n = absurd n
+  never_zero_at (Some d) e n = full d e n
 
   -- a struct or tuple with a part that has bytes
-  pub full_part : {x p : List ℕ} (d : Shape) → C x ≡ Some d → IsProduct d → IsIn p (parts_in (Some d)) → (IsZeroSize C p → ⊥) → IsZeroSize C x → ⊥
-  full_part (primitive n) e r a f h = absurd r
-  full_part (sequence w lo hi t) e r a f h = absurd r
-  full_part (choice w vs) e r a f h = absurd r
-  full_part {x} {p} (product qs) e r a f (zeroed k ps g z h) =
+  pub never_zero_part : {x p : List ℕ} (d : Shape) → C x ≡ Some d → IsProduct d → IsIn p (parts_in (Some d)) → (IsZeroSize C p → ⊥) → IsZeroSize C x → ⊥
+  never_zero_part (primitive n) e r a f h = absurd r
+  never_zero_part (sequence w lo hi t) e r a f h = absurd r
+  never_zero_part (choice w vs) e r a f h = absurd r
+  never_zero_part {x} {p} (product qs) e r a f (zeroed k ps g z h) =
       let s : Some (product qs) ≡ Some k = sym e ∙ g in
       let q : product qs ≡ k = cc in
       let t : Some qs ≡ Some ps = ap (λ k. zero_size_references k) q ∙ z in

@@ -1,4 +1,3 @@
-pub mod Sets
 pub mod Names
 pub mod Sizes
 pub mod Zeros

@@ -1,14 +1,9 @@
 -- The names that a root leads to, by their places.
 use Rattle.std.specs.Prelude.{◌≡◌, ◌⊎◌, ℕ, ◌+◌, ◌<◌, ◌≤◌, List, [], length, map, Option, Some, None, option_map, unwrap_or, slice_get, MatchOption, String, Vec}
-use Rattle.std.specs.Global.{Global}
-use Rattle.std.specs.BTreeMap.{BTreeMap, get_by_text}
-use Rattle.std.specs.Coded.{×_prop, Π_prop, le_prop, Coded-set, coded_list, coded_option, coded_ℕ}
-use Rattle.borsh_walks.specs.declared.definition.Definition.{Definition}
-use Rattle.borsh_walks.specs.contracts.definition.Definition.{the_row}
-use Rattle.borsh_walks.specs.Container.{Shape, references}
-use Rattle.borsh_walks.specs.Definitions.{shape_of}
+use Rattle.std.specs.{Global.Global, BTreeMap.BTreeMap, BTreeMap.get_by_text, Coded.×_prop, Coded.Π_prop, Coded.le_prop, Coded.Coded-set, Coded.coded_list, Coded.coded_option, Coded.coded_ℕ}
+use Rattle.borsh_walks.specs.{declared.definition.Definition.Definition, contracts.definition.Definition.the_row, Container.Shape, Container.references, Definitions.shape_of}
+use Rattle.borsh_walks.proofs.Propositions.{coded_name}
 use Rattle.borsh_plan.specs.declared.named.Named.{Named}
-use Rattle.borsh_plan.specs.Sets.{coded_name}
 
 -- the name at a place, if there is one
 abbrev pub name_of : List Named → ℕ → Option (List ℕ)
@@ -18,9 +13,9 @@ abbrev pub name_at : List Named → ℕ → List ℕ
 name_at ns i = unwrap_or (name_of ns i) []
 
 -- the definition of a name that was looked up
-abbrev pub named_definition : Option Named → Option Definition
-named_definition None = None
-named_definition (Some n) = option_map (λ d. d.now) n.definition
+abbrev pub found_definition : Option Named → Option Definition
+found_definition None = None
+found_definition (Some n) = option_map (λ d. d.now) n.definition
 
 abbrev pub named_shape : Option Named → Option Shape
 named_shape None = None
@@ -59,7 +54,7 @@ IsPartOf refs from n = (n.from ≡ from) × (slice_get refs n.index ≡ Some n.n
 pub record IsIndex {A : Type 0} (m : BTreeMap (String A) Definition) (ns : List Named) (T : List ℕ → Option ℕ) : Type 0 where
   pub sound : (x : List ℕ) (i : ℕ) → T x ≡ Some i → name_of ns i ≡ Some x
   pub back : (x : List ℕ) (i : ℕ) → name_of ns i ≡ Some x → T x ≡ Some i
-  pub looked_up : (x : List ℕ) (i : ℕ) → name_of ns i ≡ Some x → get_by_text m x ≡ named_definition (slice_get ns i)
+  pub looked_up : (x : List ℕ) (i : ℕ) → name_of ns i ≡ Some x → get_by_text m x ≡ found_definition (slice_get ns i)
 
 -- each name keeps its place, and at most so many names were added, all of them so
 pub record Grows (Added : Named → Type 0) (most : ℕ) (old new : List Named) : Type 0 where
@@ -78,7 +73,7 @@ IsLed ns i n = (n.from < i) × (slice_get (parts_in (shape_at ns n.from)) n.inde
 pub record IsPlanned {A : Type 0} (m : BTreeMap (String A) Definition) (x0 : List ℕ) (ns : List Named) (ps : List (Vec ℕ Global)) : Type 0 where
   pub first : name_of ns 0 ≡ Some x0
   pub once : (x : List ℕ) (i j : ℕ) → name_of ns i ≡ Some x → name_of ns j ≡ Some x → i ≡ j
-  pub looked_up : (x : List ℕ) (i : ℕ) → name_of ns i ≡ Some x → get_by_text m x ≡ named_definition (slice_get ns i)
+  pub looked_up : (x : List ℕ) (i : ℕ) → name_of ns i ≡ Some x → get_by_text m x ≡ found_definition (slice_get ns i)
   pub parts : (i : ℕ) → AreParts ns (places_in (slice_get ps i)) (parts_in (shape_at ns i))
   pub led : (i : ℕ) (n : Named) → slice_get ns i ≡ Some n → 0 < i → IsLed ns i n
 
@@ -86,7 +81,7 @@ pub record IsPlanned {A : Type 0} (m : BTreeMap (String A) Definition) (x0 : Lis
 pub IsPlanned-prop : {A : Type 0} (m : BTreeMap (String A) Definition) (x0 : List ℕ) (ns : List Named) (ps : List (Vec ℕ Global)) → IsProp (IsPlanned m x0 ns ps)
 IsPlanned-prop m x0 ns ps a b =
     let name_set : (o p : Option (List ℕ)) → IsProp (o ≡ p) = Coded-set (coded_option coded_name) in
-    let looked_up_prop : IsProp ((x : List ℕ) (i : ℕ) → name_of ns i ≡ Some x → get_by_text m x ≡ named_definition (slice_get ns i)) = Π_prop λ x. Π_prop λ i. Π_prop λ _. Coded-set (coded_option the_row.coded) _ _ in
+    let looked_up_prop : IsProp ((x : List ℕ) (i : ℕ) → name_of ns i ≡ Some x → get_by_text m x ≡ found_definition (slice_get ns i)) = Π_prop λ x. Π_prop λ i. Π_prop λ _. Coded-set (coded_option the_row.coded) _ _ in
     let once_prop : IsProp ((x : List ℕ) (i j : ℕ) → name_of ns i ≡ Some x → name_of ns j ≡ Some x → i ≡ j) = Π_prop λ x. Π_prop λ i. Π_prop λ j. Π_prop λ _. Π_prop λ _. Coded-set coded_ℕ _ _ in
     let parts_prop : IsProp ((i : ℕ) → AreParts ns (places_in (slice_get ps i)) (parts_in (shape_at ns i))) = Π_prop λ i. Coded-set (coded_list (coded_option coded_name)) _ _ in
     let led_prop : IsProp ((i : ℕ) (n : Named) → slice_get ns i ≡ Some n → 0 < i → IsLed ns i n) = Π_prop λ i. Π_prop λ n. Π_prop λ _. Π_prop λ _. ×_prop le_prop (name_set _ _) in

@@ -1,15 +1,8 @@
 -- What a plan is of. No other file names its private fields.
 use Rattle.std.specs.Prelude.{◌≡◌, ◌<◌, ℕ, Bool, List, length, Option, String, Vec}
-use Rattle.std.specs.Global.{Global}
-use Rattle.std.specs.BTreeMap.{BTreeMap}
-use Rattle.borsh_walks.specs.declared.definition.Definition.{Definition}
-use Rattle.borsh_walks.specs.Container.{Shape}
-use Rattle.borsh_walks.specs.Definitions.{definitions_in}
-use Rattle.borsh_plan.specs.declared.named.Named.{Named}
-use Rattle.borsh_plan.specs.declared.plan.Plan.{Plan}
-use Rattle.borsh_plan.specs.Names.{IsPlanned, name_at}
-use Rattle.borsh_plan.specs.Sizes.{known_size}
-use Rattle.borsh_plan.specs.Zeros.{ZeroAt}
+use Rattle.std.specs.{Global.Global, BTreeMap.BTreeMap}
+use Rattle.borsh_walks.specs.{declared.definition.Definition.Definition, Container.Shape, Definitions.definitions_in}
+use Rattle.borsh_plan.specs.{declared.named.Named.Named, declared.plan.Plan.Plan, Names.IsPlanned, Names.name_at, Sizes.known_size, Zeros.ZeroAt}
 
 -- the root, and the definitions that are looked up
 abbrev pub root_of : Plan → List ℕ

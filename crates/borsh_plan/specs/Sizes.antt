@@ -2,8 +2,7 @@
 use Rattle.std.specs.Prelude.{◌≡◌, ℕ, suc, zero, ◌*◌, ◌^◌, ◌<◌, Bool, true, false, cond, eqb, ltb, List, [], ◌∷◌, map, length, get_or, Option, Some}
 use Rattle.std.specs.Coded.{Π_prop, Coded-set, coded_ℕ}
 use Rattle.borsh_walks.specs.Container.{Shape, primitive, sequence, product, sum_of}
-use Rattle.borsh_plan.specs.declared.named.Named.{Named}
-use Rattle.borsh_plan.specs.Names.{name_at, shape_at}
+use Rattle.borsh_plan.specs.{declared.named.Named.Named, Names.name_at, Names.shape_at}
 
 -- the number, if it has at most 64 bits; else 0
 abbrev pub fitting : ℕ → ℕ

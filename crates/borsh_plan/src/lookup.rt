@@ -1,5 +1,5 @@
 // What a plan says of a place.
-ghost use Rattle.borsh_plan.specs.Names.{AreParts, IsPlaceOf, name_at, named_definition, parts_in, shape_at};
+ghost use Rattle.borsh_plan.specs.Names.{AreParts, IsPlaceOf, name_at, found_definition, parts_in, shape_at};
 ghost use Rattle.borsh_plan.specs.Plan.{IsPlanOf, IsZeroAt, SizeAt, map_of, names_of, root_of};
 ghost use Rattle.borsh_walks.specs.Definitions.{shape_of};
 ghost use Rattle.std.specs.Prelude.{IfOk, OnSome, ◌<◌, ◌≡◌, length, option_map, slice_get};
@@ -67,7 +67,7 @@ impl<'a> Plan<'a> {
     pub fn definition(&self, at: usize) -> Option<&'a Definition>
         ensures shape { option_map (λ d. shape_of d.now) result ≡ shape_at (names_of self.now) at }
         ensures definition { let named = slice_get (names_of self.now) at in
-            option_map (λ d. d.now) result ≡ named_definition named }
+            option_map (λ d. d.now) result ≡ found_definition named }
     {
         self.names.definition(at)
     }

@@ -1,5 +1,5 @@
 // The names that a root leads to, by their places.
-ghost use Rattle.borsh_plan.specs.Names.{AreParts, Grows, IsAdded, IsIndex, IsPartOf, IsPlaceOf, IsPlanned, IsPlanned-prop, name_at, name_of, named_definition, parts_in, places_in, shape_at};
+ghost use Rattle.borsh_plan.specs.Names.{AreParts, Grows, IsAdded, IsIndex, IsPartOf, IsPlaceOf, IsPlanned, IsPlanned-prop, name_at, name_of, found_definition, parts_in, places_in, shape_at};
 ghost use Rattle.borsh_walks.specs.Container.{references};
 ghost use Rattle.borsh_walks.specs.Definitions.{shape_of};
 ghost use Rattle.borsh_walks.specs.Tables.{mark_of};
@@ -171,7 +171,7 @@ impl<'a> Names<'a> {
     pub fn definition(&self, at: usize) -> Option<&'a Definition>
         ensures shape { option_map (λ d. shape_of d.now) result ≡ shape_at self.now.names.items at }
         ensures definition { let named = slice_get self.now.names.items at in
-            option_map (λ d. d.now) result ≡ named_definition named }
+            option_map (λ d. d.now) result ≡ found_definition named }
     {
         named_at(&self.names, at)?.definition
     }

@@ -1,6 +1,6 @@
 // Names whose values have no bytes.
 ghost use Rattle.borsh_plan.specs.Names.{shape_at};
-ghost use Rattle.borsh_plan.specs.Zeros.{AreZeros, HasFullPart, IsFull, IsProduct, ZeroAt};
+ghost use Rattle.borsh_plan.specs.Zeros.{AreZeros, HasNeverZeroPart, IsNeverZero, IsProduct, ZeroAt};
 ghost use Rattle.borsh_walks.specs.Container.{zero_size_references};
 ghost use Rattle.borsh_walks.specs.Definitions.{definitions_in, shape_of};
 ghost use Rattle.borsh_walks.specs.ZeroAnswer.{ZeroTable};
@@ -33,8 +33,8 @@ fn is_product(definition: &Definition) -> bool
 }
 
 // Whether the definition of the name at a place says without its parts that values have bytes.
-fn is_full_at(names: &Names<'_>, at: usize) -> bool
-    ensures { result ≡ true → IsFull (shape_at names.now.names.items at) }
+fn is_never_zero_at(names: &Names<'_>, at: usize) -> bool
+    ensures { result ≡ true → IsNeverZero (shape_at names.now.names.items at) }
 {
     match names.definition(at) {
         Some(definition) => never_zero(definition),
@@ -43,12 +43,12 @@ fn is_full_at(names: &Names<'_>, at: usize) -> bool
 }
 
 // Whether a part of the definition at a place says so.
-fn has_full_part(names: &Names<'_>, at: usize) -> bool
-    ensures { result ≡ true → HasFullPart names.now.names.items at }
+fn has_never_zero_part(names: &Names<'_>, at: usize) -> bool
+    ensures { result ≡ true → HasNeverZeroPart names.now.names.items at }
 {
     let mut index: usize = 0;
     while let Some(part) = names.part(at, index) {
-        if is_full_at(names, part) {
+        if is_never_zero_at(names, part) {
             return true;
         }
         index += 1;
@@ -77,7 +77,7 @@ fn find_zero<'a>(
     if is_unit(definition) {
         return Ok(true);
     }
-    if is_product(definition) && has_full_part(names, at) {
+    if is_product(definition) && has_never_zero_part(names, at) {
         return Ok(false);
     }
     let mut counts = Expansions::NONE;

@@ -1,17 +1,15 @@
 -- The variants of an enum with what describes them, as the data of an implementation.
-use Rattle.std.proofs.Common.{◌≡◌, ℕ, ℤ, pos, nat_lt, true, List, [], ◌∷◌, Option, Some, ◌∙◌, ap, inl}
+use Rattle.std.proofs.Common.{◌≡◌, ℕ, ℤ, pos, nat_lt, true, List, [], ◌∷◌, Option, Some, ◌∙◌, ap}
 use Rattle.std.specs.Prelude.{map}
 use Rattle.borsh_codec.specs.Codec.{Codec}
-use Rattle.borsh_codec.specs.Shapes.{contramap}
-use Rattle.borsh_codec.specs.Variants.{case_codec}
-use Rattle.borsh_enums.specs.Cases.{fork}
+use Rattle.borsh_codec.specs.Shapes.{contramap, behind_tag}
+use Rattle.borsh_enums.specs.Cases.{fork, fork_view}
 use Rattle.borsh_enums.specs.declared.cases.Fork.{Fork}
-use Rattle.borsh_enums.specs.declared.cases.Fork.TheVariants.{Left, Right}
 use Rattle.borsh_enums.specs.declared.cases.TagOf.{TagOf}
 use Rattle.borsh_walks.specs.Container.{Shape, product, choice, IsListedVariant, first_variant, later_variant}
 use Rattle.borsh_definitions.specs.Described.{NamedDefinition, shape, variants, DefinitionTree, defined, both}
-use Rattle.borsh_definitions.specs.Language.{Holds, Describes, DescribesChoice, IsVariant, DescribedCodec, DescribedFields}
-use Rattle.borsh_definitions.proofs.Laws.Members.{describes_contramap, describes_parts, describes_choice, choice_more, choice_none}
+use Rattle.borsh_definitions.specs.Language.{Holds, Describes, DescribesChoice, DescribedCodec, DescribedFields}
+use Rattle.borsh_definitions.proofs.Laws.Members.{describes_contramap, describes_parts, describes_choice, choice_tag, choice_either}
 
 -- a variant as a definition lists it: its tag, its name and the name of its type
 abbrev Row : Type 0
@@ -31,14 +29,6 @@ module _ {C : List ℕ → Option Shape} where
     one = λ a x e. (let v = d.one a x e in record { discriminant = v.discriminant; variant = v.variant; part = v.part; listed = f v.discriminant v.variant v.listed; whole = v.whole; member = v.member });
   }
 
-  module _ {A B : Type 0} {a : Codec A} {b : Codec B} {vs : List (ℤ × List ℕ)} (d : DescribesChoice A C a 1 vs) (e : DescribesChoice B C b 1 vs) where
-    fork_one : (v : Fork A B) (x : List ℕ) → (fork a b).encoding v ≡ Some x → IsVariant C 1 vs x
-    fork_one (Left v) x h = d.one v x h
-    fork_one (Right v) x h = e.one v x h
-
-    pub choice_fork : DescribesChoice (Fork A B) C (fork a b) 1 vs
-    choice_fork = record { one = fork_one }
-
 -- the first variants of a list, up to those in ws, with what describes them in one container
 pub record CasesIn {A : Type 0} (C : List ℕ → Option Shape) (c : Codec A) (vs ws : List (ℤ × List ℕ)) : Type 0 where
   pub choice : DescribesChoice A C c 1 vs
@@ -46,16 +36,16 @@ pub record CasesIn {A : Type 0} (C : List ℕ → Option Shape) (c : Codec A) (v
 
 -- a variant: its fields behind a tag
 abbrev pub case_in : {C : List ℕ → Option Shape} {A : Type 0} {k : ℕ} {n : List ℕ} {vs : List (ℤ × List ℕ)} {c : Codec A} → nat_lt k 256 ≡ true → Describes A C c n
-    → CasesIn {A = TagOf k × A} C (case_codec (λ v. v.1) k c) ((pos k, n) ∷ vs) vs
+    → CasesIn {A = TagOf k × A} C (contramap (λ v. v.1) (behind_tag k c)) ((pos k, n) ∷ vs) vs
 case_in t d = record {
-  choice = choice_contramap (λ v. inl v.1) (choice_more first_variant t d choice_none);
+  choice = choice_contramap (λ v. v.1) (choice_tag first_variant t d);
   behind = λ j p l. later_variant l;
 }
 
 -- some variants, and then others
 abbrev pub fork_in : {C : List ℕ → Option Shape} {A B : Type 0} {us vs ws : List (ℤ × List ℕ)} {a : Codec A} {b : Codec B} → CasesIn C a us vs → CasesIn C b vs ws → CasesIn C (fork a b) us ws
 fork_in d e = record {
-  choice = choice_fork d.choice (choice_among d.behind e.choice);
+  choice = choice_contramap fork_view (choice_either d.choice (choice_among d.behind e.choice));
   behind = λ j p l. d.behind j p (e.behind j p l);
 }
 
@@ -72,7 +62,7 @@ pub record DescribedCases (A : Type 0) (vs ws : List Row) (ps : DefinitionTree) 
 abbrev pub case_described : {A B : Type 0} {k : ℕ} {name n : List ℕ} {d : NamedDefinition} {vs : List Row} (view : B → A) (fields : DescribedFields A) → shape d ≡ product fields.names → nat_lt k 256 ≡ true
     → DescribedCases (TagOf k × B) ((pos k, name, n) ∷ vs) vs (defined n d fields.parts)
 case_described {k = k} view fields e t = record {
-  codec = case_codec (λ v. v.1) k (contramap view fields.codec);
+  codec = contramap (λ v. v.1) (behind_tag k (contramap view fields.codec));
   cases = λ C h. case_in t (describes_contramap view (describes_parts (h.0 ∙ ap Some e) (fields.describes C h.1)));
 }
 

@@ -1,15 +1,15 @@
 -- What a call returns that checks a container's rules or computes its size, and what it counts.
-use Rattle.std.specs.Prelude.{◌≡◌, ℕ, ◌≤◌, ◌↔◌, List, length, Option, Some, MatchResult, OnOk, Result}
+use Rattle.std.specs.Prelude.{◌≡◌, ℕ, List, length, Option, MatchResult, OnOk, Result}
 use Rattle.std.specs.BTreeMap.{btree_map_len}
 use Rattle.borsh_walks.specs.declared.counted.Expansions.{Expansions}
-use Rattle.borsh_walks.specs.declared.counted.Question.TheVariants.{Size, Zero, Rules}
+use Rattle.borsh_walks.specs.declared.counted.Question.TheVariants.{Size}
 use Rattle.borsh_walks.specs.declared.error.SchemaContainerValidateError.{SchemaContainerValidateError}
 use Rattle.borsh_walks.specs.declared.error.SchemaMaxSerializedSizeError.{SchemaMaxSerializedSizeError}
-use Rattle.borsh_walks.specs.Container.{Shape, IsIn, IsValid, Reached}
-use Rattle.borsh_walks.specs.Counts.{add_to}
-use Rattle.borsh_walks.specs.RulesAnswer.{RulesFault, AcceptsIfValid, checked_element}
-use Rattle.borsh_walks.specs.RulesState.{RulesWork}
-use Rattle.borsh_walks.specs.SizeAnswer.{Distinct, AreSizeReached, CountsNeeded}
+use Rattle.borsh_walks.specs.Container.{Shape, IsValid}
+use Rattle.borsh_walks.specs.Counts.{SizeWork, add_to}
+use Rattle.borsh_walks.specs.RulesAnswer.{RulesFault, AcceptsIfValid}
+use Rattle.borsh_walks.specs.RulesState.{JudgedCounts, RulesWork}
+use Rattle.borsh_walks.specs.SizeAnswer.{AreSizeReached, CountsNeeded}
 use Rattle.borsh_walks.specs.SizeOutcome.{AnswersSize}
 use Rattle.borsh_schema.specs.declared.container.BorshSchemaContainer.{BorshSchemaContainer}
 use Rattle.borsh_schema.specs.Containers.{map_of, language_of, root_of}
@@ -17,19 +17,9 @@ use Rattle.borsh_schema.specs.Containers.{map_of, language_of, root_of}
 -- ---- what is counted
 
 module _ (C : List ℕ → Option Shape) (root : List ℕ) where
-  -- `rules` rose by the number of reached names, and `zero` by at least the number of elements that are checked
-  abbrev pub JudgedCounts : Expansions → Expansions → Type 0
-  JudgedCounts old new = (xs : List (List ℕ)) × (zs : List (List ℕ)) × Distinct xs × Distinct zs × ((x : List ℕ) → IsIn x xs ↔ Reached C root x)
-      × ((x : List ℕ) (d : Shape) (e : List ℕ) → Reached C root x → C x ≡ Some d → checked_element d ≡ Some e → IsIn e zs)
-      × (new ≡ add_to Rules (length xs) (add_to Zero (length zs) old))
-
   -- `size` rose by the number of needed names
   abbrev pub SizedCounts : Expansions → Expansions → Type 0
   SizedCounts old new = (xs : List (List ℕ)) × AreSizeReached C root xs × (new ≡ add_to Size (length xs) old)
-
--- `size` rose by at most that many, and the others stay
-abbrev pub SizeWork : ℕ → Expansions → Expansions → Type 0
-SizeWork most old new = (k : ℕ) × (k ≤ most) × (new ≡ add_to Size k old)
 
 -- ---- results
 

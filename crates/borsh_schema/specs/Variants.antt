@@ -1,26 +1,23 @@
 -- What an enum brings: its own definition, and one for the fields of each variant.
-use Rattle.std.specs.Prelude.{ℕ, ℤ, pos, List, [], ◌∷◌, ◌++◌, map, codes}
+use Rattle.std.specs.Prelude.{ℕ, ℤ, pos, List, [], ◌∷◌, ◌++◌, map}
 use Rattle.std.specs.Borrow.{Bor}
 use Rattle.borsh_definitions.specs.Described.{NamedDefinition, variants, named, unnamed, no_fields, DefinitionTree, none, defined, both}
-use Rattle.borsh_definitions.specs.Names.{texts, beside, following}
+use Rattle.borsh_definitions.specs.Names.{texts, beside}
+pub use Rattle.borsh_definitions.specs.Names.{name_with, variant_type}
 
 -- a variant: its name, and the names of its fields
 abbrev pub VariantNames : Type 0
 VariantNames = List ℕ × List (List ℕ)
 
 -- what each row of a list of names refers to
-abbrev pub variant_names : List (Bor (List ℕ) × Bor (List (Bor (List ℕ)))) → List VariantNames
-variant_names rows = map (λ r. (r.0.now, texts r.1.now)) rows
+abbrev pub row_names : List (Bor (List ℕ) × Bor (List (Bor (List ℕ)))) → List VariantNames
+row_names rows = map (λ r. (r.0.now, texts r.1.now)) rows
 
 -- fields of these names and types; those without names are unnamed
 abbrev pub variant_fields : List (List ℕ) → List (List ℕ) → NamedDefinition
 variant_fields [] [] = no_fields
 variant_fields [] (t ∷ ts) = unnamed (t ∷ ts)
 variant_fields (f ∷ fs) ts = named (beside (f ∷ fs) ts)
-
--- the name of the definition of a variant's fields
-abbrev pub variant_type : List ℕ → List ℕ → List ℕ
-variant_type enum variant = enum ++ (codes "__" ++ variant)
 
 -- what variants bring
 pub record VariantsRead : Type 0 where
@@ -34,10 +31,6 @@ pub record VariantsRead : Type 0 where
 -- what variants bring, once the enum and they have names
 abbrev pub ReadsVariants : Type 0
 ReadsVariants = List ℕ → List VariantNames → VariantsRead
-
--- the name of a type with the names of its parameters
-abbrev pub name_with : List ℕ → List ℕ → List (List ℕ) → List ℕ
-name_with name first others = name ++ (codes "<" ++ (first ++ (following others ++ codes ">")))
 
 -- one variant, whose fields have these types; `whole` makes its definition's name of the variant's
 abbrev pub read_case_as : (List ℕ → List ℕ) → ℕ → List (List ℕ) → DefinitionTree → ReadsVariants

@@ -5,7 +5,7 @@ ghost use Rattle.borsh_schema.specs.declared.definitions.SchemaBuildError.TheVar
 ghost use Rattle.borsh_definitions.specs.Described.{defined, named_fields, variant_bytes};
 ghost use Rattle.borsh_schema.specs.Joined.{AddsDefinitions};
 ghost use Rattle.borsh_definitions.specs.Names.{texts};
-ghost use Rattle.borsh_schema.specs.Variants.{ReadsVariants, enum_definitions, enum_definitions_as, name_with, read_case, read_case_with, read_fork, variant_fields, variant_names, variant_type};
+ghost use Rattle.borsh_schema.specs.Variants.{ReadsVariants, enum_definitions, enum_definitions_as, name_with, read_case, read_case_with, read_fork, variant_fields, row_names, variant_type};
 
 use super::definitions::{DefinitionMap, SchemaResult, add_definition};
 use super::fields::FieldTypes;
@@ -32,9 +32,9 @@ pub trait VariantTypes {
     ) -> SchemaResult<()>
         ensures rows { OnOk result (map variant_bytes list.new.items
             ≡ map variant_bytes list.old.items
-            ++ (read name.now (variant_names (iter_rest names.old))).rows) }
-        ensures rest { OnOk result (variant_names (iter_rest names.new)
-            ≡ (read name.now (variant_names (iter_rest names.old))).rest) }
+            ++ (read name.now (row_names (iter_rest names.old))).rows) }
+        ensures rest { OnOk result (row_names (iter_rest names.new)
+            ≡ (read name.now (row_names (iter_rest names.old))).rest) }
         ensures err { IfErr result (λ e. e ≡ OutOfMemory) };
 
     /// Adds the definition of each variant's fields, under the name of the enum, two underscores and the
@@ -48,9 +48,9 @@ pub trait VariantTypes {
         definitions: &mut DefinitionMap,
     ) -> SchemaResult<()>
         ensures outcome { AddsDefinitions definitions.old definitions.new
-            (read name.now (variant_names (iter_rest names.old))).parts result }
-        ensures rest { OnOk result (variant_names (iter_rest names.new)
-            ≡ (read name.now (variant_names (iter_rest names.old))).rest) };
+            (read name.now (row_names (iter_rest names.old))).parts result }
+        ensures rest { OnOk result (row_names (iter_rest names.new)
+            ≡ (read name.now (row_names (iter_rest names.old))).rest) };
 }
 
 impl<const TAG: u8, P: FieldTypes> VariantTypes for Case<TAG, P> {
@@ -238,7 +238,7 @@ fn add_enum_as<V: VariantTypes>(
 ) -> SchemaResult<()>
     ensures { AddsDefinitions definitions.old definitions.new
         (enum_definitions_as (string_bytes declaration) name.now
-        (variant_names names.now) V.read) result }
+        (row_names names.now) V.read) result }
 {
     let mut variants = Vec::with_capacity(alloc, names.len())?;
     V::push_variants(alloc, name, &mut names.iter(), &mut variants)?;
@@ -266,7 +266,7 @@ pub fn add_enum<V: VariantTypes>(
     definitions: &mut DefinitionMap,
 ) -> SchemaResult<()>
     ensures { AddsDefinitions definitions.old definitions.new
-        (enum_definitions name.now (variant_names names.now) V.read) result }
+        (enum_definitions name.now (row_names names.now) V.read) result }
 {
     let declaration = declared(alloc, name)?;
     add_enum_as::<V>(alloc, declaration, name, names, definitions)
@@ -287,7 +287,7 @@ pub fn add_enum_with<T: BorshSchema, R: FieldTypes, V: VariantTypes>(
 ) -> SchemaResult<()>
     ensures { AddsDefinitions definitions.old definitions.new
         (enum_definitions_as (name_with name.now T.name R.described.names) name.now
-        (variant_names names.now) V.read) result }
+        (row_names names.now) V.read) result }
 {
     let declaration = declared_with::<T, R>(alloc, name)?;
     add_enum_as::<V>(alloc, declaration, name, names, definitions)

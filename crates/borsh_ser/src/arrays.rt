@@ -7,12 +7,13 @@ use borsh_io::{Result, Write};
 use std::alloc::Global;
 
 impl<T: BorshSerialize, const N: usize> BorshSerialize for [T; N] {
-    #[inline]
+    // Called for a field, its `Result` would be copied through memory.
+    #[inline(always)]
     fn serialize<W: Write>(&self, alloc: Global, writer: &mut W) -> Result<()> {
         write_elements(self, alloc, writer)
     }
 
-    #[inline]
+    #[inline(always)]
     fn put(&self, room: &mut [u8]) -> Option<usize> {
         put_elements(self, room)
     }

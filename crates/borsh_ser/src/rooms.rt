@@ -1,7 +1,7 @@
 // Elements that share a room, a buffer on the stack, which is written at once: one write for many elements. The room is cleared
-// first, which pays from some elements on; so at least that many elements share it, if there are so many, and no more than take
-// it where each has 32 bytes: LLVM then knows that elements of up to 32 bytes fit, and tests no room for them. Once an empty room
-// doesn't take an element, as a long one or one of a type without `put`, no later one is asked.
+// first, so many elements share a large one, and a few a small one. No more share a large one than take it where each has 32 bytes:
+// LLVM then knows that elements of up to 32 bytes fit, and tests no room for them. Once an empty room doesn't take an element, as a
+// long one or one of a type without `put`, no later one is asked.
 ghost use Rattle.std.specs.Iterator.{AlwaysYields, IsFinite};
 ghost use Rattle.std.specs.Prelude.{List, Option, Some, false, ℕ};
 ghost use Rattle.borsh_codec.specs.Shapes.{concat_encodings};
@@ -14,28 +14,31 @@ use super::serialize::BorshSerialize;
 use borsh_io::{Result, Write};
 use std::alloc::Global;
 
-/// How many elements share a room; fewer are written one by one.
+/// How many elements share a large room; fewer share a small one.
 pub(crate) const SHARED: usize = 32;
 
-/// How many bytes a room has.
-const ROOM: usize = 1024;
+/// How many bytes a large room has.
+pub(crate) const LARGE: usize = 1024;
+
+/// How many bytes a small room has.
+pub(crate) const SMALL: usize = 256;
 
 /// Writes the elements one after another: through the room as long as `put` returns `Some`, and from
 /// the first one on that an empty room doesn't take with `serialize`. The errors are those of `write_elements`.
 #[inline(always)]
 pub(crate) fn write_by_room<T: BorshSerialize, W: Write>(
     items: &[T],
+    room: &mut [u8],
     alloc: Global,
     writer: &mut W,
 ) -> Result<()>
     ensures { WritesEncoding W.writing writer.old writer.new T.codec.encoding_allocates false
         (concat_encodings T.codec.encoding items.now) result }
 {
-    let mut room = [0u8; ROOM];
     let mut next = 0;
     while next < items.len() {
         let end = next + (items.len() - next).min(SHARED);
-        let (count, filled) = put_front(&items[next..end], &mut room);
+        let (count, filled) = put_front(&items[next..end], room);
         if count == 0 {
             return write_one_by_one(&items[next..], alloc, writer);
         }
@@ -65,7 +68,7 @@ where
         → WritesEncoding W.writing writer.old writer.new I.Item.codec.encoding_allocates false
         (concat_encodings (λ e. e) es) result }
 {
-    let mut room = [0u8; ROOM];
+    let mut room = [0u8; LARGE];
     let mut filled = 0;
     let mut shares = true;
     while let Some(item) = items.next() {

@@ -11,7 +11,7 @@ use Rattle.borsh_source.specs.Lists.{IsListed, AreListed}
 use Rattle.borsh_source.specs.Views.{Stands, Used}
 use Rattle.borsh_source.specs.Forms.{Entry}
 use Rattle.borsh_source.specs.Meaning.{Means, Defines}
-use Rattle.borsh_source.specs.Container.{Brought, IsMeaning, IsDefined, IsBrought, Leads, at_once, through, by_root, by_item}
+use Rattle.borsh_source.specs.Container.{Brought, IsMeaning, IsPresent, IsBrought, Leads, at_once, through, by_root, by_item}
 use Rattle.borsh_source.proofs.Lists.{listed_at, index_of}
 use Rattle.borsh_source.proofs.Steps.{still_noted}
 use Rattle.borsh_source.specs.declared.tree.Source.{Source}
@@ -25,7 +25,7 @@ pub record Collected (S : Source) (root : ℕ) (name : List ℕ) (D : Definition
   pub there : (n : List ℕ) (d : NamedDefinition) → IsListed (n, d) entries → D n ≡ Some d
   pub used : AreListed uses all
   pub led : (u : Used) → IsListed u all → Leads S root u
-  pub defined : (i : ℕ) (u : Used) → slice_get all i ≡ Some u → i < next → IsDefined S D all u
+  pub defined : (i : ℕ) (u : Used) → slice_get all i ≡ Some u → i < next → IsPresent S D all u
   pub only : (n : List ℕ) (d : NamedDefinition) → D n ≡ Some d → IsBrought S root (n, d)
 
 pub collected_first : (S : Source) (root : ℕ) (name : List ℕ) {d e : DefinitionMap} {u v : List Used} → ((n : List ℕ) → d n ≡ None) → u ≡ [] → Brought (Means S [] [] root name) d e u v → Collected S root name e v 0
@@ -61,7 +61,7 @@ at_or_before (suc i) zero h = absurd (omega arith)
 at_or_before (suc i) (suc n) h = elim (at_or_before i n (omega arith)) [ inl a ↦ inl (omega (arith, a)) | inr b ↦ inr (ap suc b) ]
 
 module _ {S : Source} {root : ℕ} {name : List ℕ} {d e : DefinitionMap} {all more : List Used} {next : ℕ} (w : Used) (c : Collected S root name d all next) (at : slice_get all next ≡ Some w) (p : Brought (Defines S w) d e all more) where
-  still_defined : (u : Used) → IsDefined S d all u → IsDefined S e more u
+  still_defined : (u : Used) → IsPresent S d all u → IsPresent S e more u
   still_defined u k = record {
     entries = k.entries;
     uses = k.uses;
@@ -70,22 +70,22 @@ module _ {S : Source} {root : ℕ} {name : List ℕ} {d e : DefinitionMap} {all 
     used = λ x h. still_noted p.notes x (k.used x h);
   }
 
-  defined_now : IsDefined S e more w
+  defined_now : IsPresent S e more w
   defined_now = record { entries = p.entries; uses = p.uses; defines = p.meant; there = p.adds.has; used = p.notes.has }
 
-  defined_before : (i : ℕ) (u : Used) → slice_get more i ≡ Some u → i < next → IsDefined S e more u
+  defined_before : (i : ℕ) (u : Used) → slice_get more i ≡ Some u → i < next → IsPresent S e more u
   defined_before i u h l =
       let y = found_before all i next w at l in
       let k = p.notes.keeps i y.0 y.1 in
       let q : y.0 ≡ u = cc in
-      subst (λ z. IsDefined S e more z) q (still_defined y.0 (c.defined i y.0 y.1 l))
+      subst (λ z. IsPresent S e more z) q (still_defined y.0 (c.defined i y.0 y.1 l))
 
-  defined_at : (i : ℕ) (u : Used) → slice_get more i ≡ Some u → i ≡ next → IsDefined S e more u
+  defined_at : (i : ℕ) (u : Used) → slice_get more i ≡ Some u → i ≡ next → IsPresent S e more u
   defined_at i u h l =
       let k = p.notes.keeps next w at in
       let g = subst (λ j. slice_get more j ≡ Some u) l h in
       let q : w ≡ u = cc in
-      subst (λ z. IsDefined S e more z) q defined_now
+      subst (λ z. IsPresent S e more z) q defined_now
 
   pub collected_more : Collected S root name e more (next + 1)
   collected_more = record {

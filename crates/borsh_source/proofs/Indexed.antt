@@ -1,35 +1,21 @@
 -- Items by their names.
 use Rattle.std.proofs.Common.{◌≡◌, ℕ, suc, zero, ◌+◌, ◌<◌, List, [], ◌∷◌, length, Some, None, sym, ◌∙◌, ap, refl, subst, arith, inl, inr, ◌⊎◌, true≢false}
-use Rattle.std.specs.Prelude.{slice_get, string_bytes, Option, MatchOption, is_some, Bool, true, false, cond, bytes_eq}
+use Rattle.std.specs.Prelude.{slice_get, string_bytes, Option, MatchOption, is_some, true, false, bytes_eq}
 use Rattle.borsh_walks.proofs.Names.{name_cases}
 use Rattle.std.specs.Borrow.{Bor}
 use Rattle.std.specs.HashMap.{HashMap, UpdatesBy}
 use Rattle.std.proofs.lemmas.Map.Text.{hash_map_updates_str}
-use Rattle.std.proofs.lemmas.Slice.Eq.{bytes_eq-Decides}
-use Rattle.borsh_walks.proofs.Tables.{Updated, still}
-use Rattle.borsh_source.specs.Views.{IsIndexed, IsItem, mark_of}
+use Rattle.borsh_walks.proofs.Tables.{Updated, still, updated_as}
+use Rattle.borsh_source.specs.Views.{IsIndexed, IsItem, index_of}
 use Rattle.borsh_source.specs.declared.context.Context.{Context}
 use Rattle.borsh_source.specs.declared.tree.Item.{Item}
 
 -- a name is marked, and no other changes
-pub updated_by : {H : Type 0} (p : List ℕ) (m n : HashMap (Bor (List ℕ)) (Option ℕ) H) (k : Option ℕ) → UpdatesBy (λ x y. bytes_eq x.now y.now) (λ q. bytes_eq p q.now) m n (Some k) → Updated (mark_of m) (mark_of n) p k
-updated_by p m n k u =
-    let all = hash_map_updates_str p m n (Some k) u in
-    record {
-      here = all p ∙ cond_at _ (bytes_eq p p) ((bytes_eq-Decides p p).1 refl);
-      others = λ x f. all x ∙ cond_off _ (bytes_eq p x) (λ e. f (sym ((bytes_eq-Decides p x).0 e)));
-    }
-  where
-    cond_at : {X : Type 0} {a : X} (b : X) (t : Bool) → t ≡ true → cond t a b ≡ a
-    cond_at b true e = refl
-    cond_at b false e = cc
-
-    cond_off : {X : Type 0} (a : X) {b : X} (t : Bool) → (t ≡ true → ⊥) → cond t a b ≡ b
-    cond_off a true f = absurd (f refl)
-    cond_off a false f = refl
+pub updated_by : {H : Type 0} (p : List ℕ) (m n : HashMap (Bor (List ℕ)) (Option ℕ) H) (k : Option ℕ) → UpdatesBy (λ x y. bytes_eq x.now y.now) (λ q. bytes_eq p q.now) m n (Some k) → Updated (index_of m) (index_of n) p k
+updated_by p m n k u = updated_as p (hash_map_updates_str p m n (Some k) u)
 
 -- what the index leads to has the name
-pub indexed_at : (C : Context) (x : List ℕ) (i : ℕ) (item : Item) → IsIndexed C → mark_of C.index x ≡ Some (Some i) → slice_get C.source.now.items.items i ≡ Some item → IsItem C.source.now x i item
+pub indexed_at : (C : Context) (x : List ℕ) (i : ℕ) (item : Item) → IsIndexed C → index_of C.index x ≡ Some (Some i) → slice_get C.source.now.items.items i ≡ Some item → IsItem C.source.now x i item
 indexed_at C x i item r e h =
     let s = r.sound x i e in
     let a = s.1.named.at in
@@ -44,7 +30,7 @@ some_or_none {o = None} e h = no_some (sym e)
 some_or_none {o = Some y} e h = true≢false (ap is_some h)
 
 -- what the index leads to is there
-pub not_nowhere : (C : Context) (x : List ℕ) (i : ℕ) → IsIndexed C → mark_of C.index x ≡ Some (Some i) → slice_get C.source.now.items.items i ≡ None → ⊥
+pub not_nowhere : (C : Context) (x : List ℕ) (i : ℕ) → IsIndexed C → index_of C.index x ≡ Some (Some i) → slice_get C.source.now.items.items i ≡ None → ⊥
 not_nowhere C x i r e h = let s = r.sound x i e in some_or_none s.1.named.at h
 
 -- the items before an index have their marks, by which they are found that have a name of their own
@@ -113,8 +99,8 @@ within [] i x e = cc
 within (y ∷ xs) zero x e = omega arith
 within (y ∷ xs) (suc i) x e = let r = within xs i x e in omega (arith, r)
 
-pub indexed_all : (C : Context) → Indexing C.source.now.items.items (length C.source.now.items.items) (mark_of C.index) → IsIndexed C
+pub indexed_all : (C : Context) → Indexing C.source.now.items.items (length C.source.now.items.items) (index_of C.index) → IsIndexed C
 indexed_all C r = record {
   sound = λ x i e. let s = r.sound x i e in (s.0, record { named = record { at = s.1; name = s.2 }; only = λ j other h m. s.3 j other (within C.source.now.items.items j other h) h m });
-  complete = λ x e i item h. r.complete i item (within C.source.now.items.items i item h.at) h.at (ap (mark_of C.index) h.name ∙ e);
+  complete = λ x e i item h. r.complete i item (within C.source.now.items.items i item h.at) h.at (ap (index_of C.index) h.name ∙ e);
 }

@@ -6,7 +6,7 @@ pub mod Appending
 pub mod Indexed
 pub mod Naming
 pub mod Collected
-pub mod Kept
+pub mod FieldLists
 pub mod Results
 pub mod Names
 pub mod Defining

@@ -7,7 +7,7 @@ use Rattle.borsh_definitions.specs.Described.{DefinitionMap}
 use Rattle.borsh_source.specs.Views.{Stands, named, stands, Used, given_of, IsItem}
 use Rattle.borsh_source.specs.Numbers.{Evaluates}
 use Rattle.borsh_source.specs.Forms.{Entry, form}
-use Rattle.borsh_source.specs.Meaning.{HasForm, Means, MeansAll, ItemMeans, Gives, GivesOne, of_parameter, of_format, of_alias, of_item, of_own, IsOwn, name_with, means_more, gives_more}
+use Rattle.borsh_source.specs.Meaning.{IsFormatType, Means, MeansAll, ItemMeans, Gives, GivesOne, of_parameter, of_format, of_alias, of_item, of_own, IsOwn, name_given, means_more, gives_more}
 use Rattle.borsh_source.specs.Heads.{IsHead, ArrayMeans, FormMeans, of_form, FormBrings, use_of}
 use Rattle.borsh_source.specs.Container.{Brought, AreThese}
 use Rattle.borsh_source.proofs.Lists.{take_next}
@@ -26,7 +26,7 @@ use Rattle.borsh_source.specs.declared.tree.TypeKind.{TypeKind}
 use Rattle.borsh_source.specs.declared.tree.TypeKind.TheVariants.{Path, Reference, Slice, Array, Tuple, Constant}
 
 module _ (S : Source) (ps : List Parameter) (gs : List Stands) where
-  head_form : (k : TypeKind) (s : Bor (List ℕ)) (j : Kind) (us : Vec ℕ Global) → IsHead S ps gs k (Format s j us) → HasForm S ps gs k s.now j us.items
+  head_form : (k : TypeKind) (s : Bor (List ℕ)) (j : Kind) (us : Vec ℕ Global) → IsHead S ps gs k (Format s j us) → IsFormatType S ps gs k s.now j us.items
   head_form (Path x bs) s j us h = h
   head_form (Reference t) s j us h = (h.1, h.2)
   head_form (Slice t) s j us h = (h.0, h.1, h.2)
@@ -68,7 +68,7 @@ module _ (S : Source) (ps : List Parameter) (gs : List Stands) where
     named_form s j us ts ns ms n h e g p f = brought_then p f (λ ds es xs ys m k. subst (λ l. Means S ps gs t n (ds ++ es) l) (sym (ap (λ l. xs ++ l) k.1 ∙ append-nil xs)) (of_format s.now j at (head_form w.kind s j us h) (subst (λ l. MeansAll S ps gs l ns ds xs) e m) (subst (λ l. form s.now j l ≡ Some (n, es)) g k.0)))
 
     of_array : (el e k : ℕ) (n : List ℕ) (ds : List Entry) (us : List Used) → w.kind ≡ Array el e → Evaluates S ps gs e k → FormMeans S ps gs [] (ArrayKind k) (el ∷ []) n ds us → Means S ps gs t n ds us
-    of_array el e k n _ _ q v (of_form m f) = of_format [] (ArrayKind k) at (subst (λ z. HasForm S ps gs z [] (ArrayKind k) (el ∷ [])) (sym q) (k, v, refl, refl)) m f
+    of_array el e k n _ _ q v (of_form m f) = of_format [] (ArrayKind k) at (subst (λ z. IsFormatType S ps gs z [] (ArrayKind k) (el ∷ [])) (sym q) (k, v, refl, refl)) m f
 
     -- an array
     pub named_array : {a c : DefinitionMap} {u q : List Used} (el e : ℕ) (n : List ℕ) → IsHead S ps gs w.kind (ArrayHead el e) → Brought (ArrayMeans S ps gs el e n) a c u q → Brought (Means S ps gs t n) a c u q
@@ -97,5 +97,5 @@ pub named_alias : (S : Source) (i : ℕ) (item : Item) (hs : List Stands) (t : �
 named_alias S i item hs t n ps gs k e g p = brought_as p (λ ds us m. of_alias k (subst (λ l. Means S l hs t n ds us) e (subst (λ l. Means S ps l t n ds us) g m)))
 
 -- a struct or an enum
-pub named_own : (S : Source) (i : ℕ) (item : Item) (hs : List Stands) (n : List ℕ) {a c : DefinitionMap} {u q : List Used} → IsOwn item.kind → n ≡ name_with (string_bytes item.name) hs → Brought (AreThese [] (use_of i hs ∷ [])) a c u q → Brought (ItemMeans S i item hs n) a c u q
+pub named_own : (S : Source) (i : ℕ) (item : Item) (hs : List Stands) (n : List ℕ) {a c : DefinitionMap} {u q : List Used} → IsOwn item.kind → n ≡ name_given (string_bytes item.name) hs → Brought (AreThese [] (use_of i hs ∷ [])) a c u q → Brought (ItemMeans S i item hs n) a c u q
 named_own S i item hs n own e p = brought_as p (λ ds us h. subst (λ l. ItemMeans S i item hs n l us) (sym h.0) (subst (λ l. ItemMeans S i item hs n [] l) (sym h.1) (subst (λ z. ItemMeans S i item hs z [] (use_of i hs ∷ [])) (sym e) (of_own own))))

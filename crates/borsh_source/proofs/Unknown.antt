@@ -6,7 +6,7 @@ use Rattle.std.specs.Borrow.{Bor}
 use Rattle.borsh_walks.specs.Errors.{broken_rule}
 use Rattle.borsh_walks.specs.declared.error.SchemaContainerValidateError.{SchemaContainerValidateError}
 use Rattle.borsh_source.specs.Container.{SaysFault}
-use Rattle.borsh_source.specs.Errors.{IsNoFormat, IsRefusal, IsUndecided}
+use Rattle.borsh_source.specs.Errors.{IsNoFormat, IsRefusal, LeavesTagsOpen}
 use Rattle.borsh_source.specs.Formats.{IsOtherKind, widths, non_zero_widths}
 use Rattle.borsh_source.specs.Lists.{IsListed}
 use Rattle.borsh_source.specs.Meaning.{HaveNone}
@@ -47,5 +47,5 @@ pub fault_said : (f : SchemaContainerValidateError) (rule : Bor (List ℕ)) (x :
 fault_said f rule x (Refused place cause name) h r = (rule, r.0, subst (λ n. broken_rule f ≡ Some (rule.now, n)) (sym r.1) h)
 fault_said f rule x OutOfMemory h r = tt
 
-pub undecided : (S : Source) (i : ℕ) (item : Item) (vs : Vec Variant Global) → slice_get S.items.items i ≡ Some item → item.kind ≡ Enum None vs → (HaveNone vs.items → ⊥) → IsUndecided S (string_bytes item.name)
+pub undecided : (S : Source) (i : ℕ) (item : Item) (vs : Vec Variant Global) → slice_get S.items.items i ≡ Some item → item.kind ≡ Enum None vs → (HaveNone vs.items → ⊥) → LeavesTagsOpen S (string_bytes item.name)
 undecided S i item vs at kind some = record { at = i; item = item; variants = vs; named = record { at = at; name = refl }; kind = kind; some = some }

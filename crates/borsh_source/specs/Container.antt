@@ -39,8 +39,8 @@ pub record Brought (Meant : List Entry → List Used → Type 0) (d0 d1 : Defini
   pub adds : Adds d0 d1 entries
   pub notes : Notes u0 u1 uses
 
-abbrev pub definitions_in : Output → DefinitionMap
-definitions_in o = definitions_by_name o.definitions
+abbrev pub definitions_so_far : Output → DefinitionMap
+definitions_so_far o = definitions_by_name o.definitions
 
 abbrev pub uses_in : Output → List Used
 uses_in o = map used o.uses.items
@@ -51,7 +51,7 @@ IsKept old new = (new.definitions ≡ old.definitions) × (new.uses ≡ old.uses
 
 -- a step adds definitions and items that are meant so
 abbrev pub Brings : (List Entry → List Used → Type 0) → Output → Output → Type 0
-Brings Meant old new = Brought Meant (definitions_in old) (definitions_in new) (uses_in old) (uses_in new)
+Brings Meant old new = Brought Meant (definitions_so_far old) (definitions_so_far new) (uses_in old) (uses_in new)
 
 -- these definitions and items, and no others
 abbrev pub AreThese : List Entry → List Used → List Entry → List Used → Type 0
@@ -65,7 +65,7 @@ pub data Leads (S : Source) (root : ℕ) : Used → Type 0 where
   through : {ds : List Entry} {us : List Used} {u v : Used} → Leads S root v → Defines S v ds us → IsListed u us → Leads S root u
 
 -- what an item brings is there
-pub record IsDefined (S : Source) (D : DefinitionMap) (all : List Used) (u : Used) : Type 0 where
+pub record IsPresent (S : Source) (D : DefinitionMap) (all : List Used) (u : Used) : Type 0 where
   pub entries : List Entry
   pub uses : List Used
   pub defines : Defines S u entries uses
@@ -88,7 +88,7 @@ pub record IsMeaning (S : Source) (root : ℕ) (name : List ℕ) (D : Definition
   pub all : List Used
   pub used : AreListed uses all
   pub led : (u : Used) → IsListed u all → Leads S root u
-  pub defined : (u : Used) → IsListed u all → IsDefined S D all u
+  pub defined : (u : Used) → IsListed u all → IsPresent S D all u
   -- and nothing else
   pub only : (n : List ℕ) (d : NamedDefinition) → D n ≡ Some d → IsBrought S root (n, d)
 

@@ -1,5 +1,5 @@
 -- What an error says of the tree.
-use Rattle.std.specs.Prelude.{◌≡◌, ℕ, List, Option, None, Result, MatchResult, Vec, slice_get, string_bytes}
+use Rattle.std.specs.Prelude.{◌≡◌, ℕ, List, None, Result, MatchResult, Vec, string_bytes}
 use Rattle.std.specs.Global.{Global}
 use Rattle.borsh_source.specs.Formats.{IsFormat}
 use Rattle.borsh_source.specs.Meaning.{HaveNone}
@@ -8,7 +8,7 @@ use Rattle.borsh_source.specs.declared.formats.Kind.{Kind}
 use Rattle.borsh_source.specs.declared.error.CompileError.{CompileError}
 use Rattle.borsh_source.specs.declared.error.CompileError.TheVariants.{Refused, OutOfMemory}
 use Rattle.borsh_source.specs.declared.error.Cause.{Cause}
-use Rattle.borsh_source.specs.declared.error.Cause.TheVariants.{UnknownType, UnknownConstant, Arguments, NoType, NoNumber, NoValue, Discriminants, Tag, TwoTags, TwoDefinitions, TwoItems, TooDeep, TooLarge, Nowhere, Rule}
+use Rattle.borsh_source.specs.declared.error.Cause.TheVariants.{UnknownType, UnknownConstant, Discriminants, Rule}
 use Rattle.borsh_source.specs.declared.tree.Source.{Source}
 use Rattle.borsh_source.specs.declared.tree.Item.{Item}
 use Rattle.borsh_source.specs.declared.tree.Variant.{Variant}
@@ -19,7 +19,7 @@ abbrev pub IsNoFormat : List ℕ → Type 0
 IsNoFormat x = (stem : List ℕ) (k : Kind) → IsFormat x stem k → ⊥
 
 -- an enum of the name has discriminants, and doesn't say whether these are its tags
-pub record IsUndecided (S : Source) (x : List ℕ) : Type 0 where
+pub record LeavesTagsOpen (S : Source) (x : List ℕ) : Type 0 where
   pub at : ℕ
   pub item : Item
   pub variants : Vec Variant Global
@@ -28,26 +28,16 @@ pub record IsUndecided (S : Source) (x : List ℕ) : Type 0 where
   pub some : HaveNone variants.items → ⊥
 
 -- what a cause says of the name is true; of the others nothing is said
-abbrev pub IsSaid : Source → List ℕ → Cause → Type 0
-IsSaid S x UnknownType = IsNoItem S x × IsNoFormat x
-IsSaid S x UnknownConstant = IsNoItem S x
-IsSaid S x (Arguments n m) = Unit {0}
-IsSaid S x NoType = Unit {0}
-IsSaid S x NoNumber = Unit {0}
-IsSaid S x NoValue = Unit {0}
-IsSaid S x Discriminants = IsUndecided S x
-IsSaid S x Tag = Unit {0}
-IsSaid S x TwoTags = Unit {0}
-IsSaid S x TwoDefinitions = Unit {0}
-IsSaid S x TwoItems = Unit {0}
-IsSaid S x TooDeep = Unit {0}
-IsSaid S x TooLarge = Unit {0}
-IsSaid S x Nowhere = Unit {0}
-IsSaid S x (Rule r) = ⊥
+abbrev pub IsTrueCause : Source → List ℕ → Cause → Type 0
+IsTrueCause S x UnknownType = IsNoItem S x × IsNoFormat x
+IsTrueCause S x UnknownConstant = IsNoItem S x
+IsTrueCause S x Discriminants = LeavesTagsOpen S x
+IsTrueCause S x (Rule r) = ⊥
+IsTrueCause S x _ = Unit {0}
 
 -- what an error says is true
 abbrev pub IsTold : Source → CompileError → Type 0
-IsTold S (Refused place cause name) = IsSaid S (string_bytes name) cause
+IsTold S (Refused place cause name) = IsTrueCause S (string_bytes name) cause
 IsTold S OutOfMemory = Unit {0}
 
 -- `Ok` of what is so, or an error that is true

@@ -70,26 +70,9 @@ IsOtherKind x k = IsListed x (names_of_kind k)
 -- a type that is written so has a schema whose name begins so, and is of this kind
 abbrev pub IsFormat : List ℕ → List ℕ → Kind → Type 0
 IsFormat x stem (Bytes w) = IsListed (x, stem, w) widths ⊎ IsListed (x, stem, w) non_zero_widths
-IsFormat x stem Text = (stem ≡ x) × IsOtherKind x Text
-IsFormat x stem Octets = (stem ≡ x) × IsOtherKind x Octets
-IsFormat x stem Phantom = (stem ≡ x) × IsOtherKind x Phantom
-IsFormat x stem Through = (stem ≡ x) × IsOtherKind x Through
-IsFormat x stem ListKind = (stem ≡ x) × IsOtherKind x ListKind
-IsFormat x stem Map = (stem ≡ x) × IsOtherKind x Map
-IsFormat x stem OptionKind = (stem ≡ x) × IsOtherKind x OptionKind
-IsFormat x stem ResultKind = (stem ≡ x) × IsOtherKind x ResultKind
-IsFormat x stem Range = (stem ≡ x) × IsOtherKind x Range
-IsFormat x stem RangeFrom = (stem ≡ x) × IsOtherKind x RangeFrom
-IsFormat x stem RangeTo = (stem ≡ x) × IsOtherKind x RangeTo
-IsFormat x stem RangeFull = (stem ≡ x) × IsOtherKind x RangeFull
-IsFormat x stem Ipv4Addr = (stem ≡ x) × IsOtherKind x Ipv4Addr
-IsFormat x stem Ipv6Addr = (stem ≡ x) × IsOtherKind x Ipv6Addr
-IsFormat x stem IpAddr = (stem ≡ x) × IsOtherKind x IpAddr
-IsFormat x stem SocketAddrV4 = (stem ≡ x) × IsOtherKind x SocketAddrV4
-IsFormat x stem SocketAddrV6 = (stem ≡ x) × IsOtherKind x SocketAddrV6
-IsFormat x stem SocketAddr = (stem ≡ x) × IsOtherKind x SocketAddr
 IsFormat x stem Tuple = ⊥
 IsFormat x stem (Array n) = ⊥
+IsFormat x stem k = (stem ≡ x) × IsOtherKind x k
 
 -- how many arguments a type of the format may be written with: a hasher and an allocator stand behind those that are read
 abbrev pub most_arguments : Kind → ℕ
@@ -106,10 +89,6 @@ most_arguments _ = 0
 
 -- how many arguments of a type of the format are read
 abbrev pub read_arguments : Kind → ℕ
-read_arguments (Bytes w) = 0
-read_arguments Text = 0
-read_arguments Octets = 0
-read_arguments Phantom = 0
 read_arguments Through = 1
 read_arguments ListKind = 1
 read_arguments Map = 2
@@ -118,12 +97,4 @@ read_arguments ResultKind = 2
 read_arguments Range = 1
 read_arguments RangeFrom = 1
 read_arguments RangeTo = 1
-read_arguments RangeFull = 0
-read_arguments Ipv4Addr = 0
-read_arguments Ipv6Addr = 0
-read_arguments IpAddr = 0
-read_arguments SocketAddrV4 = 0
-read_arguments SocketAddrV6 = 0
-read_arguments SocketAddr = 0
-read_arguments Tuple = 0
-read_arguments (Array n) = 0
+read_arguments _ = 0

@@ -3,7 +3,7 @@ use Rattle.std.specs.Prelude.{◌≡◌, ℕ, pos, List, [], ◌∷◌, ◌++◌
 use Rattle.std.specs.Global.{Global}
 use Rattle.borsh_walks.specs.declared.definition.Definition.{Definition}
 use Rattle.borsh_definitions.specs.Described.{NamedDefinition, bytes, list, tuple, variants, named, unnamed, no_fields, named_definition}
-use Rattle.borsh_definitions.specs.Names.{tuple_name, array_name}
+use Rattle.borsh_definitions.specs.Names.{applied, applied_to_two, tuple_name, array_name}
 use Rattle.borsh_definitions.specs.Types.{list_of, option_of, result_of, range_of, range_from, range_to}
 use Rattle.borsh_definitions.specs.Addresses.{octets_of}
 use Rattle.borsh_source.specs.declared.formats.Kind.{Kind}
@@ -22,38 +22,41 @@ abbrev pub alone : List ℕ → NamedDefinition → Option Formed
 alone n d = Some (n, (n, d) ∷ [])
 
 -- so many bytes in an array
-abbrev pub octets : ℕ → List Entry
-octets n = (array_name (codes "u8") n, list 0 n n (codes "u8")) ∷ (codes "u8", bytes 1) ∷ []
+abbrev pub octets_entries : ℕ → List Entry
+octets_entries n = (array_name (codes "u8") n, list 0 n n (codes "u8")) ∷ (codes "u8", bytes 1) ∷ []
 
-abbrev pub ipv4 : List Entry
-ipv4 = (codes "Ipv4Addr", octets_of 4) ∷ octets 4
-
-abbrev pub ipv6 : List Entry
-ipv6 = (codes "Ipv6Addr", octets_of 16) ∷ octets 16
+-- an address of so many bytes
+abbrev pub address_entries : List ℕ → ℕ → List Entry
+address_entries name n = (name, octets_of n) ∷ octets_entries n
 
 -- an enum of two variants: tag, name and type of each
-abbrev pub two_variants : ℕ × List ℕ × List ℕ → ℕ × List ℕ × List ℕ → NamedDefinition
-two_variants a b = variants 1 ((pos a.0, a.1, a.2) ∷ (pos b.0, b.1, b.2) ∷ [])
+abbrev pub variants_of_two : ℕ × List ℕ × List ℕ → ℕ × List ℕ × List ℕ → NamedDefinition
+variants_of_two a b = variants 1 ((pos a.0, a.1, a.2) ∷ (pos b.0, b.1, b.2) ∷ [])
 
 -- tag 0 or 1 by the kind of address, and what has the name of that kind
 abbrev pub either_of : List ℕ → List ℕ → NamedDefinition
 either_of v4 v6 = variants 1 ((pos 0, codes "V4", v4) ∷ (pos 1, codes "V6", v6) ∷ [])
 
-abbrev pub ip : List Entry
-ip = (codes "IpAddr", either_of (codes "IpAddr__V4") (codes "IpAddr__V6")) ∷ (codes "IpAddr__V4", unnamed (codes "Ipv4Addr" ∷ [])) ∷ (codes "IpAddr__V6", unnamed (codes "Ipv6Addr" ∷ [])) ∷ (ipv4 ++ ipv6)
+-- an enum of both, the name of each variant and of what it holds
+abbrev pub either_entries : List ℕ → List ℕ × List ℕ → List ℕ × List ℕ → List Entry
+either_entries name v4 v6 = (name, either_of v4.0 v6.0) ∷ (v4.0, unnamed (v4.1 ∷ [])) ∷ (v6.0, unnamed (v6.1 ∷ [])) ∷ []
+
+abbrev pub ip_entries : List Entry
+ip_entries =
+    either_entries (codes "IpAddr") (codes "IpAddr__V4", codes "Ipv4Addr") (codes "IpAddr__V6", codes "Ipv6Addr")
+    ++ (address_entries (codes "Ipv4Addr") 4 ++ address_entries (codes "Ipv6Addr") 16)
 
 -- an address and a port
 abbrev pub with_port : List ℕ → NamedDefinition
 with_port address = named ((codes "ip", address) ∷ (codes "port", codes "u16") ∷ [])
 
-abbrev pub socket_v4 : List Entry
-socket_v4 = (codes "SocketAddrV4", with_port (codes "Ipv4Addr")) ∷ (codes "u16", bytes 2) ∷ ipv4
+abbrev pub port_entries : List ℕ → List ℕ → ℕ → List Entry
+port_entries name address n = (name, with_port address) ∷ (codes "u16", bytes 2) ∷ address_entries address n
 
-abbrev pub socket_v6 : List Entry
-socket_v6 = (codes "SocketAddrV6", with_port (codes "Ipv6Addr")) ∷ (codes "u16", bytes 2) ∷ ipv6
-
-abbrev pub socket : List Entry
-socket = (codes "SocketAddr", either_of (codes "SocketAddr__V4") (codes "SocketAddr__V6")) ∷ (codes "SocketAddr__V4", unnamed (codes "SocketAddrV4" ∷ [])) ∷ (codes "SocketAddr__V6", unnamed (codes "SocketAddrV6" ∷ [])) ∷ (socket_v4 ++ socket_v6)
+abbrev pub socket_entries : List Entry
+socket_entries =
+    either_entries (codes "SocketAddr") (codes "SocketAddr__V4", codes "SocketAddrV4") (codes "SocketAddr__V6", codes "SocketAddrV6")
+    ++ (port_entries (codes "SocketAddrV4") (codes "Ipv4Addr") 4 ++ port_entries (codes "SocketAddrV6") (codes "Ipv6Addr") 16)
 
 -- the definition of a tuple, of which the empty one has no bytes
 abbrev pub tuple_of : List (List ℕ) → NamedDefinition
@@ -69,51 +72,28 @@ form_alone stem (Bytes w) = alone stem (bytes w)
 form_alone stem Text = Some (codes "String", (codes "String", list_of (codes "u8")) ∷ (codes "u8", bytes 1) ∷ [])
 form_alone stem Octets = Some (codes "Vec<u8>", (codes "Vec<u8>", list_of (codes "u8")) ∷ (codes "u8", bytes 1) ∷ [])
 form_alone stem Phantom = alone (codes "()") (bytes 0)
-form_alone stem Through = None
-form_alone stem ListKind = None
-form_alone stem Map = None
-form_alone stem OptionKind = None
-form_alone stem ResultKind = None
-form_alone stem Range = None
-form_alone stem RangeFrom = None
-form_alone stem RangeTo = None
 form_alone stem RangeFull = alone (codes "RangeFull") no_fields
-form_alone stem Ipv4Addr = Some (stem, ipv4)
-form_alone stem Ipv6Addr = Some (stem, ipv6)
-form_alone stem IpAddr = Some (stem, ip)
-form_alone stem SocketAddrV4 = Some (stem, socket_v4)
-form_alone stem SocketAddrV6 = Some (stem, socket_v6)
-form_alone stem SocketAddr = Some (stem, socket)
+form_alone stem Ipv4Addr = Some (stem, address_entries (codes "Ipv4Addr") 4)
+form_alone stem Ipv6Addr = Some (stem, address_entries (codes "Ipv6Addr") 16)
+form_alone stem IpAddr = Some (stem, ip_entries)
+form_alone stem SocketAddrV4 = Some (stem, port_entries (codes "SocketAddrV4") (codes "Ipv4Addr") 4)
+form_alone stem SocketAddrV6 = Some (stem, port_entries (codes "SocketAddrV6") (codes "Ipv6Addr") 16)
+form_alone stem SocketAddr = Some (stem, socket_entries)
 form_alone stem Tuple = form_tuple []
-form_alone stem (Array n) = None
+form_alone stem _ = None
 
 -- the name of a type with one argument
 abbrev pub name_of_one : List ℕ → List ℕ → List ℕ
-name_of_one stem n = stem ++ (codes "<" ++ (n ++ codes ">"))
+name_of_one stem n = stem ++ applied (codes "<") n
 
 -- the definition of a type with one argument that its name is made of
 abbrev pub definition_of_one : Kind → List ℕ → Option NamedDefinition
-definition_of_one (Bytes w) n = None
-definition_of_one Text n = None
-definition_of_one Octets n = None
-definition_of_one Phantom n = None
-definition_of_one Through n = None
 definition_of_one ListKind n = Some (list_of n)
-definition_of_one Map n = None
 definition_of_one OptionKind n = Some (option_of n)
-definition_of_one ResultKind n = None
 definition_of_one Range n = Some (range_of n)
 definition_of_one RangeFrom n = Some (range_from n)
 definition_of_one RangeTo n = Some (range_to n)
-definition_of_one RangeFull n = None
-definition_of_one Ipv4Addr n = None
-definition_of_one Ipv6Addr n = None
-definition_of_one IpAddr n = None
-definition_of_one SocketAddrV4 n = None
-definition_of_one SocketAddrV6 n = None
-definition_of_one SocketAddr n = None
-definition_of_one Tuple n = None
-definition_of_one (Array k) n = None
+definition_of_one _ n = None
 
 -- such a type
 abbrev pub form_applied : List ℕ → Kind → List ℕ → Option Formed
@@ -125,31 +105,15 @@ after e f = option_map (λ f. (f.0, e ∷ f.1)) f
 
 -- a type with one argument
 abbrev pub form_one : List ℕ → Kind → List ℕ → Option Formed
-form_one stem (Bytes w) n = form_applied stem (Bytes w) n
-form_one stem Text n = form_applied stem Text n
-form_one stem Octets n = form_applied stem Octets n
-form_one stem Phantom n = form_applied stem Phantom n
 form_one stem Through n = Some (n, [])
-form_one stem ListKind n = form_applied stem ListKind n
-form_one stem Map n = form_applied stem Map n
 form_one stem OptionKind n = after (codes "()", bytes 0) (form_applied stem OptionKind n)
-form_one stem ResultKind n = form_applied stem ResultKind n
-form_one stem Range n = form_applied stem Range n
-form_one stem RangeFrom n = form_applied stem RangeFrom n
-form_one stem RangeTo n = form_applied stem RangeTo n
-form_one stem RangeFull n = form_applied stem RangeFull n
-form_one stem Ipv4Addr n = form_applied stem Ipv4Addr n
-form_one stem Ipv6Addr n = form_applied stem Ipv6Addr n
-form_one stem IpAddr n = form_applied stem IpAddr n
-form_one stem SocketAddrV4 n = form_applied stem SocketAddrV4 n
-form_one stem SocketAddrV6 n = form_applied stem SocketAddrV6 n
-form_one stem SocketAddr n = form_applied stem SocketAddr n
 form_one stem Tuple n = form_tuple (n ∷ [])
 form_one stem (Array k) n = alone (array_name n k) (list 0 k k n)
+form_one stem kind n = form_applied stem kind n
 
 -- the name of a type with two arguments
 abbrev pub name_of_two : List ℕ → List ℕ → List ℕ → List ℕ
-name_of_two stem n m = stem ++ (codes "<" ++ (n ++ (codes ", " ++ (m ++ codes ">"))))
+name_of_two stem n m = stem ++ applied_to_two (codes "<") n m
 
 -- a type with two arguments or more
 abbrev pub form_two : List ℕ → Kind → List (List ℕ) → Option Formed

@@ -23,10 +23,8 @@ pub data FormMeans (S : Source) (ps : List Parameter) (gs : List Stands) (stem :
 
 -- a type of the format, by its beginning, kind and arguments
 abbrev pub IsForm : List ℕ → Kind → List ℕ → Head → Type 0
-IsForm stem k ts (Given g) = ⊥
 IsForm stem k ts (Format s j us) = (s.now ≡ stem) × (j ≡ k) × (us.items ≡ ts)
-IsForm stem k ts (ArrayHead t e) = ⊥
-IsForm stem k ts (Item i item bs) = ⊥
+IsForm stem k ts _ = ⊥
 
 -- an array of so many elements as the expression says
 abbrev pub ArrayMeans : Source → List Parameter → List Stands → ℕ → ℕ → List ℕ → List Entry → List Used → Type 0
@@ -51,11 +49,7 @@ IsOther (Constant e) h = ⊥
 -- a written type is one of these
 abbrev pub IsHead : Source → List Parameter → List Stands → TypeKind → Head → Type 0
 IsHead S ps gs (Path x bs) h = IsPathHead S ps gs (string_bytes x) bs.items h
-IsHead S ps gs (Reference t) h = IsOther (Reference t) h
-IsHead S ps gs (Slice t) h = IsOther (Slice t) h
-IsHead S ps gs (Array t e) h = IsOther (Array t e) h
-IsHead S ps gs (Tuple ts) h = IsOther (Tuple ts) h
-IsHead S ps gs (Constant e) h = IsOther (Constant e) h
+IsHead S ps gs k h = IsOther k h
 
 -- what a type of the format brings beside its arguments, whose names these are
 abbrev pub FormBrings : List ℕ → Kind → List (List ℕ) → List ℕ → List Entry → List Used → Type 0

@@ -2,7 +2,7 @@
 use Rattle.std.specs.Prelude.{◌≡◌, ℕ, ◌+◌, ◌<◌, ◌≤◌, pos, ℤ, List, [], ◌∷◌, ◌++◌, length, take, Option, Some, None, Bool, true, false, cond, codes, string_bytes, slice_get, String, Vec}
 use Rattle.std.specs.Global.{Global}
 use Rattle.borsh_definitions.specs.Described.{NamedDefinition, variants, named as named_fields, unnamed as unnamed_fields, no_fields}
-use Rattle.borsh_definitions.specs.Names.{following, beside}
+use Rattle.borsh_definitions.specs.Names.{name_with, variant_type, beside}
 use Rattle.borsh_source.specs.Views.{Stands, unread, named, number, Used, given_of, IsItem, IsNoItem}
 use Rattle.borsh_source.specs.Numbers.{Evaluates, IsNumber}
 use Rattle.borsh_source.specs.Reading.{reads, fields_in, fields_name}
@@ -26,20 +26,20 @@ use Rattle.borsh_source.specs.declared.tree.TypeKind.TheVariants.{Path, Referenc
 -- ---- names
 
 -- the names of the types that parameters stand for
-abbrev pub names_of : List Stands → List (List ℕ)
-names_of [] = []
-names_of (unread ∷ hs) = names_of hs
-names_of (named n ∷ hs) = n ∷ names_of hs
-names_of (number n ∷ hs) = names_of hs
+abbrev pub parameter_names : List Stands → List (List ℕ)
+parameter_names [] = []
+parameter_names (unread ∷ hs) = parameter_names hs
+parameter_names (named n ∷ hs) = n ∷ parameter_names hs
+parameter_names (number n ∷ hs) = parameter_names hs
 
 -- a name with those of its parameters, if it has any
 abbrev pub with_names : List ℕ → List (List ℕ) → List ℕ
 with_names x [] = x
-with_names x (n ∷ ns) = x ++ (codes "<" ++ (n ++ (following ns ++ codes ">")))
+with_names x (n ∷ ns) = name_with x n ns
 
 -- the name of an item, or of a variant's fields, whose parameters stand for these
-abbrev pub name_with : List ℕ → List Stands → List ℕ
-name_with x hs = with_names x (names_of hs)
+abbrev pub name_given : List ℕ → List Stands → List ℕ
+name_given x hs = with_names x (parameter_names hs)
 
 -- ---- types
 
@@ -53,22 +53,19 @@ pub record IsFormatPath (S : Source) (ps : List Parameter) (gs : List Stands) (x
   pub parts : ts ≡ take (read_arguments k) bs
 
 -- a written type is a type of the format, by the beginning of its name, its kind and its arguments
-abbrev pub HasForm : Source → List Parameter → List Stands → TypeKind → List ℕ → Kind → List ℕ → Type 0
-HasForm S ps gs (Path x bs) stem k ts = IsFormatPath S ps gs (string_bytes x) bs.items stem k ts
-HasForm S ps gs (Reference t) stem k ts = (k ≡ Through) × (ts ≡ t ∷ [])
-HasForm S ps gs (Slice t) stem k ts = (stem ≡ codes "Vec") × (k ≡ ListKind) × (ts ≡ t ∷ [])
-HasForm S ps gs (Array t e) stem k ts = (n : ℕ) × Evaluates S ps gs e n × (k ≡ ArrayKind n) × (ts ≡ t ∷ [])
-HasForm S ps gs (Tuple us) stem k ts = (k ≡ TupleKind) × (ts ≡ us.items)
-HasForm S ps gs (Constant e) stem k ts = ⊥
+abbrev pub IsFormatType : Source → List Parameter → List Stands → TypeKind → List ℕ → Kind → List ℕ → Type 0
+IsFormatType S ps gs (Path x bs) stem k ts = IsFormatPath S ps gs (string_bytes x) bs.items stem k ts
+IsFormatType S ps gs (Reference t) stem k ts = (k ≡ Through) × (ts ≡ t ∷ [])
+IsFormatType S ps gs (Slice t) stem k ts = (stem ≡ codes "Vec") × (k ≡ ListKind) × (ts ≡ t ∷ [])
+IsFormatType S ps gs (Array t e) stem k ts = (n : ℕ) × Evaluates S ps gs e n × (k ≡ ArrayKind n) × (ts ≡ t ∷ [])
+IsFormatType S ps gs (Tuple us) stem k ts = (k ≡ TupleKind) × (ts ≡ us.items)
+IsFormatType S ps gs (Constant e) stem k ts = ⊥
 
 -- an argument is written as a number, or as the name of one
 abbrev pub IsNumberKind : Source → List Parameter → List Stands → TypeKind → ℕ → Type 0
 IsNumberKind S ps gs (Constant e) n = Evaluates S ps gs e n
 IsNumberKind S ps gs (Path x bs) n = IsNumber S ps gs (string_bytes x) n
-IsNumberKind S ps gs (Reference t) n = ⊥
-IsNumberKind S ps gs (Slice t) n = ⊥
-IsNumberKind S ps gs (Array t e) n = ⊥
-IsNumberKind S ps gs (Tuple ts) n = ⊥
+IsNumberKind S ps gs _ n = ⊥
 
 abbrev pub IsNumberAt : Source → List Parameter → List Stands → ℕ → ℕ → Type 0
 IsNumberAt S ps gs a n = (w : Written) × (slice_get S.types.items a ≡ Some w) × IsNumberKind S ps gs w.kind n
@@ -86,7 +83,7 @@ mutual
     -- a parameter
     of_parameter : {ps : List Parameter} {gs : List Stands} {t : ℕ} {n : List ℕ} {w : Written} {x : String Global} {bs : Vec ℕ Global} → slice_get S.types.items t ≡ Some w → w.kind ≡ Path x bs → bs.items ≡ [] → given_of ps gs (string_bytes x) ≡ Some (named n) → Means S ps gs t n [] []
     -- a type of the format
-    of_format : {ps : List Parameter} {gs : List Stands} {t : ℕ} {n : List ℕ} {w : Written} {ts : List ℕ} {ns : List (List ℕ)} {ds es : List Entry} {us : List Used} (stem : List ℕ) (k : Kind) → slice_get S.types.items t ≡ Some w → HasForm S ps gs w.kind stem k ts → MeansAll S ps gs ts ns ds us → form stem k ns ≡ Some (n, es) → Means S ps gs t n (ds ++ es) us
+    of_format : {ps : List Parameter} {gs : List Stands} {t : ℕ} {n : List ℕ} {w : Written} {ts : List ℕ} {ns : List (List ℕ)} {ds es : List Entry} {us : List Used} (stem : List ℕ) (k : Kind) → slice_get S.types.items t ≡ Some w → IsFormatType S ps gs w.kind stem k ts → MeansAll S ps gs ts ns ds us → form stem k ns ≡ Some (n, es) → Means S ps gs t n (ds ++ es) us
     -- an item
     of_item : {ps : List Parameter} {gs hs : List Stands} {t i : ℕ} {n : List ℕ} {w : Written} {x : String Global} {bs : Vec ℕ Global} {item : Item} {ds es : List Entry} {us vs : List Used} → slice_get S.types.items t ≡ Some w → w.kind ≡ Path x bs → given_of ps gs (string_bytes x) ≡ None → IsItem S (string_bytes x) i item → Gives S ps gs item.kind item.parameters.items bs.items hs ds us → ItemMeans S i item hs n es vs → Means S ps gs t n (ds ++ es) (us ++ vs)
 
@@ -98,7 +95,7 @@ mutual
   -- an item has the name, where its parameters stand for these: an alias what it is for, a struct or an enum its own, by which it is used
   pub data ItemMeans (S : Source) : ℕ → Item → List Stands → List ℕ → List Entry → List Used → Type 0 where
     of_alias : {i t : ℕ} {item : Item} {hs : List Stands} {n : List ℕ} {ds : List Entry} {us : List Used} → item.kind ≡ Alias t → Means S item.parameters.items hs t n ds us → ItemMeans S i item hs n ds us
-    of_own : {i : ℕ} {item : Item} {hs : List Stands} → IsOwn item.kind → ItemMeans S i item hs (name_with (string_bytes item.name) hs) [] (record { item = i; given = hs } ∷ [])
+    of_own : {i : ℕ} {item : Item} {hs : List Stands} → IsOwn item.kind → ItemMeans S i item hs (name_given (string_bytes item.name) hs) [] (record { item = i; given = hs } ∷ [])
 
   -- the parameters of an item stand for these, by the arguments, one after another
   pub data Gives (S : Source) : List Parameter → List Stands → ItemKind → List Parameter → List ℕ → List Stands → List Entry → List Used → Type 0 where
@@ -143,8 +140,8 @@ read_given S fs (p ∷ ps) [] = []
 read_given S fs (p ∷ ps) (h ∷ hs) = cond (fields_name S (string_bytes p.name) fs) h unread ∷ read_given S fs ps hs
 
 -- the name of the definition of a variant's fields
-abbrev pub variant_type : Source → List Parameter → List Stands → List ℕ → Variant → List ℕ
-variant_type S ps gs x v = name_with (x ++ (codes "__" ++ string_bytes v.name)) (read_given S (fields_in v.fields) ps gs)
+abbrev pub variant_type_given : Source → List Parameter → List Stands → List ℕ → Variant → List ℕ
+variant_type_given S ps gs x v = name_given (variant_type x (string_bytes v.name)) (read_given S (fields_in v.fields) ps gs)
 
 -- a variant's tag, where the next one is this: its discriminant, if these are the tags and it has one
 abbrev pub IsDiscriminant : Source → Option ℕ → Bool → ℕ → ℕ → Type 0
@@ -160,7 +157,7 @@ IsNewTag tag (r ∷ rows) = (r.0 ≡ pos tag → ⊥) × IsNewTag tag rows
 -- variants, whose enum has the name x, have the rows, and bring what their fields bring; the next tag
 pub data VariantsBring (S : Source) (ps : List Parameter) (gs : List Stands) (x : List ℕ) (explicit : Bool) : List Variant → List (ℤ × List ℕ × List ℕ) → ℕ → List Entry → List Used → Type 0 where
   of_none : VariantsBring S ps gs x explicit [] [] 0 [] []
-  of_more : {vs : List Variant} (v : Variant) {rows : List (ℤ × List ℕ × List ℕ)} {next tag : ℕ} {ds es : List Entry} {us ws : List Used} → VariantsBring S ps gs x explicit vs rows next ds us → IsDiscriminant S v.discriminant explicit next tag → tag < 256 → IsNewTag tag rows → FieldsBring S ps gs (variant_type S ps gs x v) v.fields es ws → VariantsBring S ps gs x explicit (vs ++ v ∷ []) (rows ++ (pos tag, string_bytes v.name, variant_type S ps gs x v) ∷ []) (tag + 1) (ds ++ es) (us ++ ws)
+  of_more : {vs : List Variant} (v : Variant) {rows : List (ℤ × List ℕ × List ℕ)} {next tag : ℕ} {ds es : List Entry} {us ws : List Used} → VariantsBring S ps gs x explicit vs rows next ds us → IsDiscriminant S v.discriminant explicit next tag → tag < 256 → IsNewTag tag rows → FieldsBring S ps gs (variant_type_given S ps gs x v) v.fields es ws → VariantsBring S ps gs x explicit (vs ++ v ∷ []) (rows ++ (pos tag, string_bytes v.name, variant_type_given S ps gs x v) ∷ []) (tag + 1) (ds ++ es) (us ++ ws)
 
 -- the same, whatever the next tag is
 abbrev pub SomeVariantsBring : Source → List Parameter → List Stands → List ℕ → Bool → List Variant → List (ℤ × List ℕ × List ℕ) → List Entry → List Used → Type 0
@@ -172,9 +169,9 @@ HaveNone [] = Unit {0}
 HaveNone (v ∷ vs) = (v.discriminant ≡ None) × HaveNone vs
 
 -- whether the discriminants are the tags is said, or there are none
-abbrev pub IsDecided : Option Bool → List Variant → Type 0
-IsDecided None vs = HaveNone vs
-IsDecided (Some b) vs = Unit {0}
+abbrev pub AreTagsDecided : Option Bool → List Variant → Type 0
+AreTagsDecided None vs = HaveNone vs
+AreTagsDecided (Some b) vs = Unit {0}
 
 abbrev pub is_explicit : Option Bool → Bool
 is_explicit None = false
@@ -182,9 +179,9 @@ is_explicit (Some b) = b
 
 -- what the parameters of an item stand for within it, and behind that its name, for which `Self` stands
 abbrev pub given_within : Item → Used → List Stands
-given_within item u = u.given ++ named (name_with (string_bytes item.name) u.given) ∷ []
+given_within item u = u.given ++ named (name_given (string_bytes item.name) u.given) ∷ []
 
 -- an item that is used brings its definitions, and what its types bring
 pub data Defines (S : Source) (u : Used) : List Entry → List Used → Type 0 where
-  of_struct : {item : Item} {fs : Fields} {ds : List Entry} {us : List Used} → slice_get S.items.items u.item ≡ Some item → item.kind ≡ Struct fs → FieldsBring S item.parameters.items (given_within item u) (name_with (string_bytes item.name) u.given) fs ds us → Defines S u ds us
-  of_enum : {item : Item} {d : Option Bool} {vs : Vec Variant Global} {rows : List (ℤ × List ℕ × List ℕ)} {next : ℕ} {ds : List Entry} {us : List Used} → slice_get S.items.items u.item ≡ Some item → item.kind ≡ Enum d vs → IsDecided d vs.items → VariantsBring S item.parameters.items (given_within item u) (string_bytes item.name) (is_explicit d) vs.items rows next ds us → Defines S u (ds ++ (name_with (string_bytes item.name) u.given, variants 1 rows) ∷ []) us
+  of_struct : {item : Item} {fs : Fields} {ds : List Entry} {us : List Used} → slice_get S.items.items u.item ≡ Some item → item.kind ≡ Struct fs → FieldsBring S item.parameters.items (given_within item u) (name_given (string_bytes item.name) u.given) fs ds us → Defines S u ds us
+  of_enum : {item : Item} {d : Option Bool} {vs : Vec Variant Global} {rows : List (ℤ × List ℕ × List ℕ)} {next : ℕ} {ds : List Entry} {us : List Used} → slice_get S.items.items u.item ≡ Some item → item.kind ≡ Enum d vs → AreTagsDecided d vs.items → VariantsBring S item.parameters.items (given_within item u) (string_bytes item.name) (is_explicit d) vs.items rows next ds us → Defines S u (ds ++ (name_given (string_bytes item.name) u.given, variants 1 rows) ∷ []) us

@@ -54,13 +54,13 @@ abbrev pub IsNoItem : Source → List ℕ → Type 0
 IsNoItem S x = (i : ℕ) (item : Item) → IsNamed S x i item → ⊥
 
 -- the mark of a name
-abbrev pub mark_of : {H : Type 0} → HashMap (Bor (List ℕ)) (Option ℕ) H → List ℕ → Option (Option ℕ)
-mark_of m x = get_by (λ k. bytes_eq x k.now) m
+abbrev pub index_of : {H : Type 0} → HashMap (Bor (List ℕ)) (Option ℕ) H → List ℕ → Option (Option ℕ)
+index_of m x = get_by (λ k. bytes_eq x k.now) m
 
 -- the index of a context finds each item by its name, and has no place for a name that comes twice
 pub record IsIndexed (C : Context) : Type 0 where
-  pub sound : (x : List ℕ) (i : ℕ) → mark_of C.index x ≡ Some (Some i) → (item : Item) × IsItem C.source.now x i item
-  pub complete : (x : List ℕ) → mark_of C.index x ≡ None → IsNoItem C.source.now x
+  pub sound : (x : List ℕ) (i : ℕ) → index_of C.index x ≡ Some (Some i) → (item : Item) × IsItem C.source.now x i item
+  pub complete : (x : List ℕ) → index_of C.index x ≡ None → IsNoItem C.source.now x
 
 -- the place of a name that was not there before, or none
 abbrev pub IsFirst : (List ℕ → Option (Option ℕ)) → List ℕ → ℕ → Option ℕ → Type 0

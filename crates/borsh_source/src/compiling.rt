@@ -5,7 +5,7 @@ ghost use Rattle.borsh_walks.specs.Container.{IsValid};
 ghost use Rattle.borsh_walks.specs.Definitions.{definitions_in as shapes_in};
 ghost use Rattle.borsh_walks.specs.RulesAnswer.{JudgesRules};
 ghost use Rattle.borsh_source.specs.Errors.{Answers, IsTold};
-ghost use Rattle.borsh_source.specs.Container.{IsBroken, IsMeaning, SaysFault, definitions_in};
+ghost use Rattle.borsh_source.specs.Container.{IsBroken, IsMeaning, SaysFault, definitions_so_far};
 ghost use Rattle.borsh_source.specs.Views.{IsIndexed, source_of};
 
 use crate::adding::Output;
@@ -38,7 +38,7 @@ fn collected<'b>(
     wanted: Option<&'b str>,
 ) -> Result<(Declaration, Output<'b>), CompileError>
     requires { IsIndexed context.now }
-    ensures { Answers (source_of context.now) result (λ p. IsMeaning (source_of context.now) root (string_bytes p.0) (definitions_in p.1)) }
+    ensures { Answers (source_of context.now) result (λ p. IsMeaning (source_of context.now) root (string_bytes p.0) (definitions_so_far p.1)) }
 {
     let definitions = BTreeMap::new(context.alloc);
     let uses = Vec::new(context.alloc);

@@ -1,7 +1,7 @@
 // The tree, and its items by their names.
 ghost use Rattle.std.specs.Prelude.{◌≡◌, ◌+◌, ⊤, IfOk, option_map, slice_get};
 ghost use Rattle.borsh_source.specs.Errors.{Answers, IsTold};
-ghost use Rattle.borsh_source.specs.Views.{IsFirst, IsFound, IsIndexed, mark_of, source_of};
+ghost use Rattle.borsh_source.specs.Views.{IsFirst, IsFound, IsIndexed, index_of, source_of};
 
 use crate::error::{Cause, CompileError, refused};
 use crate::tree::{Item, Place, Source};
@@ -54,7 +54,7 @@ impl<'a> Context<'a> {
 
 // The place of a name that is not there yet.
 fn first_place(index: &HashMap<&str, Option<usize>>, name: &str, at: usize) -> Option<usize>
-    ensures { IsFirst (mark_of index.now) name.now at result }
+    ensures { IsFirst (index_of index.now) name.now at result }
 {
     match index.get(name) {
         Some(_) => None,

@@ -1,5 +1,5 @@
 // Why a type of a tree has no container.
-ghost use Rattle.borsh_source.specs.Errors.{IsRefusal, IsSaid, IsTold};
+ghost use Rattle.borsh_source.specs.Errors.{IsRefusal, IsTrueCause, IsTold};
 ghost use Rattle.borsh_source.specs.declared.error.CompileError.TheVariants.{OutOfMemory};
 ghost use Rattle.borsh_source.specs.declared.tree.Source.{Source};
 ghost use Rattle.std.specs.Prelude.{◌≡◌};
@@ -73,7 +73,7 @@ impl<T: Drop> From<AllocFailed<T>> for CompileError {
 
 /// The refusal at a place, for a cause, about a name.
 pub fn refused(alloc: Global, place: Place, cause: Cause, name: &str) -> CompileError
-    ensures told { (tree : Source) → IsSaid tree name.now cause → IsTold tree result }
+    ensures told { (tree : Source) → IsTrueCause tree name.now cause → IsTold tree result }
     ensures is { IsRefusal cause name.now result }
 {
     match String::from_str(alloc, name) {

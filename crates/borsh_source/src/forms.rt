@@ -4,7 +4,7 @@ ghost use Rattle.borsh_definitions.specs.Described.{list, named, named_definitio
 ghost use Rattle.borsh_definitions.specs.Names.{following, tuple_name as name_of_tuple};
 ghost use Rattle.borsh_definitions.specs.Addresses.{octets_of};
 ghost use Rattle.borsh_definitions.specs.Types.{list_of};
-ghost use Rattle.borsh_source.specs.Forms.{Appends, Forms, definition_of_one, form, form_alone, form_applied, form_one, form_tuple, form_two, ip, ipv4, ipv6, name_of_one, name_of_two, octets, socket, socket_v4, socket_v6, tuple_of, two_variants};
+ghost use Rattle.borsh_source.specs.Forms.{Appends, Forms, address_entries, definition_of_one, either_entries, form, form_alone, form_applied, form_one, form_tuple, form_two, ip_entries, name_of_one, name_of_two, octets_entries, port_entries, socket_entries, tuple_of, variants_of_two};
 ghost use Rattle.borsh_source.specs.Views.{texts_of};
 
 use crate::formats::Kind;
@@ -158,7 +158,7 @@ fn two_variants(
     first: (u8, &str, &str),
     second: (u8, &str, &str),
 ) -> Result<Definition, AllocError>
-    ensures { IfOk result (λ d. named_definition d ≡ two_variants
+    ensures { IfOk result (λ d. named_definition d ≡ variants_of_two
         (first.entry.0, first.entry.1.now, first.entry.2.now)
         (second.entry.0, second.entry.1.now, second.entry.2.now)) }
 {
@@ -196,7 +196,7 @@ fn push(
 
 // Those of an array of so many bytes.
 fn push_octets(alloc: Global, entries: &mut Vec<Entry>, length: usize) -> Result<(), AllocError>
-    ensures { OnOk result (Appends entries.old.items entries.new.items (octets length)) }
+    ensures { OnOk result (Appends entries.old.items entries.new.items (octets_entries length)) }
 {
     let name = format!(in alloc; "[u8; {length}]")?;
     push(
@@ -216,101 +216,90 @@ fn octets_definition(alloc: Global, length: usize) -> Result<Definition, AllocEr
     one_named(alloc, "octets", name.as_str())
 }
 
-// Those of the v4 address.
-fn push_ipv4(alloc: Global, entries: &mut Vec<Entry>) -> Result<(), AllocError>
-    ensures { OnOk result (Appends entries.old.items entries.new.items ipv4) }
+// Those of an address of so many bytes.
+fn push_address(
+    alloc: Global,
+    entries: &mut Vec<Entry>,
+    name: &str,
+    length: usize,
+) -> Result<(), AllocError>
+    ensures { OnOk result (Appends entries.old.items entries.new.items
+        (address_entries name.now length)) }
 {
-    push(alloc, entries, "Ipv4Addr", octets_definition(alloc, 4)?)?;
-    push_octets(alloc, entries, 4)?;
+    push(alloc, entries, name, octets_definition(alloc, length)?)?;
+    push_octets(alloc, entries, length)?;
     Ok(())
 }
 
-// Those of the v6 address.
-fn push_ipv6(alloc: Global, entries: &mut Vec<Entry>) -> Result<(), AllocError>
-    ensures { OnOk result (Appends entries.old.items entries.new.items ipv6) }
-{
-    push(alloc, entries, "Ipv6Addr", octets_definition(alloc, 16)?)?;
-    push_octets(alloc, entries, 16)?;
-    Ok(())
-}
-
-// Those of the v4 address with a port.
-fn push_socket_v4(alloc: Global, entries: &mut Vec<Entry>) -> Result<(), AllocError>
-    ensures { OnOk result (Appends entries.old.items entries.new.items socket_v4) }
+// Those of such an address with a port.
+fn push_with_port(
+    alloc: Global,
+    entries: &mut Vec<Entry>,
+    name: &str,
+    address: &str,
+    length: usize,
+) -> Result<(), AllocError>
+    ensures { OnOk result (Appends entries.old.items entries.new.items
+        (port_entries name.now address.now length)) }
 {
     push(
         alloc,
         entries,
-        "SocketAddrV4",
-        two_named(alloc, "ip", "Ipv4Addr", "port", "u16")?,
+        name,
+        two_named(alloc, "ip", address, "port", "u16")?,
     )?;
     push(alloc, entries, "u16", Definition::Primitive(2))?;
-    push_ipv4(alloc, entries)?;
+    push_address(alloc, entries, address, length)?;
     Ok(())
 }
 
-// Those of the v6 address with a port.
-fn push_socket_v6(alloc: Global, entries: &mut Vec<Entry>) -> Result<(), AllocError>
-    ensures { OnOk result (Appends entries.old.items entries.new.items socket_v6) }
+// Those of an enum of both: the name of each variant and of what it holds.
+fn push_either(
+    alloc: Global,
+    entries: &mut Vec<Entry>,
+    name: &str,
+    v4: (&str, &str),
+    v6: (&str, &str),
+) -> Result<(), AllocError>
+    ensures { OnOk result (Appends entries.old.items entries.new.items (either_entries name.now
+        (v4.entry.0.now, v4.entry.1.now) (v6.entry.0.now, v6.entry.1.now))) }
 {
-    push(
-        alloc,
-        entries,
-        "SocketAddrV6",
-        two_named(alloc, "ip", "Ipv6Addr", "port", "u16")?,
-    )?;
-    push(alloc, entries, "u16", Definition::Primitive(2))?;
-    push_ipv6(alloc, entries)?;
+    let either = two_variants(alloc, (0, "V4", v4.0), (1, "V6", v6.0))?;
+    push(alloc, entries, name, either)?;
+    push(alloc, entries, v4.0, one_unnamed(alloc, v4.1)?)?;
+    push(alloc, entries, v6.0, one_unnamed(alloc, v6.1)?)?;
     Ok(())
 }
 
 // Those of either address.
 fn push_ip(alloc: Global, entries: &mut Vec<Entry>) -> Result<(), AllocError>
-    ensures { OnOk result (Appends entries.old.items entries.new.items ip) }
+    ensures { OnOk result (Appends entries.old.items entries.new.items ip_entries) }
 {
-    let either = two_variants(alloc, (0, "V4", "IpAddr__V4"), (1, "V6", "IpAddr__V6"))?;
-    push(alloc, entries, "IpAddr", either)?;
-    push(
+    push_either(
         alloc,
         entries,
-        "IpAddr__V4",
-        one_unnamed(alloc, "Ipv4Addr")?,
+        "IpAddr",
+        ("IpAddr__V4", "Ipv4Addr"),
+        ("IpAddr__V6", "Ipv6Addr"),
     )?;
-    push(
-        alloc,
-        entries,
-        "IpAddr__V6",
-        one_unnamed(alloc, "Ipv6Addr")?,
-    )?;
-    push_ipv4(alloc, entries)?;
-    push_ipv6(alloc, entries)?;
+    push_address(alloc, entries, "Ipv4Addr", 4)?;
+    push_address(alloc, entries, "Ipv6Addr", 16)?;
     Ok(())
 }
 
 // Those of either address with a port.
 fn push_socket(alloc: Global, entries: &mut Vec<Entry>) -> Result<(), AllocError>
-    ensures { OnOk result (Appends entries.old.items entries.new.items socket) }
+    ensures { OnOk result (Appends entries.old.items entries.new.items socket_entries) }
 {
-    let either = two_variants(
-        alloc,
-        (0, "V4", "SocketAddr__V4"),
-        (1, "V6", "SocketAddr__V6"),
-    )?;
-    push(alloc, entries, "SocketAddr", either)?;
-    push(
+    push_either(
         alloc,
         entries,
-        "SocketAddr__V4",
-        one_unnamed(alloc, "SocketAddrV4")?,
+        "SocketAddr",
+        ("SocketAddr__V4", "SocketAddrV4"),
+        ("SocketAddr__V6", "SocketAddrV6"),
     )?;
-    push(
-        alloc,
-        entries,
-        "SocketAddr__V6",
-        one_unnamed(alloc, "SocketAddrV6")?,
-    )?;
-    push_socket_v4(alloc, entries)?;
-    push_socket_v6(alloc, entries)?;
+    push_with_port(alloc, entries, "SocketAddrV4", "Ipv4Addr", 4)?;
+    push_with_port(alloc, entries, "SocketAddrV6", "Ipv6Addr", 16)?;
     Ok(())
 }
 
@@ -349,11 +338,11 @@ fn form_alone(
             Ok(Some(text(alloc, "RangeFull")?))
         }
         Kind::Ipv4Addr => {
-            push_ipv4(alloc, entries)?;
+            push_address(alloc, entries, "Ipv4Addr", 4)?;
             Ok(Some(text(alloc, stem)?))
         }
         Kind::Ipv6Addr => {
-            push_ipv6(alloc, entries)?;
+            push_address(alloc, entries, "Ipv6Addr", 16)?;
             Ok(Some(text(alloc, stem)?))
         }
         Kind::IpAddr => {
@@ -361,11 +350,11 @@ fn form_alone(
             Ok(Some(text(alloc, stem)?))
         }
         Kind::SocketAddrV4 => {
-            push_socket_v4(alloc, entries)?;
+            push_with_port(alloc, entries, "SocketAddrV4", "Ipv4Addr", 4)?;
             Ok(Some(text(alloc, stem)?))
         }
         Kind::SocketAddrV6 => {
-            push_socket_v6(alloc, entries)?;
+            push_with_port(alloc, entries, "SocketAddrV6", "Ipv6Addr", 16)?;
             Ok(Some(text(alloc, stem)?))
         }
         Kind::SocketAddr => {

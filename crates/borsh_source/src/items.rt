@@ -4,7 +4,7 @@ ghost use Rattle.borsh_definitions.specs.Described.{field_bytes, named_definitio
 ghost use Rattle.borsh_definitions.specs.Names.{beside};
 ghost use Rattle.borsh_source.specs.Container.{Brings};
 ghost use Rattle.borsh_source.specs.Errors.{Answers};
-ghost use Rattle.borsh_source.specs.Meaning.{Defines, FieldsBring, HaveNone, IsDecided, is_explicit, some_definition, IsDiscriminant, IsNewTag, SomeVariantsBring, fields_definition, kept_names, kept_types, read_given, variant_type};
+ghost use Rattle.borsh_source.specs.Meaning.{Defines, FieldsBring, HaveNone, AreTagsDecided, is_explicit, some_definition, IsDiscriminant, IsNewTag, SomeVariantsBring, fields_definition, kept_names, kept_types, read_given, variant_type_given};
 ghost use Rattle.borsh_source.specs.Views.{IsIndexed, given_in, parameters_of, source_of, stands, texts_of, unread, used as used_of};
 
 use crate::adding::{Output, add_all};
@@ -14,7 +14,7 @@ use crate::forms::{Entry, copied};
 use crate::numbers::value_of;
 use crate::reading::{fields_in, fields_name};
 use crate::tree::{Field, Fields, ItemKind, Parameter, Place, Variant};
-use crate::types::{all_named, name_with};
+use crate::types::{all_named, name_given};
 use crate::uses::{Given, Scope, Use, copy_given, given_within, outside};
 use borsh_walks::{Declaration, Definition, DiscriminantValue, FieldName, VariantName};
 use std::alloc::{AllocError, Global};
@@ -182,7 +182,7 @@ fn variant_type(
     variant: &Variant,
     left: &mut u64,
 ) -> Result<Declaration, CompileError>
-    ensures { Answers (source_of context.now) result (λ d. string_bytes d ≡ variant_type (source_of context.now)
+    ensures { Answers (source_of context.now) result (λ d. string_bytes d ≡ variant_type_given (source_of context.now)
         (parameters_of scope.entry) (given_in scope.entry) item.now variant.now) }
 {
     let name = variant.name.as_str();
@@ -197,7 +197,7 @@ fn variant_type(
         &mut given,
         left,
     )?;
-    let declared = name_with(context.alloc, whole.as_str(), given.as_slice())?;
+    let declared = name_given(context.alloc, whole.as_str(), given.as_slice())?;
     Ok(declared)
 }
 
@@ -374,7 +374,7 @@ pub fn add_item(
     let Some(item) = element(&context.source.items, used.item) else {
         return Err(nowhere(context));
     };
-    let name = name_with(context.alloc, item.name.as_str(), used.given.as_slice())?;
+    let name = name_given(context.alloc, item.name.as_str(), used.given.as_slice())?;
     let given = given_within(context.alloc, used.given.as_slice(), name.as_str())?;
     let scope = Scope {
         parameters: item.parameters.as_slice(),
@@ -410,7 +410,7 @@ pub fn add_item(
 // Whether the discriminants are the tags, if that is said, or there are none.
 fn explicit_tags(said: Option<bool>, variants: &[Variant]) -> Option<bool>
     ensures { MatchOption result ((said ≡ None) × (HaveNone variants.now → ⊥))
-        (λ b. IsDecided said variants.now × (b ≡ is_explicit said)) }
+        (λ b. AreTagsDecided said variants.now × (b ≡ is_explicit said)) }
 {
     match said {
         Some(explicit) => Some(explicit),

@@ -3,7 +3,7 @@ ghost use Rattle.std.specs.Prelude.{◌≡◌, ◌++◌, ◌∷◌, [], IfOk, On
 ghost use Rattle.borsh_source.specs.Container.{AreThese, Brings};
 ghost use Rattle.borsh_source.specs.Errors.{Answers, IsTold};
 ghost use Rattle.borsh_source.specs.Heads.{ArrayMeans, FormBrings, IsForm, IsHead, IsOther, IsPathHead, use_of};
-ghost use Rattle.borsh_source.specs.Meaning.{Gives, GivesOne, IsNumberAt, ItemMeans, Means, MeansAll, name_with, names_of};
+ghost use Rattle.borsh_source.specs.Meaning.{Gives, GivesOne, IsNumberAt, ItemMeans, Means, MeansAll, name_given, parameter_names};
 ghost use Rattle.borsh_source.specs.Views.{IsIndexed, given_in, named, parameters_of, source_of, stands, texts_of};
 
 use crate::adding::{Output, add_all, add_use};
@@ -172,7 +172,7 @@ fn add_form(
 
 // The names that parameters stand for, without numbers and what isn't read.
 fn names_given(alloc: Global, given: &[Given]) -> Result<Vec<Declaration>, AllocError>
-    ensures { IfOk result (λ ds. texts_of ds.items ≡ names_of (map stands given.now)) }
+    ensures { IfOk result (λ ds. texts_of ds.items ≡ parameter_names (map stands given.now)) }
 {
     let mut names = Vec::new(alloc);
     for given in given {
@@ -184,7 +184,7 @@ fn names_given(alloc: Global, given: &[Given]) -> Result<Vec<Declaration>, Alloc
 // The name that a parameter stands for, if it stands for a type.
 fn push_given(alloc: Global, names: &mut Vec<Declaration>, given: &Given) -> Result<(), AllocError>
     ensures { OnOk result (texts_of names.new.items
-        ≡ texts_of names.old.items ++ names_of (stands given.now ∷ [])) }
+        ≡ texts_of names.old.items ++ parameter_names (stands given.now ∷ [])) }
 {
     match given {
         Given::Named(name) => {
@@ -198,8 +198,8 @@ fn push_given(alloc: Global, names: &mut Vec<Declaration>, given: &Given) -> Res
 }
 
 /// The name of an item, or of a variant's fields, with the names that its parameters stand for.
-pub fn name_with(alloc: Global, name: &str, given: &[Given]) -> Result<Declaration, AllocError>
-    ensures { IfOk result (λ d. string_bytes d ≡ name_with name.now (map stands given.now)) }
+pub fn name_given(alloc: Global, name: &str, given: &[Given]) -> Result<Declaration, AllocError>
+    ensures { IfOk result (λ d. string_bytes d ≡ name_given name.now (map stands given.now)) }
 {
     let names = names_given(alloc, given)?;
     let mut text = String::from_str(alloc, name)?;
@@ -301,10 +301,10 @@ fn used_named(
     output: &mut Output<'_>,
 ) -> Result<Declaration, CompileError>
     ensures { let hs = map stands given.items in Answers (source_of context.now) result (λ n. (string_bytes n
-        ≡ name_with (string_bytes item.now.name) hs)
+        ≡ name_given (string_bytes item.now.name) hs)
         × Brings (AreThese [] (use_of at hs ∷ [])) output.old output.new) }
 {
-    let name = name_with(context.alloc, item.name.as_str(), given.as_slice())?;
+    let name = name_given(context.alloc, item.name.as_str(), given.as_slice())?;
     spend(context, place, name.len() as u64, &mut output.left)?;
     add_use(Use { item: at, given }, output)?;
     Ok(name)

@@ -8,9 +8,9 @@ use Rattle.borsh_walks.specs.Container.{Member}
 use Rattle.borsh_walks.specs.Definitions.{definitions_in}
 use Rattle.borsh_plan.specs.declared.plan.Plan.{Plan}
 use Rattle.borsh_plan.specs.Plan.{IsPlanOf, definitions_of, root_of}
-use Rattle.borsh_compare.specs.Walks.{Includes}
+use Rattle.borsh_compare.specs.Walks.{Includes, IsStillRead}
 
-pub included_schemas : (p q : Plan) (m n : BTreeMap (String Global) Definition) (x y : List ℕ) → IsPlanOf m x p → IsPlanOf n y q → Includes p q → (bytes : List ℕ) → Member (definitions_in m) x bytes → Member (definitions_in n) y bytes
+pub included_schemas : (p q : Plan) (m n : BTreeMap (String Global) Definition) (x y : List ℕ) → IsPlanOf m x p → IsPlanOf n y q → Includes p q → IsStillRead m x n y
 included_schemas p q m n x y old new f bytes a =
     subst (λ z. Member (definitions_in z) y bytes) new.map
     (subst (λ r. Member (definitions_of q) r bytes) new.root

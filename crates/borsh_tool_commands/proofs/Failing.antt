@@ -12,8 +12,6 @@ use Rattle.borsh_io.specs.declared.error.ErrorKind.{ErrorKind}
 use Rattle.borsh_io.specs.declared.error.ErrorKind.TheVariants.{OutOfMemory as NoRoom}
 use Rattle.borsh_definitions.specs.Codecs.{root_and_map}
 use Rattle.borsh_definitions.proofs.Laws.Own.{root_and_map-lawful}
-use Rattle.borsh_schema.specs.Codecs.{container}
-use Rattle.borsh_schema.specs.declared.container.BorshSchemaContainer.{BorshSchemaContainer}
 use Rattle.borsh_plan.specs.Plan.{IsPlanOf, definitions_of, map_of, root_of}
 use Rattle.borsh_json.specs.declared.error.JsonError.{JsonError}
 use Rattle.borsh_json.specs.Errors.{IsNoRowsReason}
@@ -59,13 +57,6 @@ reasoned Reason e same reason other = (e, subst (λ (r : List ℕ). Reason r e) 
 pub none_decoded : (bytes : List ℕ) (kind : ErrorKind) → WhyNotDecoded root_and_map true bytes kind → (kind ≡ NoRoom → ⊥) → IsContainer bytes → ⊥
 none_decoded bytes kind (malformed k none) other is = none ((is.0.root, is.0.definitions), root_and_map-lawful.round_trip true (is.0.root, is.0.definitions) bytes is.1)
 none_decoded bytes kind (no_memory k a) other is = absurd (other k)
-
--- the same of the container of `borsh_schema`
-pub no_own_decoded : (bytes : List ℕ) (kind : ErrorKind) → WhyNotDecoded container true bytes kind → (kind ≡ NoRoom → ⊥) → IsContainer bytes → ⊥
-no_own_decoded bytes kind (malformed k none) other is =
-    let c : BorshSchemaContainer = record { declaration = is.0.root; definitions = is.0.definitions } in
-    none (c, root_and_map-lawful.round_trip true (is.0.root, is.0.definitions) bytes is.1)
-no_own_decoded bytes kind (no_memory k a) other is = absurd (other k)
 
 no_fault : CountedUp 0 0 → ⊥
 no_fault r = let one : 0 ≡ 0 + 1 = r.0 (omega arith) in omega arith

@@ -5,10 +5,11 @@ use Rattle.std.proofs.KnownBytes.{Consumes-nil, Consumes-trans}
 use Rattle.std.proofs.Math.Seq.{take-add, take-append_seam}
 use Rattle.std.proofs.lemmas.List.{get_or-take, take_more, take_all, drop_all}
 use Rattle.std.proofs.lemmas.List.Elements.{All-append, All-from_get_or, All-nil, All-same}
+use Rattle.borsh_io.specs.Lines.{IsLine}
 use Rattle.borsh_io.specs.Stream.{ReaderState}
-use Rattle.borsh_values.specs.Records.{ReadsMore, TakesHeld, held, piece, reader_of}
-use Rattle.borsh_values.specs.declared.buffered.Buffered.{Buffered}
-use Rattle.borsh_tool_commands.specs.Lines.{HasNoFeed, IsFirstLine, NextLine}
+use Rattle.borsh_io.specs.Buffered.{ReadsMore, TakesHeld, held, piece, reader_of}
+use Rattle.borsh_io.specs.declared.buffered.Buffered.{Buffered}
+use Rattle.borsh_tool_commands.specs.Lines.{IsFirstLine, NextLine}
 
 empty : (xs : List ℕ) → length xs ≡ 0 → xs ≡ []
 empty [] h = refl
@@ -17,12 +18,12 @@ empty (x ∷ xs) h = absurd (omega arith)
 -- ---- a line in bytes
 
 -- the first line feed stands n bytes behind the first s bytes, which have none
-pub line-at : (xs : List ℕ) (s n : ℕ) → HasNoFeed (take s xs) → n < length (drop s xs) → ((k : ℕ) → k < n → get_or (drop s xs) k 0 ≢ 10) → get_or (drop s xs) n 0 ≡ 10
+pub line-at : (xs : List ℕ) (s n : ℕ) → IsLine (take s xs) → n < length (drop s xs) → ((k : ℕ) → k < n → get_or (drop s xs) k 0 ≢ 10) → get_or (drop s xs) n 0 ≡ 10
     → (p left : List ℕ) → p ≡ take (s + n + 1) xs → left ≡ drop (s + n + 1) xs → (more : List ℕ) → IsFirstLine p (xs ++ more) (left ++ more)
 line-at xs s n front within before at p left is rest more =
     let ys = drop s xs in
     let text = take s xs ++ take n ys in
-    let bare : HasNoFeed (take n ys) = All-from_get_or (λ b. b ≢ 10) (take n ys) 0 (λ k h e. before k (omega (arith, h, length-take n ys)) (sym (get_or-take n ys k 0 (omega (arith, h, length-take n ys))) ∙ e)) in
+    let bare : IsLine (take n ys) = All-from_get_or (λ b. b ≢ 10) (take n ys) 0 (λ k h e. before k (omega (arith, h, length-take n ys)) (sym (get_or-take n ys k 0 (omega (arith, h, length-take n ys))) ∙ e)) in
     let sum : s + n + 1 ≡ s + (n + 1) = omega arith in
     let line : take (s + n + 1) xs ≡ text ++ 10 ∷ [] =
     ap (λ k. take k xs) sum ∙ take-add s (n + 1) xs ∙ ap (λ l. take s xs ++ l) (take_more ys n 0 within ∙ ap (λ b. take n ys ++ b ∷ []) at) ∙ sym (append_assoc (take s xs) (take n ys) (10 ∷ [])) in
@@ -34,13 +35,13 @@ line-at xs s n front within before at p left is rest more =
     }
 
 -- there is none
-pub no-feed : (xs : List ℕ) (s n : ℕ) → HasNoFeed (take s xs) → n ≡ length (drop s xs) → ((k : ℕ) → k < n → get_or (drop s xs) k 0 ≢ 10) → HasNoFeed xs
+pub no-feed : (xs : List ℕ) (s n : ℕ) → IsLine (take s xs) → n ≡ length (drop s xs) → ((k : ℕ) → k < n → get_or (drop s xs) k 0 ≢ 10) → IsLine xs
 no-feed xs s n front all before =
     All-same (λ b. b ≢ 10) xs (take s xs ++ drop s xs) (sym (take-append-drop s xs))
     (All-append (λ b. b ≢ 10) (take s xs) (drop s xs) front (All-from_get_or (λ b. b ≢ 10) (drop s xs) 0 (λ k h. before k (omega (arith, h)))))
 
 -- the last line has no line feed
-last-line : (X p bytes left more : List ℕ) → HasNoFeed X → 0 < length X → bytes ≡ X → p ≡ X → left ≡ [] → more ≡ [] → IsFirstLine p (bytes ++ more) (left ++ more)
+last-line : (X p bytes left more : List ℕ) → IsLine X → 0 < length X → bytes ≡ X → p ≡ X → left ≡ [] → more ≡ [] → IsFirstLine p (bytes ++ more) (left ++ more)
 last-line X p bytes left more whole some b e l m = record {
   text = X;
   whole = whole;
@@ -57,7 +58,7 @@ module _ {R : Type 0} (state : R → ReaderState) where
     pub kept : held new ≡ held old ++ read
     pub taken : Consumes (state (reader_of old)).bytes (state (reader_of new)).bytes read
     pub within : searched ≤ length (held new)
-    pub none : HasNoFeed (take searched (held new))
+    pub none : IsLine (take searched (held new))
 
   pub reading-begins : (b : Buffered R) → ReadSoFar b b 0
   reading-begins b = record { read = []; kept = sym (append-nil (held b)); taken = Consumes-nil _; within = omega arith; none = All-nil (λ b. b ≢ 10) }
@@ -72,7 +73,7 @@ module _ {R : Type 0} (state : R → ReaderState) where
   }
 
   -- no line was found, and more was read
-  pub reading-on : (old now new : Buffered R) (searched s n : ℕ) → ReadSoFar old now searched → HasNoFeed (held now) → s ≡ length (held now) → ReadsMore state now new (Ok n) → ReadSoFar old new s
+  pub reading-on : (old now new : Buffered R) (searched s n : ℕ) → ReadSoFar old now searched → IsLine (held now) → s ≡ length (held now) → ReadsMore state now new (Ok n) → ReadSoFar old new s
   reading-on old now new searched s n r none e m = record {
     read = r.read ++ m.read;
     kept = m.held ∙ ap (λ l. l ++ m.read) r.kept ∙ append_assoc (held old) r.read m.read;
@@ -82,7 +83,7 @@ module _ {R : Type 0} (state : R → ReaderState) where
   }
 
   -- the reader is at its end, and all that is held is the last line, or there is none
-  pub reading-ends : (old now read new : Buffered R) (searched s : ℕ) (found : Bool) → ReadSoFar old now searched → HasNoFeed (held now) → s ≡ length (held now) → ReadsMore state now read (Ok 0) → TakesHeld read new s
+  pub reading-ends : (old now read new : Buffered R) (searched s : ℕ) (found : Bool) → ReadSoFar old now searched → IsLine (held now) → s ≡ length (held now) → ReadsMore state now read (Ok 0) → TakesHeld read new s
       → (found ≡ true → 0 < s) → (found ≡ false → s ≡ 0) → NextLine state old new found
   reading-ends old now read new searched s found r none e m t if_some if_none =
       let nothing : m.read ≡ [] = empty m.read (sym m.number) in

@@ -10,7 +10,8 @@ use Rattle.borsh_io.specs.Sink.{WriterModel, WriterLaws}
 use Rattle.borsh_io.specs.Stream.{ReaderState}
 use Rattle.borsh_walks.specs.Container.{Shape}
 use Rattle.borsh_values.specs.Membership.{HasNoFront}
-use Rattle.borsh_values.specs.Records.{IsFirst, Advances, IsRecordError, IsUnread, ahead, source_of, value_of}
+use Rattle.borsh_io.specs.Buffered.{IsUnread}
+use Rattle.borsh_values.specs.Records.{IsFirst, Advances, IsRecordError, ahead, source_of, value_of}
 use Rattle.borsh_values.specs.declared.faults.Fault.{Fault}
 use Rattle.borsh_plan.specs.declared.plan.Plan.{Plan}
 use Rattle.borsh_values.specs.declared.records.Records.{Records}
@@ -27,9 +28,9 @@ use Rattle.borsh_tool_commands.specs.Failures.{IsStop}
 use Rattle.borsh_tool_commands.specs.Lines.{IsFirstLine}
 use Rattle.borsh_plan.specs.Plan.{definitions_of, root_of}
 use Rattle.borsh_tool_commands.specs.Answers.{line_of}
-use Rattle.borsh_tool_commands.specs.Many.{AnswersEach, AnswersMany, AreAnswers, BeginWith, BeginsNone, FailsBy, IsCount, IsEnded, IsUncounted, IsUnwritten, IsWriteFailure, Flushes, LongNext, NoneNext, HasNoAnswer, StopsAtLine, StopsAtValue, Writes, count_text, most_bytes, rest_of}
+use Rattle.borsh_tool_commands.specs.Many.{AnswersEach, AnswersMany, AreAnswers, BeginWith, NoValueBegins, FailsBy, IsCount, IsEnded, IsUncounted, IsUnwritten, IsWriteFailure, WritesMade, LongNext, NoneNext, HasNoAnswer, StopsAtLine, StopsAtValue, WritesAnswers, count_text, most_bytes, rest_of}
 use Rattle.borsh_tool_commands.specs.Printed.{printed}
-use Rattle.borsh_tool_commands.specs.declared.answers.Answer.{Answer}
+use Rattle.borsh_tool_commands.specs.declared.answers.TextAnswer.{TextAnswer}
 use Rattle.borsh_tool_commands.specs.Many.IsCount.{counted, stopped}
 
 answers-more : (P : List ℕ → List ℕ → Type 0) (vs : List (List ℕ)) (out v text : List ℕ) → AreAnswers P vs out → P v text → AreAnswers P (vs ++ (v ∷ [])) (out ++ text)
@@ -43,7 +44,7 @@ begin-more F (q ∷ ps) xs left p more b h = (b.0, b.1, begin-more F ps b.0 left
 -- ---- what a flush did
 
 -- nothing, where nothing more was made
-pub not-flushed : {W A : Type 0} {w : WriterModel W} (laws : WriterLaws W w) (a : W) {made after : List ℕ} (r : Result A Failure) → after ≡ made → Flushes w a a made after r
+pub not-flushed : {W A : Type 0} {w : WriterModel W} (laws : WriterLaws W w) (a : W) {made after : List ℕ} (r : Result A Failure) → after ≡ made → WritesMade w a a made after r
 not-flushed laws a r e = record { written = []; lost = []; wrote = laws.none a; split = sym e; whole = inl refl }
 
 nothing-left : (xs ys : List ℕ) → [] ≡ xs ++ ys → xs ≡ []
@@ -52,7 +53,7 @@ nothing-left (x ∷ xs) ys e = absurd (cc)
 
 module _ {W : Type 0} {w : WriterModel W} (laws : WriterLaws W w) (P : List ℕ → Result Bool Failure → Type 0) where
   -- the writer's bytes after a flush, whatever comes of it
-  pub flushed : {A : Type 0} {a b c : W} {made after : List ℕ} (r : Result A Failure) (q : Result Bool Failure) (written : List ℕ) → w.wrote a b written → Flushes w b c made after r → P (written ++ made) q → (IsUnwritten r → IsUnwritten q) → Writes P w a c after q
+  pub flushed : {A : Type 0} {a b c : W} {made after : List ℕ} (r : Result A Failure) (q : Result Bool Failure) (written : List ℕ) → w.wrote a b written → WritesMade w b c made after r → P (written ++ made) q → (IsUnwritten r → IsUnwritten q) → WritesAnswers P w a c after q
   flushed {a = a} {b = b} {c = c} {made = made} {after = after} r q written wrote f p g = record {
     written = written ++ f.written;
     lost = f.lost;
@@ -62,8 +63,8 @@ module _ {W : Type 0} {w : WriterModel W} (laws : WriterLaws W w) (P : List ℕ 
   }
 
   -- what was kept at the end is written
-  pub finished : {B : Type 0} {a b c : W} {made after : List ℕ} (r : Result Bool Failure) (f : Result B Failure) (q : Result Bool Failure) → Writes P w a b made r → Flushes w b c made after f → after ≡ []
-      → (IsUnwritten f → IsUnwritten q) → (IsUnwritten r → IsUnwritten q) → ((out : List ℕ) → P out r → P out q) → Writes P w a c after q
+  pub finished : {B : Type 0} {a b c : W} {made after : List ℕ} (r : Result Bool Failure) (f : Result B Failure) (q : Result Bool Failure) → WritesAnswers P w a b made r → WritesMade w b c made after f → after ≡ []
+      → (IsUnwritten f → IsUnwritten q) → (IsUnwritten r → IsUnwritten q) → ((out : List ℕ) → P out r → P out q) → WritesAnswers P w a c after q
   finished {a = a} {b = b} {c = c} {made = made} {after = after} r f q d x none g h k =
       elim d.whole [
         | inl e ↦ flushed f q d.written d.wrote x (k (d.written ++ made) (subst (λ l. P (d.written ++ (l ++ made)) r) e d.output)) g
@@ -77,10 +78,10 @@ module _ {W : Type 0} {w : WriterModel W} (laws : WriterLaws W w) (P : List ℕ 
       ]
 
   -- nothing was written, and all that was made is kept
-  pub only-made : (a : W) (made : List ℕ) (r : Result Bool Failure) → P made r → Writes P w a a made r
+  pub only-made : (a : W) (made : List ℕ) (r : Result Bool Failure) → P made r → WritesAnswers P w a a made r
   only-made a made r p = record { written = []; lost = []; wrote = laws.none a; output = p; whole = inl refl }
 
-pub writes-as : {W : Type 0} {w : WriterModel W} {P Q : List ℕ → Result Bool Failure → Type 0} {a b : W} {made : List ℕ} {r : Result Bool Failure} → Writes P w a b made r → ((out : List ℕ) → P out r → Q out r) → Writes Q w a b made r
+pub writes-as : {W : Type 0} {w : WriterModel W} {P Q : List ℕ → Result Bool Failure → Type 0} {a b : W} {made : List ℕ} {r : Result Bool Failure} → WritesAnswers P w a b made r → ((out : List ℕ) → P out r → Q out r) → WritesAnswers Q w a b made r
 writes-as d k = record { written = d.written; lost = d.lost; wrote = d.wrote; output = k _ d.output; whole = d.whole }
 
 -- what holds without a result holds with one
@@ -145,7 +146,7 @@ module _ {W : Type 0} {w : WriterModel W} (laws : WriterLaws W w) (F : List ℕ 
       subst (λ k. SoFar F P w bytes k ahead a a made) (sym n) (subst (λ k. SoFar F P w bytes bytes k a a made) (sym e) (subst (λ k. SoFar F P w bytes bytes [] a a k) (sym m) (begins a)))
 
   -- nothing is lost by a flush before a success
-  pub goes_on : {A : Type 0} {now : Option (List ℕ)} {ahead : List ℕ} {a b c : W} {made kept : List ℕ} (v : A) → SoFar F P w bytes now ahead a b made → Flushes w b c made kept (Ok v) → SoFar F P w bytes now ahead a c kept
+  pub goes_on : {A : Type 0} {now : Option (List ℕ)} {ahead : List ℕ} {a b c : W} {made kept : List ℕ} (v : A) → SoFar F P w bytes now ahead a b made → WritesMade w b c made kept (Ok v) → SoFar F P w bytes now ahead a c kept
   goes_on {a = a} {b = b} {c = c} {made = made} {kept = kept} v s f = record {
     pieces = s.pieces;
     written = s.written ++ f.written;
@@ -170,8 +171,8 @@ module _ {W : Type 0} {w : WriterModel W} (laws : WriterLaws W w) (F : List ℕ 
 
 module _ {W : Type 0} {w : WriterModel W} (laws : WriterLaws W w) (F : List ℕ → List ℕ → List ℕ → Type 0) (P : List ℕ → List ℕ → Type 0) (S : List ℕ → Failure → Type 0) (bytes : Option (List ℕ)) where
   -- the run stops by a failure, after more was read and a flush or none
-  pub stops : {A : Type 0} {now : Option (List ℕ)} {ahead : List ℕ} {a b c : W} {made kept : List ℕ} (r : Result A Failure) (x : Failure) (new : Option (List ℕ)) (read : List ℕ) → SoFar F P w bytes now ahead a b made → Consumes now new read → Flushes w b c made kept r
-      → (IsUnwritten r → IsWriteFailure x) → S ((ahead ++ read) ++ rest_of new) x → Writes (AnswersEach F P S bytes) w a c kept (Err x)
+  pub stops : {A : Type 0} {now : Option (List ℕ)} {ahead : List ℕ} {a b c : W} {made kept : List ℕ} (r : Result A Failure) (x : Failure) (new : Option (List ℕ)) (read : List ℕ) → SoFar F P w bytes now ahead a b made → Consumes now new read → WritesMade w b c made kept r
+      → (IsUnwritten r → IsWriteFailure x) → S ((ahead ++ read) ++ rest_of new) x → WritesAnswers (AnswersEach F P S bytes) w a c kept (Err x)
   stops {now = now} {ahead = ahead} r x new read s t f g h =
       flushed laws (AnswersEach F P S bytes) r (Err x) s.written s.wrote f (record {
         pieces = s.pieces;
@@ -183,17 +184,17 @@ module _ {W : Type 0} {w : WriterModel W} (laws : WriterLaws W w) (F : List ℕ 
       }) g
 
   -- for a reason that needs no bytes
-  pub stops-anyhow : {A : Type 0} {now : Option (List ℕ)} {ahead : List ℕ} {a b c : W} {made kept : List ℕ} (r : Result A Failure) (x : Failure) → SoFar F P w bytes now ahead a b made → Flushes w b c made kept r → (IsUnwritten r → IsWriteFailure x) → ((left : List ℕ) → S left x)
-      → Writes (AnswersEach F P S bytes) w a c kept (Err x)
+  pub stops-anyhow : {A : Type 0} {now : Option (List ℕ)} {ahead : List ℕ} {a b c : W} {made kept : List ℕ} (r : Result A Failure) (x : Failure) → SoFar F P w bytes now ahead a b made → WritesMade w b c made kept r → (IsUnwritten r → IsWriteFailure x) → ((left : List ℕ) → S left x)
+      → WritesAnswers (AnswersEach F P S bytes) w a c kept (Err x)
   stops-anyhow {now = now} {ahead = ahead} r x s f g h = stops r x now [] s (Consumes-nil now) f g (h ((ahead ++ []) ++ rest_of now))
 
   -- nothing was read or made
-  pub stops-first : (a : W) (made : List ℕ) (x : Failure) → made ≡ [] → ((left : List ℕ) → S left x) → Writes (AnswersEach F P S bytes) w a a made (Err x)
-  stops-first a made x e h = subst (λ m. Writes (AnswersEach F P S bytes) w a a m (Err x)) (sym e) (stops-anyhow {A = Bool} (Err x) x (begins laws F P bytes a) (not-flushed laws a {made = []} {after = []} (Err x) refl) (λ u. u) h)
+  pub stops-first : (a : W) (made : List ℕ) (x : Failure) → made ≡ [] → ((left : List ℕ) → S left x) → WritesAnswers (AnswersEach F P S bytes) w a a made (Err x)
+  stops-first a made x e h = subst (λ m. WritesAnswers (AnswersEach F P S bytes) w a a m (Err x)) (sym e) (stops-anyhow {A = Bool} (Err x) x (begins laws F P bytes a) (not-flushed laws a {made = []} {after = []} (Err x) refl) (λ u. u) h)
 
   -- all is answered
-  pub ends : {A : Type 0} {now : Option (List ℕ)} {ahead : List ℕ} {a b c : W} {made kept : List ℕ} (v : A) (new : Option (List ℕ)) (read : List ℕ) → SoFar F P w bytes now ahead a b made → Consumes now new read → ahead ++ read ≡ [] → IsAtEnd new → Flushes w b c made kept (Ok v)
-      → Writes (AnswersEach F P S bytes) w a c kept (Ok true)
+  pub ends : {A : Type 0} {now : Option (List ℕ)} {ahead : List ℕ} {a b c : W} {made kept : List ℕ} (v : A) (new : Option (List ℕ)) (read : List ℕ) → SoFar F P w bytes now ahead a b made → Consumes now new read → ahead ++ read ≡ [] → IsAtEnd new → WritesMade w b c made kept (Ok v)
+      → WritesAnswers (AnswersEach F P S bytes) w a c kept (Ok true)
   ends {now = now} {ahead = ahead} v new read s c e h f =
       let first = ahead-ends F bytes new (ahead ++ read) s.pieces (ahead-read F bytes now new ahead read s.pieces s.taken c) e h in
       flushed laws (AnswersEach F P S bytes) (Ok v) (Ok true) s.written s.wrote f (record { pieces = s.pieces; left = []; answers = s.answers; first = first; all = (refl, refl); stops = tt }) (λ u. u)
@@ -214,8 +215,8 @@ known-line (Some xs) (Some ys) ahead p left ps i f = f ys refl
 
 module _ {W : Type 0} {w : WriterModel W} (laws : WriterLaws W w) (P : List ℕ → List ℕ → Type 0) (unread : Error → Type 0) (path : List ℕ) (l : Plan) (bytes : Option (List ℕ)) (before after : ReaderState) {ahead : List ℕ} where
   module _ (wanted : Wanted) (lenient : Bool) (other : Type 0) where
-    pub line-stops : {A : Type 0} {a b c : W} {made kept : List ℕ} (r : Result A Failure) (x : Failure) → SoFar IsFirstLine P w bytes before.bytes ahead a b made → IsStop path unread ⊥ (LongNext before after ahead) x → Flushes w b c made kept r → (IsUnwritten r → IsWriteFailure x)
-        → Writes (AnswersEach IsFirstLine P (StopsAtLine unread path l wanted lenient other bytes) bytes) w a c kept (Err x)
+    pub line-stops : {A : Type 0} {a b c : W} {made kept : List ℕ} (r : Result A Failure) (x : Failure) → SoFar IsFirstLine P w bytes before.bytes ahead a b made → IsStop path unread ⊥ (LongNext before after ahead) x → WritesMade w b c made kept r → (IsUnwritten r → IsWriteFailure x)
+        → WritesAnswers (AnswersEach IsFirstLine P (StopsAtLine unread path l wanted lenient other bytes) bytes) w a c kept (Err x)
     line-stops r NoCommand s h f g = absurd h
     line-stops r (Unreadable p e) s h f g = absurd h
     line-stops r (NotHexadecimal p e) s h f g = absurd h
@@ -233,8 +234,8 @@ module _ {W : Type 0} {w : WriterModel W} (laws : WriterLaws W w) (P : List ℕ 
 
     -- the first line has no answer
     pub first-line-stops : {A : Type 0} {a b c : W} {made kept : List ℕ} (r : Result A Failure) (x : Failure) (p left read : List ℕ) → SoFar IsFirstLine P w bytes before.bytes ahead a b made → Consumes before.bytes after.bytes read
-        → ((more : List ℕ) → after.bytes ≡ Some more → IsFirstLine p ((ahead ++ read) ++ more) (left ++ more)) → IsStop path (λ _. ⊥) (HasNoAnswer l wanted lenient p) ⊥ x → Flushes w b c made kept r → (IsUnwritten r → IsWriteFailure x)
-        → Writes (AnswersEach IsFirstLine P (StopsAtLine unread path l wanted lenient other bytes) bytes) w a c kept (Err x)
+        → ((more : List ℕ) → after.bytes ≡ Some more → IsFirstLine p ((ahead ++ read) ++ more) (left ++ more)) → IsStop path (λ _. ⊥) (HasNoAnswer l wanted lenient p) ⊥ x → WritesMade w b c made kept r → (IsUnwritten r → IsWriteFailure x)
+        → WritesAnswers (AnswersEach IsFirstLine P (StopsAtLine unread path l wanted lenient other bytes) bytes) w a c kept (Err x)
     first-line-stops r NoCommand p left read s t f k h g = absurd k
     first-line-stops r (Unreadable q e) p left read s t f k h g = absurd k
     first-line-stops r (NotHexadecimal q e) p left read s t f k h g = absurd k
@@ -250,8 +251,8 @@ module _ {W : Type 0} {w : WriterModel W} (laws : WriterLaws W w) (P : List ℕ 
     first-line-stops r (NotType q y) p left read s t f k h g = absurd k
     first-line-stops r OutOfMemory p left read s t f k h g = stops-anyhow laws IsFirstLine P (StopsAtLine unread path l wanted lenient other bytes) bytes r OutOfMemory s h g (λ left. tt)
 
-  pub value-stops : {A : Type 0} {a b c : W} {made kept : List ℕ} (r : Result A Failure) (x : Failure) → SoFar (IsFirst (definitions_of l) (root_of l)) P w bytes before.bytes ahead a b made → IsStop path unread (NoneNext (definitions_of l) (root_of l) before after ahead) ⊥ x → Flushes w b c made kept r → (IsUnwritten r → IsWriteFailure x)
-      → Writes (AnswersEach (IsFirst (definitions_of l) (root_of l)) P (StopsAtValue unread path l) bytes) w a c kept (Err x)
+  pub value-stops : {A : Type 0} {a b c : W} {made kept : List ℕ} (r : Result A Failure) (x : Failure) → SoFar (IsFirst (definitions_of l) (root_of l)) P w bytes before.bytes ahead a b made → IsStop path unread (NoneNext (definitions_of l) (root_of l) before after ahead) ⊥ x → WritesMade w b c made kept r → (IsUnwritten r → IsWriteFailure x)
+      → WritesAnswers (AnswersEach (IsFirst (definitions_of l) (root_of l)) P (StopsAtValue unread path l) bytes) w a c kept (Err x)
   value-stops r NoCommand s h f g = absurd h
   value-stops r (Unreadable p e) s h f g = absurd h
   value-stops r (NotHexadecimal p e) s h f g = absurd h
@@ -305,7 +306,7 @@ module _ (C : List ℕ → Option Shape) (root : List ℕ) (bytes : Option (List
         counted s.values (ahead-ends (IsFirst C root) bytes (state (source_of new)).bytes (ahead old ++ a.read) s.values (now-ahead a.read a.lost.bytes) none.0 none.1) t.0 (t.1 ∙ ap (λ k. line_of (count_text k)) (sym s.number))
 
     -- none begins the bytes that are ahead and those that the reader has left
-    stops-there : {yes : Bool} {out : List ℕ} (now : Option (List ℕ)) (ahead : List ℕ) → IsAhead (IsFirst C root) bytes now ahead s.values → BeginsNone C root (ahead ++ rest_of now) → (yes ≡ false) × ((why : List ℕ) × (out ≡ line_of (codes "no member: " ++ why))) → IsCount C root bytes yes out
+    stops-there : {yes : Bool} {out : List ℕ} (now : Option (List ℕ)) (ahead : List ℕ) → IsAhead (IsFirst C root) bytes now ahead s.values → NoValueBegins C root (ahead ++ rest_of now) → (yes ≡ false) × ((why : List ℕ) × (out ≡ line_of (codes "no member: " ++ why))) → IsCount C root bytes yes out
     stops-there now ahead i b t = stopped s.values (ahead ++ rest_of now) t.1.0 (left-of (IsFirst C root) bytes now ahead s.values i) b t.0 t.1.1
 
     pub count-none : {yes : Bool} {out : List ℕ} (o : ℕ) (f : Fault) → Advances C root state old new (Err (NoMember o f)) → (yes ≡ false) × ((why : List ℕ) × (out ≡ line_of (codes "no member: " ++ why))) → IsCount C root bytes yes out
@@ -324,10 +325,10 @@ module _ (C : List ℕ → Option Shape) (root : List ℕ) (bytes : Option (List
         let now = (state (source_of new)).bytes in
         let h = a.goes.error in
         stops-there now X (now-ahead a.read a.lost.bytes)
-        (subst (BeginsNone C root) (sym (ap (λ l. X ++ l) (none-left now h.3) ∙ append-nil X)) (h.1.none, λ e. absurd (h.2 e))) t
+        (subst (NoValueBegins C root) (sym (ap (λ l. X ++ l) (none-left now h.3) ∙ append-nil X)) (h.1.none, λ e. absurd (h.2 e))) t
 
     -- the answer where the bytes stop being values
-    pub count-ended : (path : List ℕ) (e : RecordError) (r : Result Answer Failure) → Advances C root state old new (Err e) → IsEnded path e r → IfOk r (λ a. IsCount C root bytes a.is_yes (printed a.text))
+    pub count-ended : (path : List ℕ) (e : RecordError) (r : Result TextAnswer Failure) → Advances C root state old new (Err e) → IsEnded path e r → IfOk r (λ a. IsCount C root bytes a.is_yes (printed a.text))
     count-ended path (NoMember o f) (Ok v) a h = count-none o f a (h.1, h.2)
     count-ended path (CutShort o f) (Ok v) a h = count-short o f a (h.1, h.2)
     count-ended path (TooLong o) (Ok v) a h = absurd h.0
@@ -338,7 +339,7 @@ module _ (C : List ℕ → Option Shape) (root : List ℕ) (bytes : Option (List
     count-ended path e (Err x) a h = tt
 
     -- and why there is none
-    pub count-fails : (path : List ℕ) (e : RecordError) (r : Result Answer Failure) → old.limit ≡ most_bytes → Advances C root state old new (Err e) → IsEnded path e r
+    pub count-fails : (path : List ℕ) (e : RecordError) (r : Result TextAnswer Failure) → old.limit ≡ most_bytes → Advances C root state old new (Err e) → IsEnded path e r
         → IfErr r (IsStop path (FailsBy state) ((values : List (List ℕ)) × (left : List ℕ) × IfSome bytes (λ xs. BeginWith (IsFirst C root) values xs left) × IsUncounted C root left) ⊥)
     count-fails path e (Ok v) k a h = tt
     count-fails path e (Err x) k a h =

@@ -4,7 +4,7 @@ use Rattle.std.specs.Prelude.{Option, OnOk, OnErr, IfErr, ◌⊎◌}
 use Rattle.borsh_walks.specs.Container.{Shape}
 use Rattle.borsh_io.specs.Sink.{WriterModel, WriterLaws}
 use Rattle.borsh_tool_commands.specs.Colored.{IsShowFailure, Paints}
-use Rattle.borsh_tool_commands.specs.Many.{Flushes, IsUnwritten}
+use Rattle.borsh_tool_commands.specs.Many.{WritesMade, IsUnwritten}
 use Rattle.borsh_tool_commands.specs.declared.failure.Failure.{Failure}
 use Rattle.std.specs.List.{All, AllByRecursion}
 use Rattle.std.proofs.lemmas.List.Elements.{recursion_from_All}
@@ -60,7 +60,7 @@ module _ {W : Type 0} {w : WriterModel W} (laws : WriterLaws W w) {colored : Boo
   painted_start a = ([], laws.none a, of_nothing colored)
 
   -- a text is written, of which some may be lost
-  pub painted_last : {A B : Type 0} {a b c : W} {made : List ℕ} (f : Result A Failure) (r : Result B Failure) → PaintedSoFar w colored a b → IsPainted colored made → Flushes w b c made [] f → (IsUnwritten f → IsUnwritten r) → Paints w colored a c r
+  pub painted_last : {A B : Type 0} {a b c : W} {made : List ℕ} (f : Result A Failure) (r : Result B Failure) → PaintedSoFar w colored a b → IsPainted colored made → WritesMade w b c made [] f → (IsUnwritten f → IsUnwritten r) → Paints w colored a c r
   painted_last {a = a} {b = b} {c = c} {made = made} f r p m x u =
       let e : p.0 ++ made ≡ (p.0 ++ x.written) ++ x.lost = ap (λ l. p.0 ++ l) (x.split ∙ ap (λ l. x.written ++ l) (append-nil x.lost)) ∙ sym (append_assoc p.0 x.written x.lost) in
       record { written = p.0 ++ x.written; lost = x.lost; wrote = laws.more a b c p.0 x.written p.1 x.wrote; painted = subst (λ l. IsPainted colored l) e (joined p.2 m); whole = ended r x.lost u x.whole }
@@ -71,7 +71,7 @@ module _ {W : Type 0} {w : WriterModel W} (laws : WriterLaws W w) {colored : Boo
       ended (Err z) lost u h = tt
 
   -- and the run goes on
-  pub painted_on : {A : Type 0} {a b c : W} {made : List ℕ} (v : A) → PaintedSoFar w colored a b → IsPainted colored made → Flushes w b c made [] (Ok v) → PaintedSoFar w colored a c
+  pub painted_on : {A : Type 0} {a b c : W} {made : List ℕ} (v : A) → PaintedSoFar w colored a b → IsPainted colored made → WritesMade w b c made [] (Ok v) → PaintedSoFar w colored a c
   painted_on {a = a} {b = b} {c = c} {made = made} v p m x =
       let none : x.lost ≡ [] = elim x.whole [ inl e ↦ e | inr h ↦ absurd h.0 ] in
       let e : made ≡ x.written = x.split ∙ ap (λ l. x.written ++ (l ++ [])) none ∙ append-nil x.written in

@@ -3,7 +3,7 @@ use Rattle.std.proofs.Common.{◌≡◌, ◌∙◌, ℕ, inl, inr, List, [], ◌
 use Rattle.borsh_io.specs.Sink.{WriterModel, WriterLaws}
 use Rattle.borsh_tool_commands.specs.declared.failure.Failure.{Failure}
 use Rattle.borsh_tool_commands.specs.declared.replies.Reply.{Reply}
-use Rattle.borsh_tool_commands.specs.Many.{Flushes, IsWriteFailure}
+use Rattle.borsh_tool_commands.specs.Many.{WritesMade, IsWriteFailure}
 use Rattle.borsh_tool_commands.specs.Replies.{IsReplyOf, Never, Prints}
 
 module _ {W : Type 0} {w : WriterModel W} (IsReply : Bool → List ℕ → Type 0) (IsNone : Failure → Type 0) where
@@ -12,14 +12,14 @@ module _ {W : Type 0} {w : WriterModel W} (IsReply : Bool → List ℕ → Type 
   prints-none laws a x n = record { written = []; wrote = laws.none a; whole = tt; none = inr (refl, n) }
 
   -- all of it was
-  pub prints-whole : {A : Type 0} {a b : W} {made after : List ℕ} (v : A) (is_yes : Bool) → IsReply is_yes made → Flushes w a b made after (Ok v) → after ≡ [] → Prints IsReply IsNone w a b (Ok is_yes)
+  pub prints-whole : {A : Type 0} {a b : W} {made after : List ℕ} (v : A) (is_yes : Bool) → IsReply is_yes made → WritesMade w a b made after (Ok v) → after ≡ [] → Prints IsReply IsNone w a b (Ok is_yes)
   prints-whole {made = made} {after = after} v is_yes r f e =
       let none : f.lost ≡ [] = elim f.whole [ inl n ↦ n | inr h ↦ absurd h.0 ] in
       let all : made ≡ f.written = f.split ∙ ap (λ l. f.written ++ (l ++ after)) none ∙ ap (λ l. f.written ++ l) e ∙ append-nil f.written in
       record { written = f.written; wrote = f.wrote; whole = subst (IsReply is_yes) all r; none = tt }
 
   -- the writer failed
-  pub prints-part : {A : Type 0} {a b : W} {made after : List ℕ} (r : Result A Failure) (x : Failure) (is_yes : Bool) → IsReply is_yes made → Flushes w a b made after r → IsWriteFailure x → Prints IsReply IsNone w a b (Err x)
+  pub prints-part : {A : Type 0} {a b : W} {made after : List ℕ} (r : Result A Failure) (x : Failure) (is_yes : Bool) → IsReply is_yes made → WritesMade w a b made after r → IsWriteFailure x → Prints IsReply IsNone w a b (Err x)
   prints-part {made = made} {after = after} r x is_yes p f u =
       let rest : List ℕ = f.lost ++ after in
       let begins : IsReply is_yes (f.written ++ rest) = subst (λ (out : List ℕ). IsReply is_yes out) f.split p in

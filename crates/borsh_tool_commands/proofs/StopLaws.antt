@@ -16,7 +16,7 @@ use Rattle.borsh_values.specs.declared.records.RecordError.TheVariants.{NoMember
 use Rattle.borsh_tool_commands.specs.declared.failure.Failure.{Failure}
 use Rattle.borsh_tool_commands.specs.declared.failure.Failure.TheVariants.{NoCommand, Unreadable, NotHexadecimal, NotContainer, NotValue, NotText, TwoInputs, RawOnTerminal, WrongUse, Unread, Unwritten, LongLine, NotType, OutOfMemory}
 use Rattle.borsh_tool_commands.specs.Failures.{IsFailure, IsStop}
-use Rattle.borsh_tool_commands.specs.Many.{BeginsNone, EndsValues, IsErrorLine, IsNotValue, IsPlaced, IsRefusedAs, IsUncounted, IsValueError, IsWriteFailure, NoneNext, most_bytes, rest_of}
+use Rattle.borsh_tool_commands.specs.Many.{NoValueBegins, EndsValues, IsErrorLine, IsNotValue, IsPlaced, IsRefusedAs, IsUncounted, IsValueError, IsWriteFailure, NoneNext, most_bytes, rest_of}
 
 -- a stop whose facts lead to others
 pub stop-led : (path : List ℕ) {u v : Error → Type 0} {a b x y : Type 0} → ((e : Error) → u e → v e) → (a → x) → (b → y) → (f : Failure) → IsStop path u a b f → IsStop path v x y f
@@ -133,7 +133,7 @@ none-left (Some ys) h = h
 
 module _ (C : List ℕ → Option Shape) (root : List ℕ) where
   -- none begins the bytes, whatever follows
-  begins-none : (X rest : List ℕ) → ((more : List ℕ) → (BeginsWith C root (X ++ more) → ⊥)) → BeginsNone C root (X ++ rest)
+  begins-none : (X rest : List ℕ) → ((more : List ℕ) → (BeginsWith C root (X ++ more) → ⊥)) → NoValueBegins C root (X ++ rest)
   begins-none X rest none = (none rest, λ e v m. none v (v, [], m, ap (λ l. l ++ v) (nothing-left X rest (sym e)) ∙ sym (append-nil v)))
 
   -- an error that doesn't end values
@@ -150,9 +150,9 @@ module _ (C : List ℕ → Option Shape) (root : List ℕ) where
   uncounted X rest at limit ended unread NoRecordMemory k h v n = absurd v
 
   -- an error, of bytes behind which others are left
-  pub no-value : (X rest : List ℕ) (at limit : ℕ) (ended : Type 0) (unread : Error → Type 0) (e : RecordError) → (ended → rest ≡ []) → limit ≡ most_bytes → IsRecordError C root X at limit ended unread e → IsValueError e → BeginsNone C root (X ++ rest) ⊎ IsUncounted C root (X ++ rest)
+  pub no-value : (X rest : List ℕ) (at limit : ℕ) (ended : Type 0) (unread : Error → Type 0) (e : RecordError) → (ended → rest ≡ []) → limit ≡ most_bytes → IsRecordError C root X at limit ended unread e → IsValueError e → NoValueBegins C root (X ++ rest) ⊎ IsUncounted C root (X ++ rest)
   no-value X rest at limit ended unread (NoMember o f) end k h v = inl (begins-none X rest (λ more. (h.1 more).none))
-  no-value X rest at limit ended unread (CutShort o f) end k h v = inl (subst (BeginsNone C root) (sym (ap (λ l. X ++ l) (end h.3) ∙ append-nil X)) (h.1.none, λ e. absurd (h.2 e)))
+  no-value X rest at limit ended unread (CutShort o f) end k h v = inl (subst (NoValueBegins C root) (sym (ap (λ l. X ++ l) (end h.3) ∙ append-nil X)) (h.1.none, λ e. absurd (h.2 e)))
   no-value X rest at limit ended unread (TooLong o) end k h v = inr (uncounted X rest at limit ended unread (TooLong o) k h v (λ u. u))
   no-value X rest at limit ended unread EmptyValue end k h v = inr (uncounted X rest at limit ended unread EmptyValue k h v (λ u. u))
   no-value X rest at limit ended unread (Ambiguous x) end k h v = inr (uncounted X rest at limit ended unread (Ambiguous x) k h v (λ u. u))
@@ -188,5 +188,5 @@ module _ (C : List ℕ → Option Shape) (root : List ℕ) where
         record {
           read = [];
           taken = subst (λ (s : ReaderState). Consumes (state (source_of old)).bytes s.bytes []) (sym same) (Consumes-nil (state (source_of old)).bytes);
-          none = subst (λ l. BeginsNone C root (l ++ rest) ⊎ IsUncounted C root (l ++ rest)) (sym (append-nil (ahead old))) (no-value (ahead old) rest old.next old.limit _ _ e (λ u. absurd u) k a.goes.error v);
+          none = subst (λ l. NoValueBegins C root (l ++ rest) ⊎ IsUncounted C root (l ++ rest)) (sym (append-nil (ahead old))) (no-value (ahead old) rest old.next old.limit _ _ e (λ u. absurd u) k a.goes.error v);
         }

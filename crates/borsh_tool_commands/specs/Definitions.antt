@@ -2,14 +2,14 @@
 use Rattle.std.specs.Prelude.{ℕ, ℤ, Option, Some, None, bytes_eq, ◌==◌, List, [], ◌∷◌, ◌++◌, flat_map, if◌then◌else◌, codes, decimal, String, string_bytes}
 use Rattle.std.specs.Fmt.{signed_decimal}
 use Rattle.std.specs.Global.{Global}
+use Rattle.std.specs.BTreeMap.{get_by_text}
 use Rattle.borsh_walks.specs.declared.definition.Definition.{Definition}
 use Rattle.borsh_walks.specs.declared.definition.Definition.TheVariants.{Primitive, Sequence, Tuple, Enum, Struct}
 use Rattle.borsh_walks.specs.declared.definition.Fields.{Fields}
 use Rattle.borsh_walks.specs.declared.definition.Fields.TheVariants.{NamedFields, UnnamedFields, Empty}
 use Rattle.borsh_walks.specs.declared.definition.LengthRange.{LengthRange}
 use Rattle.borsh_tool_commands.specs.Plain.{escaped, name_text}
-use Rattle.borsh_schema.specs.declared.container.BorshSchemaContainer.{BorshSchemaContainer}
-use Rattle.borsh_schema.specs.Containers.{definition_of, map_of, root_of}
+use Rattle.borsh_tool_commands.specs.declared.values.Schema.{Schema}
 use Rattle.borsh_tool_commands.specs.Answers.{line_of, missing_text}
 
 -- a number of bytes
@@ -76,5 +76,7 @@ unfoldable pub other_text : List ℕ → (String Global × Definition) → List 
 other_text root e = if bytes_eq (string_bytes e.0) root then [] else line_of (definition_text (string_bytes e.0) e.1)
 
 -- the root's line, and the lines of the others by name
-abbrev pub schema_lines : BorshSchemaContainer → List ℕ
-schema_lines c = root_line (root_of c) (definition_of c (root_of c)) ++ flat_map (other_text (root_of c)) (map_of c).entries
+abbrev pub schema_lines : Schema → List ℕ
+schema_lines s =
+    let root = string_bytes s.root in
+    root_line root (get_by_text s.definitions root) ++ flat_map (other_text root) s.definitions.entries

@@ -73,8 +73,8 @@ IsNoContainerJson path bytes = IsFailure path (IsContainer bytes → ⊥) (IsCon
 
 module _ (map : BTreeMap (String Global) Definition) (root path : List ℕ) where
   -- no JSON only if the bytes have none
-  abbrev pub IsNoJson : List ℕ → Failure → Type 0
-  IsNoJson bytes = IsFailure path ⊥ (HasNoJson map root bytes) ⊥
+  abbrev pub IsJsonFailure : List ℕ → Failure → Type 0
+  IsJsonFailure bytes = IsFailure path ⊥ (HasNoJson map root bytes) ⊥
 
   -- no text only if the bytes aren't UTF-8, and no value only if they are a text that says none
   abbrev pub IsNoValue : List ℕ → Failure → Type 0

@@ -1,5 +1,5 @@
 -- Which JSON is of which bytes.
-use Rattle.std.specs.Prelude.{◌≡◌, ℕ, All, Bool, true, false, List, String}
+use Rattle.std.specs.Prelude.{◌≡◌, ℕ, All, List, String}
 use Rattle.std.specs.Global.{Global}
 use Rattle.std.specs.BTreeMap.{BTreeMap}
 use Rattle.borsh_json.specs.Ascii.{IsInLine, IsPlain}
@@ -8,18 +8,18 @@ use Rattle.borsh_json.specs.Forms.{forms_in}
 use Rattle.borsh_json.specs.InOrder.{TextRepresents}
 use Rattle.borsh_json.specs.NoJson.{ShowsNoJson}
 use Rattle.borsh_json.specs.NoValue.{ShowsNoValue}
+use Rattle.borsh_json.specs.Printed.{HasShortNumbers}
 use Rattle.borsh_json.specs.declared.error.JsonError.{JsonError}
 use Rattle.borsh_json.specs.declared.error.JsonError.TheVariants.{OutOfMemory as NoMemory}
 use Rattle.borsh_json.specs.declared.output.Layout.{Layout}
-use Rattle.borsh_json.specs.declared.output.Layout.TheVariants.{Compact, Pretty}
+use Rattle.borsh_json.specs.declared.output.Layout.TheVariants.{Compact}
 use Rattle.borsh_walks.specs.Definitions.{definitions_in}
 use Rattle.borsh_walks.specs.declared.definition.Definition.{Definition}
 use Rattle.borsh_tool_commands.specs.Answers.{line_of}
 
--- the layout that a request has
-abbrev pub layout_if : Bool → Layout
-layout_if true = Compact
-layout_if false = Pretty
+-- none of the numbers in the line of JSON is a whole number that needs 64 bits
+abbrev pub HasShortLine : List ℕ → Type 0
+HasShortLine line = (text : List ℕ) → line ≡ line_of text → HasShortNumbers text
 
 -- there is a reason of this kind, and not only a failed allocation
 abbrev pub HasReason : (JsonError → Type 0) → Type 0

@@ -13,4 +13,3 @@ pub mod Fronts
 pub mod Many
 pub mod Items
 pub mod Replies
-pub mod Comparisons

@@ -1,22 +1,19 @@
 -- Lines of bytes, and of a reader.
-use Rattle.std.specs.Prelude.{◌≡◌, ◌≢◌, ◌⊎◌, ℕ, ◌<◌, Bool, true, false, List, [], ◌∷◌, ◌++◌, length, All, Some}
+use Rattle.std.specs.Prelude.{◌≡◌, ◌⊎◌, ℕ, ◌<◌, Bool, true, false, List, [], ◌∷◌, ◌++◌, length, Some}
 use Rattle.std.specs.Io.KnownBytes.{Consumes, IsAtEnd}
+use Rattle.borsh_io.specs.Lines.{IsLine}
 use Rattle.borsh_io.specs.Stream.{ReaderState}
-use Rattle.borsh_values.specs.Records.{held, piece, reader_of}
-use Rattle.borsh_values.specs.declared.buffered.Buffered.{Buffered}
-
--- bytes without a line feed
-abbrev pub HasNoFeed : List ℕ → Type 0
-HasNoFeed bytes = All (λ b. b ≢ 10) bytes
+use Rattle.borsh_io.specs.Buffered.{held, piece, reader_of}
+use Rattle.borsh_io.specs.declared.buffered.Buffered.{Buffered}
 
 -- more bytes than a line may have come before the first line feed
 abbrev pub IsLong : List ℕ → Type 0
-IsLong bytes = (front : List ℕ) × (more : List ℕ) × (bytes ≡ front ++ more) × HasNoFeed front × (268435456 < length front)
+IsLong bytes = (front : List ℕ) × (more : List ℕ) × (bytes ≡ front ++ more) × IsLine front × (268435456 < length front)
 
 -- the bytes begin with this line, which has its line feed unless it is the last one, and others are left
 pub record IsFirstLine (line bytes left : List ℕ) : Type 0 where
   pub text : List ℕ
-  pub whole : HasNoFeed text
+  pub whole : IsLine text
   pub split : bytes ≡ line ++ left
   pub ended : (line ≡ text ++ 10 ∷ []) ⊎ ((line ≡ text) × (0 < length text) × (left ≡ []))
 

@@ -12,8 +12,9 @@ use Rattle.borsh_io.specs.declared.error.Error.{Error}
 use Rattle.borsh_walks.specs.Container.{Shape, Member}
 use Rattle.borsh_plan.specs.Plan.{definitions_of, map_of, root_of}
 use Rattle.borsh_values.specs.Membership.{BeginsWith, IsUndecided}
-use Rattle.borsh_values.specs.Records.{IsFirst, IsUnread, ahead, held, reader_of, source_of}
-use Rattle.borsh_values.specs.declared.buffered.Buffered.{Buffered}
+use Rattle.borsh_io.specs.Buffered.{IsUnread, held, reader_of}
+use Rattle.borsh_values.specs.Records.{IsFirst, ahead, source_of}
+use Rattle.borsh_io.specs.declared.buffered.Buffered.{Buffered}
 use Rattle.borsh_values.specs.declared.records.Records.{Records}
 use Rattle.borsh_values.specs.declared.records.RecordError.{RecordError}
 use Rattle.borsh_values.specs.declared.records.RecordError.TheVariants.{NoMember, CutShort, TooLong, EmptyValue, Ambiguous, Reader, OutOfMemory}
@@ -34,7 +35,7 @@ use Rattle.borsh_tool_commands.specs.Json.{HasNoJson, IsJsonInOrder, IsJsonLine,
 use Rattle.borsh_tool_commands.specs.Lines.{IsFirstLine, IsLong}
 use Rattle.borsh_tool_commands.specs.Plain.{digits}
 use Rattle.borsh_tool_commands.specs.Printed.{printed}
-use Rattle.borsh_tool_commands.specs.declared.answers.Answer.{Answer}
+use Rattle.borsh_tool_commands.specs.declared.answers.TextAnswer.{TextAnswer}
 
 -- ---- what is written
 
@@ -48,7 +49,7 @@ IsUnwritten (Ok v) = ⊥
 IsUnwritten (Err f) = IsWriteFailure f
 
 -- what was made was written and is kept no more; or a beginning of it, and the rest is lost, only where the writer failed
-pub record Flushes {W A : Type 0} (w : WriterModel W) (old new : W) (before after : List ℕ) (result : Result A Failure) : Type 0 where
+pub record WritesMade {W A : Type 0} (w : WriterModel W) (old new : W) (before after : List ℕ) (result : Result A Failure) : Type 0 where
   pub written : List ℕ
   pub lost : List ℕ
   pub wrote : w.wrote old new written
@@ -56,7 +57,7 @@ pub record Flushes {W A : Type 0} (w : WriterModel W) (old new : W) (before afte
   pub whole : (lost ≡ []) ⊎ (IsUnwritten result × (after ≡ []))
 
 -- what was written, and what was made and is still kept, is an output that goes with the result; some is lost only where the writer failed
-pub record Writes {W : Type 0} (IsOutput : List ℕ → Result Bool Failure → Type 0) (w : WriterModel W) (old new : W) (made : List ℕ) (result : Result Bool Failure) : Type 0 where
+pub record WritesAnswers {W : Type 0} (IsOutput : List ℕ → Result Bool Failure → Type 0) (w : WriterModel W) (old new : W) (made : List ℕ) (result : Result Bool Failure) : Type 0 where
   pub written : List ℕ
   pub lost : List ℕ
   pub wrote : w.wrote old new written
@@ -104,32 +105,32 @@ IsErrorLine out = (why : List ℕ) × All IsPlain why × All IsInLine why × (ou
 
 module _ (l : Plan) where
   -- the answer to a line: the JSON of the bytes that its digits say; the digits of the bytes that it is JSON of; or these bytes
-  abbrev pub IsAnswer : Wanted → List ℕ → List ℕ → Type 0
-  IsAnswer Json text out = (bytes : List ℕ) × (said_by text ≡ Ok bytes) × IsJsonLine (map_of l) (root_of l) Compact bytes out
-  IsAnswer Digits text out = (bytes : List ℕ) × IsJsonInOrder (map_of l) (root_of l) text bytes × (out ≡ digits_line bytes)
-  IsAnswer Bytes text out = IsJsonInOrder (map_of l) (root_of l) text out
+  abbrev pub IsLineAnswer : Wanted → List ℕ → List ℕ → Type 0
+  IsLineAnswer Json text out = (bytes : List ℕ) × (said_by text ≡ Ok bytes) × IsJsonLine (map_of l) (root_of l) Compact bytes out
+  IsLineAnswer Digits text out = (bytes : List ℕ) × IsJsonInOrder (map_of l) (root_of l) text bytes × (out ≡ digits_line bytes)
+  IsLineAnswer Bytes text out = IsJsonInOrder (map_of l) (root_of l) text out
 
   -- the bytes are no text, or there is a reason why it says no value
   abbrev pub SaysNoValue : List ℕ → Type 0
   SaysNoValue text = (IsUtf8 text → ⊥) ⊎ SaysNone (map_of l) (root_of l) text
 
   -- why a line has no such answer
-  abbrev pub IsRefused : Wanted → List ℕ → Type 0
-  IsRefused Json text = ((e : FromHexError) × (said_by text ≡ Err e)) ⊎ ((bytes : List ℕ) × (said_by text ≡ Ok bytes) × HasNoJson (map_of l) (root_of l) bytes)
-  IsRefused Digits text = SaysNoValue text
-  IsRefused Bytes text = SaysNoValue text
+  abbrev pub IsRefusedLine : Wanted → List ℕ → Type 0
+  IsRefusedLine Json text = ((e : FromHexError) × (said_by text ≡ Err e)) ⊎ ((bytes : List ℕ) × (said_by text ≡ Ok bytes) × HasNoJson (map_of l) (root_of l) bytes)
+  IsRefusedLine Digits text = SaysNoValue text
+  IsRefusedLine Bytes text = SaysNoValue text
 
   -- a line has such an answer, or there is a reason why not
   abbrev pub AnswersText : Wanted → (path text : List ℕ) → Result (Vec ℕ Global) Failure → Type 0
-  AnswersText wanted path text result = MatchResult result (λ out. IsAnswer wanted text out.items) (IsFailure path ⊥ (IsRefused wanted text) ⊥)
+  AnswersText wanted path text result = MatchResult result (λ out. IsLineAnswer wanted text out.items) (IsFailure path ⊥ (IsRefusedLine wanted text) ⊥)
 
   -- the answer to a line, without white space around it; or, if lines may be refused, an error line for one that has none
   abbrev pub AnswersLine : Wanted → Bool → List ℕ → List ℕ → Type 0
-  AnswersLine wanted lenient line out = (text : List ℕ) × IsTrimAscii line text × (IsAnswer wanted text out ⊎ ((lenient ≡ true) × IsRefused wanted text × IsErrorLine out))
+  AnswersLine wanted lenient line out = (text : List ℕ) × IsTrimAscii line text × (IsLineAnswer wanted text out ⊎ ((lenient ≡ true) × IsRefusedLine wanted text × IsErrorLine out))
 
   -- a line may not be refused, and has no such answer
   abbrev pub HasNoAnswer : Wanted → Bool → List ℕ → Type 0
-  HasNoAnswer wanted lenient line = (lenient ≡ false) × ((text : List ℕ) × IsTrimAscii line text × IsRefused wanted text)
+  HasNoAnswer wanted lenient line = (lenient ≡ false) × ((text : List ℕ) × IsTrimAscii line text × IsRefusedLine wanted text)
 
 -- ---- how many values there are
 
@@ -137,13 +138,13 @@ abbrev pub count_text : ℕ → List ℕ
 count_text n = decimal n ++ (if n == 1 then codes " value" else codes " values")
 
 -- no value begins the bytes, of which there are some unless there is no value at all
-abbrev pub BeginsNone : (List ℕ → Option Shape) → List ℕ → List ℕ → Type 0
-BeginsNone C root bytes = (BeginsWith C root bytes → ⊥) × (bytes ≡ [] → (v : List ℕ) → Member C root v → ⊥)
+abbrev pub NoValueBegins : (List ℕ → Option Shape) → List ℕ → List ℕ → Type 0
+NoValueBegins C root bytes = (BeginsWith C root bytes → ⊥) × (bytes ≡ [] → (v : List ℕ) → Member C root v → ⊥)
 
 -- how many values the bytes are; or, as a no, that behind some values none begins
 pub data IsCount (C : List ℕ → Option Shape) (root : List ℕ) (bytes : Option (List ℕ)) (yes : Bool) (out : List ℕ) : Type 0 where
   counted : (vs : List (List ℕ)) → IfSome bytes (λ xs. BeginWith (IsFirst C root) vs xs []) → yes ≡ true → out ≡ line_of (count_text (length vs)) → IsCount C root bytes yes out
-  stopped : (vs : List (List ℕ)) (left why : List ℕ) → IfSome bytes (λ xs. BeginWith (IsFirst C root) vs xs left) → BeginsNone C root left → yes ≡ false → out ≡ line_of (codes "no member: " ++ why) → IsCount C root bytes yes out
+  stopped : (vs : List (List ℕ)) (left why : List ℕ) → IfSome bytes (λ xs. BeginWith (IsFirst C root) vs xs left) → NoValueBegins C root left → yes ≡ false → out ≡ line_of (codes "no member: " ++ why) → IsCount C root bytes yes out
 
 -- ---- why a command stops
 
@@ -195,7 +196,7 @@ EndsValues (Reader e) = ⊥
 EndsValues OutOfMemory = ⊥
 
 -- a no where the bytes stop being values, and else a failure that goes with the error
-abbrev pub IsEnded : (path : List ℕ) → RecordError → Result Answer Failure → Type 0
+abbrev pub IsEnded : (path : List ℕ) → RecordError → Result TextAnswer Failure → Type 0
 IsEnded path e result = MatchResult result
     (λ a. EndsValues e × (a.is_yes ≡ false) × ((why : List ℕ) × (printed a.text ≡ line_of (codes "no member: " ++ why))))
     (IsStop path (λ r. e ≡ Reader r) (IsValueError e × (EndsValues e → ⊥)) ⊥)
@@ -212,7 +213,7 @@ IsRefusedAs failure result = MatchResult result (λ line. IsErrorLine line.items
 pub record NoneNext (C : List ℕ → Option Shape) (root : List ℕ) (before after : ReaderState) (ahead : List ℕ) : Type 0 where
   pub read : List ℕ
   pub taken : Consumes before.bytes after.bytes read
-  pub none : BeginsNone C root ((ahead ++ read) ++ rest_of after.bytes) ⊎ IsUncounted C root ((ahead ++ read) ++ rest_of after.bytes)
+  pub none : NoValueBegins C root ((ahead ++ read) ++ rest_of after.bytes) ⊎ IsUncounted C root ((ahead ++ read) ++ rest_of after.bytes)
 
 -- the first line of such bytes is too long
 pub record LongNext (before after : ReaderState) (ahead : List ℕ) : Type 0 where
@@ -223,7 +224,7 @@ pub record LongNext (before after : ReaderState) (ahead : List ℕ) : Type 0 whe
 module _ (unread : Error → Type 0) (path : List ℕ) (l : Plan) where
   -- no value begins the bytes, or that isn't answered, or the first one has no JSON
   abbrev pub StopsAtValue : List ℕ → Failure → Type 0
-  StopsAtValue left = IsStop path unread (BeginsNone (definitions_of l) (root_of l) left ⊎ (IsUncounted (definitions_of l) (root_of l) left ⊎ ((value : List ℕ) × (more : List ℕ) × IsFirst (definitions_of l) (root_of l) value left more × HasNoJson (map_of l) (root_of l) value))) ⊥
+  StopsAtValue left = IsStop path unread (NoValueBegins (definitions_of l) (root_of l) left ⊎ (IsUncounted (definitions_of l) (root_of l) left ⊎ ((value : List ℕ) × (more : List ℕ) × IsFirst (definitions_of l) (root_of l) value left more × HasNoJson (map_of l) (root_of l) value))) ⊥
 
   -- the first line, of bytes that are known, has no answer, or is too long; or another fact holds
   abbrev pub StopsAtLine : Wanted → Bool → Type 0 → Option (List ℕ) → List ℕ → Failure → Type 0

@@ -1,20 +1,16 @@
 -- Text that a terminal shows as it is.
-use Rattle.std.specs.Prelude.{ℕ, ◌+◌, ◌/◌, ◌%◌, ◌==◌, ◌&&◌, ◌||◌, not, Bool, false, ltb, List, [], ◌∷◌, ◌++◌, flat_map, if◌then◌else◌}
+use Rattle.std.specs.Prelude.{ℕ, ◌/◌, ◌%◌, ◌==◌, ◌&&◌, ◌||◌, not, Bool, false, List, [], ◌∷◌, ◌++◌, flat_map, if◌then◌else◌}
 use Rattle.std.specs.List.{list_all}
-use Rattle.std.specs.Char.{is_ascii_digit, is_ascii_alphanumeric}
+use Rattle.std.specs.Char.{digit_char, is_ascii_digit, is_ascii_alphanumeric}
 use Rattle.borsh_json.specs.Ascii.{is_printable}
-
--- a hexadecimal digit
-abbrev pub digit : ℕ → ℕ
-digit n = if ltb n 10 then 48 + n else 87 + n
 
 -- a byte as two hexadecimal digits
 abbrev pub digits : ℕ → List ℕ
-digits b = digit (b / 16) ∷ digit (b % 16) ∷ []
+digits b = digit_char (b / 16) ∷ digit_char (b % 16) ∷ []
 
 -- how a byte of a text is printed: printable ASCII as itself, another byte as `\x` and two digits
 abbrev pub escaped : ℕ → List ℕ
-escaped b = if is_printable b then b ∷ [] else 92 ∷ 120 ∷ digit (b / 16) ∷ digit (b % 16) ∷ []
+escaped b = if is_printable b then b ∷ [] else 92 ∷ 120 ∷ digit_char (b / 16) ∷ digit_char (b % 16) ∷ []
 
 -- ---- names
 

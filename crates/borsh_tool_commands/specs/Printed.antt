@@ -7,5 +7,5 @@ abbrev pub printed : PlainText → List ℕ
 printed t = t.text.items
 
 -- a text was added, unless an allocation failed
-abbrev pub Adds : {T E : Type 0} → PlainText → PlainText → Result T E → List ℕ → Type 0
-Adds old new result text = OnOk result (printed new ≡ printed old ++ text)
+abbrev pub AddsPrinted : {T E : Type 0} → PlainText → PlainText → Result T E → List ℕ → Type 0
+AddsPrinted old new result text = OnOk result (printed new ≡ printed old ++ text)

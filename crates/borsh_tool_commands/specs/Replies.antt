@@ -10,10 +10,11 @@ use Rattle.borsh_tool_commands.specs.declared.failure.Failure.TheVariants.{NoCom
 use Rattle.borsh_tool_commands.specs.declared.replies.Reply.{Reply}
 use Rattle.borsh_tool_commands.specs.declared.values.Schema.{Schema}
 use Rattle.borsh_tool_commands.specs.Answers.{AnswersMember, line_of}
-use Rattle.borsh_tool_commands.specs.Failures.{IsNoAnswer, IsNoJson, IsNoValue}
+use Rattle.borsh_tool_commands.specs.Failures.{IsNoAnswer, IsJsonFailure, IsNoValue}
 use Rattle.borsh_tool_commands.specs.Items.{AreItems}
 use Rattle.borsh_texts.specs.declared.printing.Items.{Items}
-use Rattle.borsh_tool_commands.specs.Json.{IsJsonLine, layout_if}
+use Rattle.borsh_tool_commands.specs.Json.{HasShortLine, IsJsonLine}
+use Rattle.borsh_json.specs.Printed.{layout_if}
 use Rattle.borsh_tool_commands.specs.Many.{IsWriteFailure}
 use Rattle.borsh_tool_commands.specs.Plain.{digits}
 use Rattle.borsh_tool_commands.specs.Sent.{EncodesJson, IsContainer, IsSchemaJson, IsSent}
@@ -22,16 +23,16 @@ use Rattle.borsh_tool_commands.specs.Sent.{EncodesJson, IsContainer, IsSchemaJso
 abbrev pub in_digits : Bool → List ℕ → List ℕ
 in_digits wanted bytes = if wanted then line_of (flat_map digits bytes) else bytes
 
--- whether the answer is yes, and what is printed: of `decode` JSON and a line feed, of `encode` the bytes or their digits, of `member` its line; `show` writes as it goes
+-- whether the answer is yes, and what is printed: of `decode` JSON, without numbers of 64 bits if these are quoted, and a line feed, of `encode` the bytes or their digits, of `member` its line; `show` writes as it goes
 abbrev pub Replies : Action → ValueRequest → Schema → List ℕ → Bool → List ℕ → Type 0
-Replies Decode r s value is_yes out = (is_yes ≡ true) × IsJsonLine s.definitions (string_bytes s.root) (layout_if r.is_compact) value out
+Replies Decode r s value is_yes out = (is_yes ≡ true) × IsJsonLine s.definitions (string_bytes s.root) (layout_if r.is_compact) value out × (r.has_quoted_numbers ≡ true → HasShortLine out)
 Replies Encode r s value is_yes out = (is_yes ≡ true) × ((sent : List ℕ) × EncodesJson r.with_schema s value sent × (out ≡ in_digits r.is_hex sent))
-Replies AskMember r s value is_yes out = AnswersMember (definitions_in s.definitions) (string_bytes s.root) value r.is_strict is_yes out
+Replies AskMember r s value is_yes out = AnswersMember s.definitions (string_bytes s.root) value r.is_strict is_yes out
 Replies Show r s value is_yes out = ⊥
 
 -- why there is no reply: of this path, by the command
 abbrev pub IsNoReply : Action → Schema → (path value : List ℕ) → Failure → Type 0
-IsNoReply Decode s path value f = IsNoJson s.definitions (string_bytes s.root) path value f
+IsNoReply Decode s path value f = IsJsonFailure s.definitions (string_bytes s.root) path value f
 IsNoReply Encode s path value f = IsNoValue s.definitions (string_bytes s.root) path value f
 IsNoReply AskMember s path value f = IsNoAnswer (definitions_in s.definitions) (string_bytes s.root) path f
 IsNoReply Show s path value f = f ≡ NoCommand

@@ -32,13 +32,13 @@ pub record IsSent (s : Schema) (value bytes : List ℕ) : Type 0 where
   pub whole : bytes ≡ front ++ value
 
 -- what `encode` gives of a value: its bytes, behind those of its container if these are asked for
-abbrev pub IsEncoded : Bool → Schema → List ℕ → List ℕ → Type 0
-IsEncoded true s value out = IsSent s value out
-IsEncoded false s value out = out ≡ value
+abbrev pub IsSentIf : Bool → Schema → List ℕ → List ℕ → Type 0
+IsSentIf true s value out = IsSent s value out
+IsSentIf false s value out = out ≡ value
 
 -- the same of bytes that the text is JSON of
 abbrev pub EncodesJson : Bool → Schema → List ℕ → List ℕ → Type 0
-EncodesJson sent s text out = (value : List ℕ) × IsJsonInOrder s.definitions (string_bytes s.root) text value × IsEncoded sent s value out
+EncodesJson sent s text out = (value : List ℕ) × IsJsonInOrder s.definitions (string_bytes s.root) text value × IsSentIf sent s value out
 
 -- the container of containers: the name of its root, and its definitions and no others
 abbrev pub IsOwnSchema : Schema → Type 0

@@ -2,7 +2,7 @@
 ghost use Rattle.borsh_plan.specs.Plan.{definitions_of, root_of};
 ghost use Rattle.borsh_json.specs.Errors.{IsNoRowsReason};
 ghost use Rattle.borsh_tool_commands.specs.Colored.{IsShowFailure, Paints, has_colors, printed_colors};
-ghost use Rattle.borsh_tool_commands.specs.Many.{Flushes, IsUnwritten};
+ghost use Rattle.borsh_tool_commands.specs.Many.{WritesMade, IsUnwritten};
 ghost use Rattle.borsh_walks.specs.Container.{Member};
 ghost use Rattle.std.specs.Prelude.{◌≡◌, [], IfErr, OnErr, OnOk};
 
@@ -82,7 +82,7 @@ fn write_made<'a, W: WriteBytes>(made: &mut ColoredText, out: &mut W) -> Result<
     ensures colored { has_colors made.new ≡ has_colors made.old }
     ensures none { printed_colors made.new ≡ [] }
     ensures unwritten { OnErr result (IsUnwritten result) }
-    ensures flushes { Flushes W.writing out.old out.new (printed_colors made.old) (printed_colors made.new) result }
+    ensures flushes { WritesMade W.writing out.old out.new (printed_colors made.old) (printed_colors made.new) result }
 {
     let outcome = out.write_all(made.as_bytes());
     made.clear();

@@ -27,7 +27,7 @@ const AFTER_ENCODE: &str =
     "Takes what `decode` prints, in any layout; fields and entries may come in any order, and numbers of 64 bits may be\nstrings. With --hex the bytes are printed as hexadecimal digits and a line feed; raw bytes go to a terminal only\nwith --raw. With --with-schema the bytes of the container come first.\n\nExample: borsh decode a.borsh value.borsh | borsh encode --hex a.borsh -";
 
 const AFTER_MEMBER: &str =
-    "Prints `member`, or `no member`, the path where the bytes stop being a value of the container's root, and why. The\ndefinitions alone decide; a type may refuse a member, as a `bool` of 2 or keys that don't ascend. With --strict such\nbytes are `not canonical`, as far as the names tell.\n\nExample: borsh member a.borsh value.borsh";
+    "Prints `member`, or `no member`, the path where the bytes stop being a value of the container's root, and why. The\ndefinitions alone decide; a type may refuse a member, as a `bool` of 2 or keys that don't ascend. With --strict such\nbytes are `not canonical`, as far as the names tell, and so is what else has no JSON.\n\nExample: borsh member a.borsh value.borsh";
 
 const AFTER_SHOW: &str =
     "A line for each number, text, count and tag: its offset, its bytes (the first 16), the path to it, its type, and what\nit says; on a terminal in colours, unless NO_COLOR is set or TERM is dumb.\n\nExample: borsh show a.borsh value.borsh";
@@ -63,7 +63,7 @@ const DECODE_RECORDS: &str = "The bytes are values one after another; prints a l
 
 const DECODE_LINES: &str = "Each line is the digits of a value, or `-`; answers each by a line";
 
-const MEMBER_STRICT: &str = "Says no to bytes that the type refuses, as far as names tell";
+const MEMBER_STRICT: &str = "Says no to bytes that have no JSON, as those that the type refuses";
 
 const MEMBER_RECORDS: &str = "The bytes are values one after another; prints how many";
 

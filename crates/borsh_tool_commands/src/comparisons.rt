@@ -1,9 +1,8 @@
 // Two containers compared.
-ghost use Rattle.borsh_compare.specs.Answers.{IsAnswer};
-ghost use Rattle.borsh_compare.specs.Walks.{Includes};
+ghost use Rattle.borsh_compare.specs.Answers.{IsRight};
+ghost use Rattle.borsh_compare.specs.Walks.{Includes, IsStillRead};
 ghost use Rattle.borsh_plan.specs.declared.plan.Plan.{Plan as PlanOf};
-ghost use Rattle.borsh_tool_commands.specs.Comparisons.{IsStillRead};
-ghost use Rattle.std.specs.Prelude.{IfOk, true, ◌≡◌};
+ghost use Rattle.std.specs.Prelude.{IfOk, string_bytes, true, ◌≡◌};
 
 use super::failure::Failure;
 use super::output::write_made;
@@ -16,7 +15,7 @@ use std::alloc::{AllocError, Global};
 
 // Whether all values of the old schema are values of the new one.
 fn is_yes(answer: &Answer<'_>) -> bool
-    ensures { (old new : PlanOf) → IsAnswer old new answer.now → result ≡ true → Includes old new }
+    ensures { (old new : PlanOf) → IsRight old new answer.now → result ≡ true → Includes old new }
 {
     match answer {
         Answer::Same | Answer::Compatible => true,
@@ -47,7 +46,8 @@ pub fn write_comparison<'a, W: Write>(
     new: &Schema,
     out: &mut W,
 ) -> Result<bool, Failure<'a>>
-    ensures { IfOk result (λ yes. yes ≡ true → IsStillRead old.now new.now) }
+    ensures { IfOk result (λ yes. yes ≡ true →
+        IsStillRead old.now.definitions (string_bytes old.now.root) new.now.definitions (string_bytes new.now.root)) }
 {
     let before = Plan::new(alloc, old.root.as_str(), &old.definitions)?;
     let after = Plan::new(alloc, new.root.as_str(), &new.definitions)?;

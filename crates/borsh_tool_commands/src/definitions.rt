@@ -1,29 +1,30 @@
 // Definitions as text, one a line.
 ghost use Rattle.std.specs.Prelude.{◌≡◌, ◌++◌, IfOk, codes, flat_map, option_map};
-ghost use Rattle.borsh_schema.specs.Containers.{map_of};
 ghost use Rattle.borsh_tool_commands.specs.Answers.{line_of, missing_text};
 ghost use Rattle.borsh_tool_commands.specs.Definitions.{braced, definition_text, elements_text, field_text, fields_text, listed, other_text, part_text, parts_text, range_text, root_line, schema_lines, sequence_text, size_text, variant_text};
 ghost use Rattle.borsh_tool_commands.specs.Plain.{name_text};
-ghost use Rattle.borsh_tool_commands.specs.Printed.{Adds, printed};
+ghost use Rattle.borsh_tool_commands.specs.Printed.{AddsPrinted, printed};
 
 use super::plain_text::{Added, PlainText};
-use borsh::schema::{BorshSchemaContainer, Declaration, Definition, Fields, LengthRange};
+use super::values::Schema;
+use borsh::schema::{Declaration, Definition, Fields, LengthRange};
 use std::alloc::{AllocError, Global};
+use std::collections::BTreeMap;
 
 /// The definitions of a container, one a line: the root's, and then the others by name. A root without a
 /// definition is `missing` and its name.
-pub fn schema_text(alloc: Global, container: &BorshSchemaContainer) -> Result<PlainText, AllocError>
-    ensures { IfOk result (λ t. printed t ≡ schema_lines container.now) }
+pub fn schema_text(alloc: Global, schema: &Schema) -> Result<PlainText, AllocError>
+    ensures { IfOk result (λ t. printed t ≡ schema_lines schema.now) }
 {
     let mut out = PlainText::new(alloc);
-    let root = container.declaration().as_str();
-    push_root(root, container.get_definition(root), &mut out)?;
-    push_others(root, container, &mut out)?;
+    let root = schema.root.as_str();
+    push_root(root, schema.definitions.get(root), &mut out)?;
+    push_others(root, &schema.definitions, &mut out)?;
     Ok(out)
 }
 
 fn push_root(root: &str, definition: Option<&Definition>, out: &mut PlainText) -> Added
-    ensures { Adds out.old out.new result (root_line root.now (option_map (λ d. d.now) definition.entry)) }
+    ensures { AddsPrinted out.old out.new result (root_line root.now (option_map (λ d. d.now) definition.entry)) }
 {
     match definition {
         Some(definition) => push_definition(root, definition, out),
@@ -32,7 +33,7 @@ fn push_root(root: &str, definition: Option<&Definition>, out: &mut PlainText) -
 }
 
 fn push_missing(name: &str, out: &mut PlainText) -> Added
-    ensures { Adds out.old out.new result (missing_text name.now) }
+    ensures { AddsPrinted out.old out.new result (missing_text name.now) }
 {
     out.push("missing ")?;
     out.push_name(name)?;
@@ -40,10 +41,14 @@ fn push_missing(name: &str, out: &mut PlainText) -> Added
 }
 
 /// The definitions of the names other than the root.
-fn push_others(root: &str, container: &BorshSchemaContainer, out: &mut PlainText) -> Added
-    ensures { Adds out.old out.new result (flat_map (other_text root.now) (map_of container.now).entries) }
+fn push_others(
+    root: &str,
+    definitions: &BTreeMap<Declaration, Definition>,
+    out: &mut PlainText,
+) -> Added
+    ensures { AddsPrinted out.old out.new result (flat_map (other_text root.now) definitions.now.entries) }
 {
-    for (name, definition) in container.definitions() {
+    for (name, definition) in definitions {
         push_other(root, name, definition, out)?;
     }
     Ok(())
@@ -52,7 +57,7 @@ fn push_others(root: &str, container: &BorshSchemaContainer, out: &mut PlainText
 /// A name and its definition, as a line, or nothing for the root.
 #[tactic(auto, unfolding(crate::specs::Definitions::other_text))]
 fn push_other(root: &str, name: &Declaration, definition: &Definition, out: &mut PlainText) -> Added
-    ensures { Adds out.old out.new result (other_text root.now (name.now, definition.now)) }
+    ensures { AddsPrinted out.old out.new result (other_text root.now (name.now, definition.now)) }
 {
     if name.as_str() == root {
         return Ok(());
@@ -62,14 +67,14 @@ fn push_other(root: &str, name: &Declaration, definition: &Definition, out: &mut
 
 /// A name and its definition, as a line.
 fn push_definition(name: &str, definition: &Definition, out: &mut PlainText) -> Added
-    ensures { Adds out.old out.new result (line_of (definition_text name.now definition.now)) }
+    ensures { AddsPrinted out.old out.new result (line_of (definition_text name.now definition.now)) }
 {
     push_definition_text(name, definition, out)?;
     out.end_line()
 }
 
 fn push_definition_text(name: &str, definition: &Definition, out: &mut PlainText) -> Added
-    ensures { Adds out.old out.new result (definition_text name.now definition.now) }
+    ensures { AddsPrinted out.old out.new result (definition_text name.now definition.now) }
 {
     match definition {
         Definition::Primitive(size) => push_primitive(name, *size, out),
@@ -89,7 +94,7 @@ fn push_definition_text(name: &str, definition: &Definition, out: &mut PlainText
 
 /// `primitive u32 = 4 bytes`
 fn push_primitive(name: &str, size: u8, out: &mut PlainText) -> Added
-    ensures { Adds out.old out.new result
+    ensures { AddsPrinted out.old out.new result
         (codes "primitive " ++ (name_text name.now ++ (codes " = " ++ size_text size))) }
 {
     out.push("primitive ")?;
@@ -107,7 +112,7 @@ fn push_sequence(
     elements: &str,
     out: &mut PlainText,
 ) -> Added
-    ensures { Adds out.old out.new result (sequence_text name.now length_width length_range.now elements.now) }
+    ensures { AddsPrinted out.old out.new result (sequence_text name.now length_width length_range.now elements.now) }
 {
     if length_width == 0 {
         out.push("array ")?;
@@ -127,7 +132,7 @@ fn push_elements(
     elements: &str,
     out: &mut PlainText,
 ) -> Added
-    ensures { Adds out.old out.new result (elements_text name.now length_range.now elements.now) }
+    ensures { AddsPrinted out.old out.new result (elements_text name.now length_range.now elements.now) }
 {
     out.push_name(name)?;
     out.push(" = [")?;
@@ -139,7 +144,7 @@ fn push_elements(
 
 /// `0..=4294967295`, or `4`
 fn push_range(range: &LengthRange, out: &mut PlainText) -> Added
-    ensures { Adds out.old out.new result (range_text range.now) }
+    ensures { AddsPrinted out.old out.new result (range_text range.now) }
 {
     out.push_number(range.start)?;
     if range.start == range.end {
@@ -151,7 +156,7 @@ fn push_range(range: &LengthRange, out: &mut PlainText) -> Added
 
 /// `tuple "(u8, u16)" = (u8, u16)`
 fn push_tuple(name: &str, elements: &[Declaration], out: &mut PlainText) -> Added
-    ensures { Adds out.old out.new result
+    ensures { AddsPrinted out.old out.new result
         (codes "tuple " ++ (name_text name.now ++ (codes " = " ++ parts_text elements.now))) }
 {
     out.push("tuple ")?;
@@ -167,7 +172,7 @@ fn push_enum(
     variants: &[(i64, String, Declaration)],
     out: &mut PlainText,
 ) -> Added
-    ensures { Adds out.old out.new result
+    ensures { AddsPrinted out.old out.new result
         (codes "enum " ++ (name_text name.now ++ (braced variant_text variants.now ++ (codes ", tag in " ++ size_text tag_width)))) }
 {
     out.push("enum ")?;
@@ -179,7 +184,7 @@ fn push_enum(
 
 /// ` { None("()") = 0, Some(u8) = 1 }`
 fn push_variants(variants: &[(i64, String, Declaration)], out: &mut PlainText) -> Added
-    ensures { Adds out.old out.new result (braced variant_text variants.now) }
+    ensures { AddsPrinted out.old out.new result (braced variant_text variants.now) }
 {
     let [first, others @ ..] = variants else {
         return out.push(" {}");
@@ -191,7 +196,7 @@ fn push_variants(variants: &[(i64, String, Declaration)], out: &mut PlainText) -
 }
 
 fn push_other_variants(variants: &[(i64, String, Declaration)], out: &mut PlainText) -> Added
-    ensures { Adds out.old out.new result (flat_map (λ v. codes ", " ++ variant_text v) variants.now) }
+    ensures { AddsPrinted out.old out.new result (flat_map (λ v. codes ", " ++ variant_text v) variants.now) }
 {
     for variant in variants {
         out.push(", ")?;
@@ -202,7 +207,7 @@ fn push_other_variants(variants: &[(i64, String, Declaration)], out: &mut PlainT
 
 /// `Some(u8) = 1`
 fn push_variant(variant: &(i64, String, Declaration), out: &mut PlainText) -> Added
-    ensures { Adds out.old out.new result (variant_text variant.now) }
+    ensures { AddsPrinted out.old out.new result (variant_text variant.now) }
 {
     let (tag, name, part) = variant;
     out.push_name(name.as_str())?;
@@ -214,7 +219,7 @@ fn push_variant(variant: &(i64, String, Declaration), out: &mut PlainText) -> Ad
 
 /// `struct A { x: u64, y: String }`, `struct B(u64, String)` or `struct C`
 fn push_struct(name: &str, fields: &Fields, out: &mut PlainText) -> Added
-    ensures { Adds out.old out.new result (codes "struct " ++ (name_text name.now ++ fields_text fields.now)) }
+    ensures { AddsPrinted out.old out.new result (codes "struct " ++ (name_text name.now ++ fields_text fields.now)) }
 {
     out.push("struct ")?;
     out.push_name(name)?;
@@ -222,7 +227,7 @@ fn push_struct(name: &str, fields: &Fields, out: &mut PlainText) -> Added
 }
 
 fn push_fields(fields: &Fields, out: &mut PlainText) -> Added
-    ensures { Adds out.old out.new result (fields_text fields.now) }
+    ensures { AddsPrinted out.old out.new result (fields_text fields.now) }
 {
     match fields {
         Fields::NamedFields(fields) => push_named(fields.as_slice(), out),
@@ -233,7 +238,7 @@ fn push_fields(fields: &Fields, out: &mut PlainText) -> Added
 
 /// ` { x: u64, y: String }`
 fn push_named(fields: &[(String, Declaration)], out: &mut PlainText) -> Added
-    ensures { Adds out.old out.new result (braced field_text fields.now) }
+    ensures { AddsPrinted out.old out.new result (braced field_text fields.now) }
 {
     let [first, others @ ..] = fields else {
         return out.push(" {}");
@@ -245,7 +250,7 @@ fn push_named(fields: &[(String, Declaration)], out: &mut PlainText) -> Added
 }
 
 fn push_other_fields(fields: &[(String, Declaration)], out: &mut PlainText) -> Added
-    ensures { Adds out.old out.new result (flat_map (λ f. codes ", " ++ field_text f) fields.now) }
+    ensures { AddsPrinted out.old out.new result (flat_map (λ f. codes ", " ++ field_text f) fields.now) }
 {
     for field in fields {
         out.push(", ")?;
@@ -256,7 +261,7 @@ fn push_other_fields(fields: &[(String, Declaration)], out: &mut PlainText) -> A
 
 /// `x: u64`
 fn push_field(field: &(String, Declaration), out: &mut PlainText) -> Added
-    ensures { Adds out.old out.new result (field_text field.now) }
+    ensures { AddsPrinted out.old out.new result (field_text field.now) }
 {
     let (name, part) = field;
     out.push_name(name.as_str())?;
@@ -266,7 +271,7 @@ fn push_field(field: &(String, Declaration), out: &mut PlainText) -> Added
 
 /// `(u64, String)`
 fn push_parts(parts: &[Declaration], out: &mut PlainText) -> Added
-    ensures { Adds out.old out.new result (parts_text parts.now) }
+    ensures { AddsPrinted out.old out.new result (parts_text parts.now) }
 {
     out.push("(")?;
     push_listed_parts(parts, out)?;
@@ -274,7 +279,7 @@ fn push_parts(parts: &[Declaration], out: &mut PlainText) -> Added
 }
 
 fn push_listed_parts(parts: &[Declaration], out: &mut PlainText) -> Added
-    ensures { Adds out.old out.new result (listed part_text parts.now) }
+    ensures { AddsPrinted out.old out.new result (listed part_text parts.now) }
 {
     let [first, others @ ..] = parts else {
         return Ok(());
@@ -284,7 +289,7 @@ fn push_listed_parts(parts: &[Declaration], out: &mut PlainText) -> Added
 }
 
 fn push_other_parts(parts: &[Declaration], out: &mut PlainText) -> Added
-    ensures { Adds out.old out.new result (flat_map (λ p. codes ", " ++ part_text p) parts.now) }
+    ensures { AddsPrinted out.old out.new result (flat_map (λ p. codes ", " ++ part_text p) parts.now) }
 {
     for part in parts {
         out.push(", ")?;
@@ -295,7 +300,7 @@ fn push_other_parts(parts: &[Declaration], out: &mut PlainText) -> Added
 
 /// `1 byte` or `4 bytes`
 fn push_size(size: u8, out: &mut PlainText) -> Added
-    ensures { Adds out.old out.new result (size_text size) }
+    ensures { AddsPrinted out.old out.new result (size_text size) }
 {
     out.push_number(u64::from(size))?;
     if size == 1 {

@@ -1,12 +1,12 @@
 // The bytes of one value, read as far as they may be one.
 ghost use Rattle.borsh_tool_commands.specs.Fronts.{IsRead};
 ghost use Rattle.borsh_plan.specs.Plan.{definitions_of, root_of};
-ghost use Rattle.borsh_values.specs.Records.{held, reader_of};
+ghost use Rattle.borsh_io.specs.Buffered.{held, reader_of};
 ghost use Rattle.borsh_walks.specs.Container.{Member};
 ghost use Rattle.std.specs.Prelude.{[], ◌≡◌, ◌++◌, IfSome, List, OnOk, ℕ, true};
 
-use borsh::io::{Error, ErrorKind, Read, Result};
-use borsh_values::{Buffered, Front, Plan, front_of};
+use borsh::io::{Buffered, Error, ErrorKind, Read, Result};
+use borsh_values::{Front, Plan, front_of};
 use std::alloc::Global;
 
 /// How many bytes there are when they are looked at first.

@@ -1,12 +1,12 @@
 // Lines of a reader. A line ends by a line feed; a last line without one counts if it isn't empty.
-ghost use Rattle.borsh_tool_commands.specs.Lines.{HasNoFeed, IsFirstLine, NextLine};
+ghost use Rattle.borsh_io.specs.Lines.{IsLine};
+ghost use Rattle.borsh_tool_commands.specs.Lines.{IsFirstLine, NextLine};
 ghost use Rattle.borsh_tool_commands.specs.Many.{StopsNextLine};
-ghost use Rattle.borsh_values.specs.Records.{held, piece, reader_of};
+ghost use Rattle.borsh_io.specs.Buffered.{held, piece, reader_of};
 ghost use Rattle.std.specs.Prelude.{IfErr, IfOk, List, ℕ, ◌++◌, ◌<◌, ◌≡◌, ◌≢◌, ◌≤◌, false, length, slice_index, take, true};
 
 use super::failure::Failure;
-use borsh::io::Read;
-use borsh_values::Buffered;
+use borsh::io::{Buffered, Read};
 
 /// How many bytes a line has at most.
 pub const MOST_LINE: usize = 268435456;
@@ -43,11 +43,11 @@ pub fn take_line<'a, R: Read + Drop>(
 /// The same of the bytes that are held, of which the first have no line feed.
 pub fn take_held_line<R: Read + Drop>(input: &mut Buffered<R>, searched: usize) -> bool
     requires within { searched ≤ length (held input.old) }
-    requires none { HasNoFeed (take searched (held input.old)) }
+    requires none { IsLine (take searched (held input.old)) }
     ensures reader { reader_of input.new ≡ reader_of input.old }
     ensures found { result ≡ true → (more : List ℕ) →
         IsFirstLine (piece input.new) (held input.old ++ more) (held input.new ++ more) }
-    ensures none { result ≡ false → HasNoFeed (held input.old) × (input.new ≡ input.old) }
+    ensures none { result ≡ false → IsLine (held input.old) × (input.new ≡ input.old) }
 {
     let rest = &input.held()[searched..];
     let length = line_length(rest);

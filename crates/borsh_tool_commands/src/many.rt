@@ -3,18 +3,18 @@ ghost use Rattle.borsh_plan.specs.Plan.{definitions_of, map_of, root_of};
 ghost use Rattle.borsh_json.specs.Ascii.{IsInLine, IsPlain};
 ghost use Rattle.borsh_json.specs.declared.output.Layout.TheVariants.{Compact};
 ghost use Rattle.borsh_tool_commands.specs.Answers.{line_of};
-ghost use Rattle.borsh_tool_commands.specs.Failures.{IsNoJson, IsNoMemory, IsStop};
+ghost use Rattle.borsh_tool_commands.specs.Failures.{IsJsonFailure, IsNoMemory, IsStop};
 ghost use Rattle.borsh_tool_commands.specs.Json.{IsJsonInOrder, IsJsonLine};
 ghost use Rattle.borsh_tool_commands.specs.Lines.{IsFirstLine, IsLong, NextLine};
-ghost use Rattle.borsh_tool_commands.specs.Many.{AnswersEach, AnswersLine, AnswersMany, AnswersText, FailsBy, Flushes, HasNoAnswer, IsCount, IsEnded, IsErrorLine, IsNoRoot, IsPlaced, IsRefusedAs, IsUnwritten, IsValueError, StopsAtLine, StopsCounting, StopsNext, StopsNextLine, Writes, count_text, digits_line as line_of_digits, most_bytes, said_by as said_by_digits, unmarked as unmarked_digits};
-ghost use Rattle.borsh_tool_commands.specs.Printed.{Adds, printed};
+ghost use Rattle.borsh_tool_commands.specs.Many.{AnswersEach, AnswersLine, AnswersMany, AnswersText, FailsBy, WritesMade, HasNoAnswer, IsCount, IsEnded, IsErrorLine, IsNoRoot, IsPlaced, IsRefusedAs, IsUnwritten, IsValueError, StopsAtLine, StopsCounting, StopsNext, StopsNextLine, WritesAnswers, count_text, digits_line as line_of_digits, most_bytes, said_by as said_by_digits, unmarked as unmarked_digits};
+ghost use Rattle.borsh_tool_commands.specs.Printed.{AddsPrinted, printed};
 ghost use Rattle.borsh_values.specs.Records.{IsFirst, Advances, SameRoot, ahead, limit_of, plan_of, source_of};
 ghost use Rattle.borsh_values.specs.declared.records.RecordError.TheVariants.{Reader};
 ghost use Rattle.borsh_walks.specs.Container.{Member};
 ghost use Rattle.hex.specs.declared.error.FromHexError.TheVariants.{OutOfMemory as NoDigitsMemory};
 ghost use Rattle.std.specs.Prelude.{[], All, IfErr, IfOk, List, Ok, Err, OnErr, OnOk, codes, false, true, ℕ, ◌≡◌, ◌++◌, ◌⊎◌};
 
-use super::answers::{Answer, line};
+use super::answers::{TextAnswer, line};
 use super::command::{Action, Form};
 use super::failure::{Failure, NoDigits};
 use super::lines::{take_held_line, take_line};
@@ -22,9 +22,9 @@ use super::output::write_made;
 use super::plain_text::{Added, PlainText};
 use super::progress::Progress;
 use super::values::{hex_line, no, no_value, no_value_said};
-use borsh::io::{Read, Write};
+use borsh::io::{Buffered, Read, Write};
 use borsh_json::{Characters, Json, LongNumbers, Style, in_ascii};
-use borsh_values::{Buffered, Fault, MOST_BYTES, RecordError, Records};
+use borsh_values::{Fault, MOST_BYTES, RecordError, Records};
 use hex::FromHexError;
 use json::Writer;
 use std::alloc::{AllocError, Global};
@@ -57,7 +57,7 @@ pub enum Wanted {
     Bytes,
 }
 
-/// Writes what a command answers of many values, as they are read, and returns whether the answer is yes.
+/// WritesAnswers what a command answers of many values, as they are read, and returns whether the answer is yes.
 ///
 /// `Decode` writes a line of JSON for each value that the reader's bytes are, one after another, and `Encode` the bytes of the
 /// value that each line of JSON says. With `Lines` each line is the digits of a value, which is answered by its JSON, or the JSON
@@ -82,7 +82,7 @@ pub fn answer_many<'a, E: Eprint, R: Read + Drop, W: Write>(
     out: &mut W,
 ) -> Result<bool, Failure<'a>>
     ensures { let l = many.now.json.now.plan.now in
-        Writes (AnswersMany action form many.now.is_strict (FailsBy R.stream) many.now.path.now l
+        WritesAnswers (AnswersMany action form many.now.is_strict (FailsBy R.stream) many.now.path.now l
         (R.stream input).bytes)
         W.writing out.old out.new [] result }
 {
@@ -103,7 +103,7 @@ fn make_answers<'a, E: Eprint, R: Read + Drop, W: Write>(
 ) -> Result<bool, Failure<'a>>
     requires { made.old.items ≡ [] }
     ensures { let l = many.now.json.now.plan.now in
-        Writes (AnswersMany action form many.now.is_strict (FailsBy R.stream) many.now.path.now l
+        WritesAnswers (AnswersMany action form many.now.is_strict (FailsBy R.stream) many.now.path.now l
         (R.stream input).bytes)
         W.writing out.old out.new made.new.items result }
 {
@@ -132,7 +132,7 @@ fn decode_records<'a, E: Eprint, R: Read + Drop, W: Write>(
 ) -> Result<bool, Failure<'a>>
     requires { made.old.items ≡ [] }
     ensures { let l = many.now.json.now.plan.now in
-        Writes (AnswersMany Action.Decode Form.Records many.now.is_strict (FailsBy R.stream) many.now.path.now
+        WritesAnswers (AnswersMany Action.Decode Form.Records many.now.is_strict (FailsBy R.stream) many.now.path.now
         l (R.stream input).bytes)
         W.writing out.old out.new made.new.items result }
 {
@@ -162,7 +162,7 @@ fn encode_records<'a, E: Eprint, R: Read + Drop, W: Write>(
 ) -> Result<bool, Failure<'a>>
     requires { made.old.items ≡ [] }
     ensures { let l = many.now.json.now.plan.now in
-        Writes (AnswersMany Action.Encode Form.Records many.now.is_strict (FailsBy R.stream) many.now.path.now
+        WritesAnswers (AnswersMany Action.Encode Form.Records many.now.is_strict (FailsBy R.stream) many.now.path.now
         l (R.stream input).bytes)
         W.writing out.old out.new made.new.items result }
 {
@@ -175,7 +175,7 @@ fn json_line<'a>(many: &Many<'a, '_, '_>, value: &[u8]) -> Result<Vec<u8>, Failu
     ensures ok { let l = many.now.json.now.plan.now in
         IfOk result (λ line. IsJsonLine (map_of l) (root_of l) Compact value.now line.items) }
     ensures err { let l = many.now.json.now.plan.now in
-        IfErr result (IsNoJson (map_of l) (root_of l) many.now.path.now value.now) }
+        IfErr result (IsJsonFailure (map_of l) (root_of l) many.now.path.now value.now) }
 {
     let style = Style {
         long_numbers: many.long_numbers,
@@ -205,7 +205,7 @@ fn make_count<'a, E: Eprint, R: Read + Drop>(
     ensures err { let l = many.now.json.now.plan.now in IfErr result
         (StopsCounting (FailsBy R.stream) many.now.path.now l (R.stream input).bytes) }
 {
-    let Answer { is_yes, text } = count_records(many, input, progress)?;
+    let TextAnswer { is_yes, text } = count_records(many, input, progress)?;
     made.extend_from_slice(text.as_bytes())?;
     Ok(is_yes)
 }
@@ -215,7 +215,7 @@ fn count_records<'a, E: Eprint, R: Read + Drop>(
     many: &Many<'a, '_, '_>,
     input: R,
     progress: &mut Progress<'_, E>,
-) -> Result<Answer, Failure<'a>>
+) -> Result<TextAnswer, Failure<'a>>
     ensures ok { let plan = many.now.json.now.plan.now in IfOk result (λ a.
         IsCount (definitions_of plan) (root_of plan) (R.stream input).bytes a.is_yes (printed a.text)) }
     ensures err { let l = many.now.json.now.plan.now in IfErr result
@@ -237,7 +237,7 @@ fn ended<'a>(
     many: &Many<'a, '_, '_>,
     count: u64,
     error: RecordError<'_>,
-) -> Result<Answer, Failure<'a>>
+) -> Result<TextAnswer, Failure<'a>>
     ensures { IsEnded many.now.path.now error.entry result }
 {
     match error {
@@ -248,17 +248,17 @@ fn ended<'a>(
 }
 
 /// The answer that the bytes are so many values.
-fn counted(alloc: Global, count: u64) -> Result<Answer, AllocError>
+fn counted(alloc: Global, count: u64) -> Result<TextAnswer, AllocError>
     ensures { IfOk result (λ a. (a.is_yes ≡ true) × (printed a.text ≡ line_of (count_text count))) }
 {
     let mut text = PlainText::new(alloc);
     push_count(count, &mut text)?;
     text.end_line()?;
-    Ok(Answer { is_yes: true, text })
+    Ok(TextAnswer { is_yes: true, text })
 }
 
 fn push_count(count: u64, out: &mut PlainText) -> Added
-    ensures { Adds out.old out.new result (count_text count) }
+    ensures { AddsPrinted out.old out.new result (count_text count) }
 {
     out.push_number(count)?;
     if count == 1 {
@@ -269,7 +269,12 @@ fn push_count(count: u64, out: &mut PlainText) -> Added
 }
 
 /// The answer that the bytes stop being values behind so many.
-fn stopped(alloc: Global, count: u64, offset: u64, fault: Fault<'_>) -> Result<Answer, AllocError>
+fn stopped(
+    alloc: Global,
+    count: u64,
+    offset: u64,
+    fault: Fault<'_>,
+) -> Result<TextAnswer, AllocError>
     ensures { IfOk result (λ a. (a.is_yes ≡ false) × ((why : List ℕ) ×
         (printed a.text ≡ line_of (codes "no member: " ++ why)))) }
 {
@@ -290,7 +295,7 @@ fn answer_lines<'a, E: Eprint, R: Read + Drop, W: Write>(
 ) -> Result<bool, Failure<'a>>
     requires { made.old.items ≡ [] }
     ensures { let l = many.now.json.now.plan.now in
-        Writes (AnswersEach IsFirstLine (AnswersLine l wanted is_lenient)
+        WritesAnswers (AnswersEach IsFirstLine (AnswersLine l wanted is_lenient)
         (StopsAtLine (FailsBy R.stream) many.now.path.now l wanted is_lenient ⊥ (R.stream input).bytes)
         (R.stream input).bytes)
         W.writing out.old out.new made.new.items result }
@@ -474,7 +479,7 @@ fn next_record<'a, 's, R: Read + Drop, W: Write>(
         records.old records.new (Ok found)) }
     ensures stops { IfErr result (StopsNext R.stream many.now.path.now (plan_of records.old).now
         records.old records.new) }
-    ensures flushes { Flushes W.writing out.old out.new made.old.items made.new.items result }
+    ensures flushes { WritesMade W.writing out.old out.new made.old.items made.new.items result }
 {
     match records.advance_held(many.alloc) {
         Ok(true) if made.len() < ROOM => return Ok(true),
@@ -501,7 +506,7 @@ fn next_line<'a, R: Read + Drop, W: Write>(
 ) -> Result<bool, Failure<'a>>
     ensures next { IfOk result (λ found. NextLine R.stream lines.old lines.new found) }
     ensures stops { IfErr result (StopsNextLine R.stream many.now.path.now lines.old lines.new) }
-    ensures flushes { Flushes W.writing out.old out.new made.old.items made.new.items result }
+    ensures flushes { WritesMade W.writing out.old out.new made.old.items made.new.items result }
 {
     let is_held = take_held_line(lines, 0);
     if is_held && made.len() < ROOM {

@@ -1,5 +1,5 @@
 // Where an answer is written, and devices that keep their errors.
-ghost use Rattle.borsh_tool_commands.specs.Many.{Flushes, IsUnwritten};
+ghost use Rattle.borsh_tool_commands.specs.Many.{WritesMade, IsUnwritten};
 ghost use Rattle.std.specs.Prelude.{◌≡◌, [], OnErr};
 
 use super::failure::Failure;
@@ -10,7 +10,7 @@ use std::io;
 pub(crate) fn write_made<'a, W: Write>(made: &mut Vec<u8>, out: &mut W) -> Result<(), Failure<'a>>
     ensures none { made.new.items ≡ [] }
     ensures unwritten { OnErr result (IsUnwritten result) }
-    ensures flushes { Flushes W.writing out.old out.new made.old.items made.new.items result }
+    ensures flushes { WritesMade W.writing out.old out.new made.old.items made.new.items result }
 {
     let outcome = out.write_all(made.as_slice());
     made.clear();

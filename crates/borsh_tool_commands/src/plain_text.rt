@@ -2,7 +2,8 @@
 ghost use Rattle.std.specs.Prelude.{◌≡◌, ◌++◌, ◌∷◌, ◌<◌, ◌≤◌, [], All, OnOk, decimal, flat_map};
 ghost use Rattle.std.specs.Fmt.{signed_decimal};
 ghost use Rattle.borsh_json.specs.Ascii.{IsPlain, is_printable as is_printable_byte};
-ghost use Rattle.borsh_tool_commands.specs.Plain.{digit as digit_of, digits, escaped, quoted, name_text, is_word as is_word_byte, is_identifier as is_identifier_text};
+ghost use Rattle.std.specs.Char.{digit_char};
+ghost use Rattle.borsh_tool_commands.specs.Plain.{digits, escaped, quoted, name_text, is_word as is_word_byte, is_identifier as is_identifier_text};
 ghost use Rattle.std.specs.List.{list_all};
 
 use itoa::Buffer;
@@ -191,7 +192,7 @@ impl fmt::Display for PlainText {
 /// A hexadecimal digit.
 fn digit(number: u8) -> u8
     requires { number < 16 }
-    ensures is { result ≡ digit_of number }
+    ensures is { result ≡ digit_char number }
     ensures plain { IsPlain result }
 {
     if number < 10 {

@@ -1,18 +1,18 @@
 // What is replied to a request.
 ghost use Rattle.std.specs.Prelude.{◌≡◌, IfErr, IfOk, true};
 ghost use Rattle.borsh_tool_commands.specs.Failures.{IsNoContainer, IsNoContainerJson, IsNoMemory};
-ghost use Rattle.borsh_tool_commands.specs.Json.{layout_if};
+ghost use Rattle.borsh_json.specs.Printed.{layout_if, numbers_if};
 ghost use Rattle.borsh_tool_commands.specs.Printed.{printed};
 ghost use Rattle.borsh_tool_commands.specs.Questions.{AnswersRequest};
 ghost use Rattle.borsh_tool_commands.specs.Replies.{Any, IsContainerReply, IsNoReply, IsReplyOf, IsRustReply, IsSchemaReply, Never, Prints, Replies};
 
-use super::answers::{Answer, answer_to, container_from};
+use super::answers::{TextAnswer, answer_to};
 use super::command::{Action, Request, ValueRequest};
 use super::failure::Failure;
 use super::output::write_made;
 use super::types::items_of;
 use super::values::{
-    Schema, encoded, hex_line, json_text, member, no_container, schema_json, strict_member,
+    Schema, encoded, hex_line, json_text, member, schema_from, schema_json, strict_member,
     with_schema,
 };
 use borsh::io::Write;
@@ -31,8 +31,8 @@ pub struct Reply {
 ///
 /// Determined: of `decode` JSON of the bytes in ASCII, on one line with `--compact`, and a line feed; of `encode` the bytes that the
 /// JSON, in order, is of, behind their container if that is asked for, or their digits as a line; of `member` yes exactly for a
-/// member, but for one that `--strict` says isn't canonical, and the line up to where and why; `NotValue` and `NotText` only for a
-/// reason; `NoCommand` only of `show`. Left open: memory; which members aren't canonical, and where and why: tested; as of
+/// member, with `--strict` only for one that JSON represents, else the line up to where and why, with `--strict` for a reason;
+/// `NotValue` and `NotText` only for a reason; `NoCommand` only of `show`. Left open: memory; where and why: tested; as of
 /// [`borsh_json`].
 ///
 /// ```
@@ -64,7 +64,7 @@ pub fn reply_to<'a>(
             Ok(yes(bytes))
         }
         Action::Member => {
-            let Answer { is_yes, text } = if request.is_strict {
+            let TextAnswer { is_yes, text } = if request.is_strict {
                 strict_member(alloc, schema, path, value)?
             } else {
                 member(alloc, schema, path, value)?
@@ -91,14 +91,12 @@ pub fn answer_about<'a>(
     alloc: Global,
     request: &Request<'a>,
     bytes: &[u8],
-) -> Result<Answer, Failure<'a>>
+) -> Result<TextAnswer, Failure<'a>>
     ensures ok { IfOk result (λ a. AnswersRequest request.now.question bytes.now a.is_yes (printed a.text)) }
     ensures err { IfErr result (IsNoContainer request.now.path.now bytes.now) }
 {
-    match container_from(alloc, bytes) {
-        Ok(container) => Ok(answer_to(alloc, request.question, &container)?),
-        Err(error) => Err(no_container(request.path, error)),
-    }
+    let schema = schema_from(alloc, request.path, bytes)?;
+    Ok(answer_to(alloc, request.question, &schema)?)
 }
 
 /// Writes the reply of [`reply_to`], and returns whether it is yes. After an error a beginning was written, since the writer failed,
@@ -135,7 +133,7 @@ pub fn write_answer<'a, W: Write>(
     ensures { Prints (AnswersRequest request.now.question bytes.now)
         (IsNoContainer request.now.path.now bytes.now) W.writing out.old out.new result }
 {
-    let Answer { is_yes, text } = answer_about(alloc, request, bytes)?;
+    let TextAnswer { is_yes, text } = answer_about(alloc, request, bytes)?;
     let reply = Reply {
         is_yes,
         output: text.into_bytes(),
@@ -227,7 +225,8 @@ fn yes(output: Vec<u8>) -> Reply
 
 /// How JSON is written.
 pub fn style_of(request: &ValueRequest<'_>) -> Style
-    ensures { result.layout ≡ layout_if request.now.is_compact }
+    ensures { (result.layout ≡ layout_if request.now.is_compact)
+        × (result.long_numbers ≡ numbers_if request.now.has_quoted_numbers) }
 {
     Style {
         layout: if request.is_compact {

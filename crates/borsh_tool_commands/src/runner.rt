@@ -16,9 +16,9 @@ use super::types::{WrittenType, schema_of_type};
 use super::values::{
     Schema, own_schema, schema_from, schema_in_front, schema_read, show, with_schema,
 };
-use borsh::io::{Read, StdReader, StdWriter, Write};
+use borsh::io::{Buffered, Read, StdReader, StdWriter, Write};
 use borsh_json::Json;
-use borsh_values::{Buffered, Plan};
+use borsh_values::Plan;
 use clap::ArgMatches;
 use clap::error::ErrorKind;
 use hex::FromHexError;

@@ -3,17 +3,18 @@ ghost use Rattle.std.specs.Prelude.{◌≡◌, ◌++◌, IfErr, IfOk, OnOk, Some
 ghost use Rattle.borsh.specs.Errors.{error_kind};
 ghost use Rattle.borsh_tool_commands.specs.Answers.{AnswersMember, line_of};
 ghost use Rattle.borsh_tool_commands.specs.Colored.{IsShowFailure, Paints};
-ghost use Rattle.borsh_tool_commands.specs.Failures.{IsFailure, IsNoAnswer, IsNoContainer, IsNoContainerInFront, IsNoContainerJson, IsNoJson, IsNoMemory, IsNoValue};
+ghost use Rattle.borsh_tool_commands.specs.Failures.{IsFailure, IsNoAnswer, IsNoContainer, IsNoContainerInFront, IsNoContainerJson, IsJsonFailure, IsNoMemory, IsNoValue};
 ghost use Rattle.borsh_tool_commands.specs.Plain.{digits, escaped};
 ghost use Rattle.borsh_tool_commands.specs.Printed.{printed};
-ghost use Rattle.borsh_tool_commands.specs.Json.{IsJsonInOrder, IsJsonLine};
+ghost use Rattle.borsh_tool_commands.specs.Json.{HasShortLine, IsJsonInOrder, IsJsonLine};
 ghost use Rattle.borsh_tool_commands.specs.Sent.{EncodesJson, IsContainer, IsOwnSchema, IsSchemaJson, IsSent, ReadsSchema, schema_encoding};
 ghost use Rattle.borsh_io.specs.declared.error.ErrorKind.TheVariants.{OutOfMemory as NoRoom};
 ghost use Rattle.borsh_json.specs.declared.error.JsonError.TheVariants.{OutOfMemory as NoMemory};
+ghost use Rattle.borsh_json.specs.declared.output.LongNumbers.TheVariants.{Quoted};
 ghost use Rattle.borsh_walks.specs.Container.{Member};
 ghost use Rattle.borsh_walks.specs.Definitions.{definitions_in};
 
-use super::answers::{Answer, line};
+use super::answers::{TextAnswer, line};
 use super::columns::write_rows;
 use super::failure::Failure;
 use super::not_json::not_json;
@@ -145,7 +146,8 @@ pub fn json_text<'a>(
 ) -> Result<PlainText, Failure<'a>>
     ensures ok { IfOk result (λ t. IsJsonLine schema.now.definitions (string_bytes schema.now.root)
         style.layout bytes.now (printed t)) }
-    ensures err { IfErr result (IsNoJson schema.now.definitions (string_bytes schema.now.root)
+    ensures short { style.long_numbers ≡ Quoted → IfOk result (λ t. HasShortLine (printed t)) }
+    ensures err { IfErr result (IsJsonFailure schema.now.definitions (string_bytes schema.now.root)
         path.now bytes.now) }
 {
     let style = Style {
@@ -215,9 +217,9 @@ pub fn member<'a>(
     schema: &Schema,
     path: &'a str,
     bytes: &[u8],
-) -> Result<Answer, Failure<'a>>
-    ensures ok { IfOk result (λ a. AnswersMember (definitions_in schema.now.definitions)
-        (string_bytes schema.now.root) bytes.now false a.is_yes (printed a.text)) }
+) -> Result<TextAnswer, Failure<'a>>
+    ensures ok { IfOk result (λ a. AnswersMember schema.now.definitions (string_bytes schema.now.root)
+        bytes.now false a.is_yes (printed a.text)) }
     ensures err { IfErr result (IsNoAnswer (definitions_in schema.now.definitions)
         (string_bytes schema.now.root) path.now) }
 {
@@ -231,15 +233,15 @@ pub fn member<'a>(
     }
 }
 
-/// `member`, or `no member`, or `not canonical` if the type refuses the bytes as far as names tell, and why.
+/// `member`, or `no member`, or `not canonical` of a member that has no JSON, as the type refuses it as far as names tell, and why.
 pub fn strict_member<'a>(
     alloc: Global,
     schema: &Schema,
     path: &'a str,
     bytes: &[u8],
-) -> Result<Answer, Failure<'a>>
-    ensures ok { IfOk result (λ a. AnswersMember (definitions_in schema.now.definitions)
-        (string_bytes schema.now.root) bytes.now true a.is_yes (printed a.text)) }
+) -> Result<TextAnswer, Failure<'a>>
+    ensures ok { IfOk result (λ a. AnswersMember schema.now.definitions (string_bytes schema.now.root)
+        bytes.now true a.is_yes (printed a.text)) }
     ensures err { IfErr result (IsNoAnswer (definitions_in schema.now.definitions)
         (string_bytes schema.now.root) path.now) }
 {
@@ -257,15 +259,15 @@ pub fn strict_member<'a>(
     }
 }
 
-fn yes(alloc: Global) -> Result<Answer, AllocError>
+fn yes(alloc: Global) -> Result<TextAnswer, AllocError>
     ensures { IfOk result (λ a. (a.is_yes ≡ true) × (printed a.text ≡ line_of (codes "member"))) }
 {
     let text = line(alloc, "member")?;
-    Ok(Answer { is_yes: true, text })
+    Ok(TextAnswer { is_yes: true, text })
 }
 
 /// What is answered, and why, as a line.
-pub(crate) fn no(alloc: Global, answer: &str, why: &str) -> Result<Answer, AllocError>
+pub(crate) fn no(alloc: Global, answer: &str, why: &str) -> Result<TextAnswer, AllocError>
     ensures { let text = flat_map escaped answer.now ++ flat_map escaped why.now in
         IfOk result (λ a. (a.is_yes ≡ false) × (printed a.text ≡ line_of text)) }
 {
@@ -273,7 +275,7 @@ pub(crate) fn no(alloc: Global, answer: &str, why: &str) -> Result<Answer, Alloc
     text.push(answer)?;
     text.push(why)?;
     text.end_line()?;
-    Ok(Answer {
+    Ok(TextAnswer {
         is_yes: false,
         text,
     })

@@ -2,10 +2,15 @@
 use Rattle.std.proofs.Common.{◌≡◌, ℕ, suc, zero, Some, ◌+◌, ◌-◌, ◌<◌, ◌≤◌, List, [], ◌∷◌, ◌++◌, length, take, drop, Ok, Err, refl, sym, ◌∙◌, ap, subst, arith, append_assoc, append-nil, length-append, length-drop, drop-drop, take-add, take-append-drop, length-take-le, inl, inr, ◌^◌, ◌⊎◌}
 use Rattle.std.specs.Prelude.{Option, Result, IfOk}
 use Rattle.std.proofs.lemmas.Bool.{cases_lt}
-use Rattle.borsh_values.specs.Words.{Shape, primitive, sequence, product, choice, Member, Reached, stays, Rule, tag_too_wide, tag_too_narrow, tag_not_power_of_two, empty_length_range, Breaks, is_empty, is_not_power, is_too_wide, is_too_narrow, is_wide_choice, IsValid, Fault, Reason, BytesLeft, ReasonTooShort as IsShort, Count, Tag, MissingDefinition, Recursive, Front, Value, FrontTooShort as TooShort, FrontNoMember as NoMember, FrontAmbiguous as Ambiguous, KeepsWidths, IsWidth, Membership, MembershipMember as IsMember, MembershipNoMember as IsNoMember, MembershipAmbiguous as IsAmbiguous}
-use Rattle.borsh_values.specs.Membership.{BeginsWith, Refuses, HasOtherCount, HasOtherTag, IsRefused, IsWhy, Stops, IsFault, IsAt, StopsAt, IsFront, HasNoFront, IsFrontAnswer, AnswersFront, IsDecidedFront, IsUndecided, IsDecided, IsAnswer, AnswersMembership}
+use Rattle.borsh_walks.specs.Container.{Shape, primitive, sequence, product, choice, Member, Reached, stays, Rule, tag_too_wide, tag_too_narrow, tag_not_power_of_two, empty_length_range, Breaks, is_empty, is_not_power, is_too_wide, is_too_narrow, is_wide_choice, IsValid}
+use Rattle.borsh_walks.specs.RulesAnswer.{KeepsWidths, IsWidth}
+use Rattle.borsh_values.specs.declared.faults.Reason.TheVariants.{BytesLeft, TooShort as IsShort, Count, Tag, MissingDefinition, Recursive}
+use Rattle.borsh_values.specs.declared.fronts.Front.TheVariants.{Value, TooShort, NoMember, Ambiguous}
+use Rattle.borsh_values.specs.declared.members.Membership.TheVariants.{Member as IsMember, NoMember as IsNoMember, Ambiguous as IsAmbiguous}
+use Rattle.borsh_values.specs.declared.{faults.Fault.Fault, faults.Reason.Reason, fronts.Front.Front, members.Membership.Membership}
+use Rattle.borsh_values.specs.Membership.{BeginsWith, Refuses, other_count, other_tag, Why, IsWhy, Stops, IsFault, IsFaultAt, StopsAt, IsFront, HasNoFront, IsFrontAnswer, AnswersFront, IsDecidedFront, IsUndecided, IsDecided, IsAnswer, AnswersMembership}
 use Rattle.borsh_values.specs.Nodes.{Reads}
-use Rattle.borsh_values.specs.Cursor.{NoneBegins, Begun, Why, before}
+use Rattle.borsh_values.specs.Cursor.{NoneBegins, Begun, before}
 use Rattle.borsh_values.proofs.MemberLaws.{begun_end}
 use Rattle.borsh_values.proofs.TakesLaws.{take_front}
 use Rattle.borsh_values.specs.Unambiguous.{IsUnambiguous}
@@ -46,37 +51,31 @@ module _ (C : List ℕ → Option Shape) (root bytes : List ℕ) where
 
 -- ---- why no member of a name begins at the bytes that are left
 pub refused_why : (C : List ℕ → Option Shape) (r : Reason) (d : Shape) (x left : List ℕ) → C x ≡ Some d → Refuses C r d left → Why C r x left
-refused_why C BytesLeft d x left c h = h
+refused_why C BytesLeft d x left c h = (d, c, h)
 refused_why C IsShort d x left c h = (d, c, h)
 refused_why C Count d x left c h = (d, c, h)
 refused_why C Tag d x left c h = (d, c, h)
-refused_why C MissingDefinition d x left c h = absurd h
-refused_why C Recursive d x left c h = absurd h
+refused_why C MissingDefinition d x left c h = elim h [ ]
+refused_why C Recursive d x left c h = elim h [ ]
 
 -- more bytes change a reason only where there were too few
-other_count_more : (d : Shape) (xs ys : List ℕ) → HasOtherCount d xs → HasOtherCount d (xs ++ ys)
-other_count_more (primitive n) xs ys h = h
-other_count_more (sequence w lo hi e) xs ys h = let l = length-append xs ys in (omega (arith, l, h.0), λ k low high t. h.1 k low high (t ∙ take_front w xs ys h.0))
-other_count_more (product ps) xs ys h = h
-other_count_more (choice w vs) xs ys h = h
+more_counts : {C : List ℕ → Option Shape} {d : Shape} (xs ys : List ℕ) → Refuses C Count d xs → Refuses C Count d (xs ++ ys)
+more_counts xs ys (other_count {w = w} h f) = let l = length-append xs ys in other_count (omega (arith, l, h)) (λ k low high t. f k low high (t ∙ take_front w xs ys h))
 
-other_tag_more : (d : Shape) (xs ys : List ℕ) → HasOtherTag d xs → HasOtherTag d (xs ++ ys)
-other_tag_more (primitive n) xs ys h = h
-other_tag_more (sequence w lo hi e) xs ys h = h
-other_tag_more (product ps) xs ys h = h
-other_tag_more (choice w vs) xs ys h = let l = length-append xs ys in (omega (arith, l, h.0), λ k p a t. h.1 k p a (t ∙ take_front w xs ys h.0))
+more_tags : {C : List ℕ → Option Shape} {d : Shape} (xs ys : List ℕ) → Refuses C Tag d xs → Refuses C Tag d (xs ++ ys)
+more_tags xs ys (other_tag {w = w} h f) = let l = length-append xs ys in other_tag (omega (arith, l, h)) (λ k p a t. f k p a (t ∙ take_front w xs ys h))
 
 why_more : (C : List ℕ → Option Shape) (root bytes : List ℕ) (r : Reason) (offset : ℕ) (x xs ys : List ℕ) → xs ++ ys ≡ drop offset bytes → (r ≡ IsShort → ys ≡ []) → Why C r x xs → IsWhy C root bytes r offset x
-why_more C root bytes BytesLeft offset x xs ys e f w = absurd w
-why_more C root bytes IsShort offset x xs ys e f w = subst (λ l. IsRefused C IsShort x l) (sym (append-nil xs) ∙ ap (λ l. xs ++ l) (sym (f refl)) ∙ e) w
-why_more C root bytes Count offset x xs ys e f w = subst (λ l. IsRefused C Count x l) e (w.0, w.1, other_count_more w.0 xs ys w.2)
-why_more C root bytes Tag offset x xs ys e f w = subst (λ l. IsRefused C Tag x l) e (w.0, w.1, other_tag_more w.0 xs ys w.2)
+why_more C root bytes BytesLeft offset x xs ys e f w = elim w.2 [ ]
+why_more C root bytes IsShort offset x xs ys e f w = subst (λ l. Why C IsShort x l) (sym (append-nil xs) ∙ ap (λ l. xs ++ l) (sym (f refl)) ∙ e) w
+why_more C root bytes Count offset x xs ys e f w = subst (λ l. Why C Count x l) e (w.0, w.1, more_counts xs ys w.2)
+why_more C root bytes Tag offset x xs ys e f w = subst (λ l. Why C Tag x l) e (w.0, w.1, more_tags xs ys w.2)
 why_more C root bytes MissingDefinition offset x xs ys e f w = w
 why_more C root bytes Recursive offset x xs ys e f w = w
 
 -- no member of a name begins at the bytes that are left
 module _ (C : List ℕ → Option Shape) (root bytes rest name : List ℕ) (reason : Reason) (low : length rest ≤ length bytes) (suffix : rest ≡ drop (length bytes - length rest) bytes) (reached : Reached C root name) (others : List (List ℕ)) (next : Reads C (root ∷ []) (before bytes rest) (name ∷ others)) (why : Why C reason name rest) (deny : NoneBegins C reason name rest) (no : NoneBegins C reason root (before bytes rest ++ rest)) where
-  no_front : (f : Fault) → IsAt (length bytes) (length rest) name reason f → (more : List ℕ) → (reason ≡ IsShort → more ≡ []) → HasNoFront C root (bytes ++ more) f
+  no_front : (f : Fault) → IsFaultAt (length bytes) (length rest) name reason f → (more : List ℕ) → (reason ≡ IsShort → more ≡ []) → HasNoFront C root (bytes ++ more) f
   no_front f h more allowed =
       let left : rest ++ more ≡ drop (length bytes - length rest) (bytes ++ more) = ap (λ l. l ++ more) suffix ∙ sym (drop_front (length bytes - length rest) bytes more (omega arith)) in
       record {
@@ -86,7 +85,7 @@ module _ (C : List ℕ → Option Shape) (root bytes rest name : List ℕ) (reas
           next = subst (λ l. Reads C (root ∷ []) l (name ∷ others)) (sym (take_front (length bytes - length rest) bytes more (omega arith))) next;
           none = λ m. deny more allowed (subst (λ l. BeginsWith C name l) (sym left) m);
         });
-        stops = λ e. subst (λ r. Why C r name rest) (sym h.2 ∙ e) why;
+        stops = λ e. elim (subst (λ r. Why C r name rest) (sym h.2 ∙ e) why).2 [ ];
       }
 
   is_no : (a : Front) → StopsAt (length bytes) (length rest) name reason a → IsFrontAnswer C root bytes a

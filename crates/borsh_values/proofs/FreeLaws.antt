@@ -1,10 +1,14 @@
 -- Names whose members are all bytes of one length, and bytes that are passed at once.
-use Rattle.std.proofs.Common.{◌≡◌, ℕ, suc, zero, ◌+◌, ◌*◌, ◌^◌, ◌<◌, ◌≤◌, Bool, true, false, cond, eqb, ltb, List, [], ◌∷◌, length, map, take, drop, replicate, Some, None, refl, sym, ◌∙◌, ap, subst, arith, length-append, length-drop, take-append-drop, length-take-le, ◌-◌, ◌++◌, add-one, append_assoc, append-nil, take-add}
+use Rattle.std.proofs.Common.{◌≡◌, ℕ, suc, zero, ◌+◌, ◌*◌, ◌<◌, ◌≤◌, Bool, true, false, cond, eqb, List, [], ◌∷◌, length, map, take, drop, replicate, Some, None, refl, sym, ◌∙◌, ap, subst, arith, length-append, length-drop, take-append-drop, length-take-le, ◌-◌, ◌++◌, add-one, append_assoc, append-nil, take-add}
 use Rattle.std.specs.Prelude.{Option, All, IfSome, MatchOption, slice_get, ℤ}
 use Rattle.std.proofs.lemmas.Bool.{eqb-true}
 use Rattle.std.proofs.Math.Nat.{suc-mul}
 use Rattle.std.proofs.lemmas.List.Elements.{All-take, All-drop}
-use Rattle.borsh_values.specs.Words.{Shape, primitive, sequence, product, choice, sum_of, of_primitive, of_sequence, of_parts, Members, no_members, more_members, variant_names, Plan, name_at, parts_in, SizeAt, definitions_of, names_of, Named, Copies, One, Passed, Run}
+use Rattle.borsh_walks.specs.Container.{Shape, primitive, sequence, product, choice, sum_of, of_primitive, of_sequence, of_parts, Members, no_members, more_members, variant_names}
+use Rattle.borsh_plan.specs.declared.{plan.Plan.Plan, named.Named.Named}
+use Rattle.borsh_plan.specs.Plan.{SizeAt, definitions_of, names_of}
+use Rattle.borsh_plan.specs.Names.{name_at, parts_in}
+use Rattle.borsh_values.specs.declared.{frames.Rest.TheVariants.Copies, tags.Found.TheVariants.One, runs.Passed.Passed, runs.Run.Run}
 use Rattle.borsh_plan.specs.Sizes.{fitting, are_known, together, known_by, known_within}
 use Rattle.borsh_plan.proofs.SizesLaws.{first_known, fits}
 use Rattle.borsh_values.proofs.MemberLaws.{member_as, same_front, members_head, whole, unwhole, joined, parted, no_more, opens_member, member_opens, opens_once}

@@ -3,7 +3,7 @@ use Rattle.std.proofs.Common.{◌≡◌, ℕ, suc, zero, ◌+◌, ◌/◌, ◌%�
 use Rattle.std.specs.Prelude.{Option, All, ℤ, pos}
 use Rattle.std.proofs.lemmas.List.{append_cancel_left}
 use Rattle.std.proofs.lemmas.Bool.{cases_lt}
-use Rattle.borsh_values.specs.Words.{Shape, primitive, sequence, product, choice, IsIn, first, later, IsListedVariant, first_variant, later_variant, low_bytes, tag, Member, of_primitive, of_sequence, of_parts, of_choice, Members, no_members, more_members, onward, Reached, Reaches, IsOnCycle}
+use Rattle.borsh_walks.specs.Container.{Shape, primitive, sequence, product, choice, IsIn, first, later, IsListedVariant, first_variant, later_variant, little_endian, tag, Member, of_primitive, of_sequence, of_parts, of_choice, Members, no_members, more_members, onward, Reached, Reaches, IsOnCycle}
 use Rattle.borsh_values.specs.Unambiguous.{DistinctTags, no_tags, more_tags, IsUnambiguous, UnambiguousShape}
 use Rattle.borsh_walks.proofs.Laws.{length-tag, one_definition, variant-listed, among-replicate, lead_out, zero_member}
 use Rattle.borsh_values.specs.Cursor.{required_by, OnlyEmpty, AllOnlyEmpty, OpensOnce, Begun}
@@ -32,11 +32,11 @@ pub same_tags : (w : ℕ) (j k : ℤ) (xs ys r s : List ℕ) → (tag w j ++ xs)
 same_tags w j k xs ys r s e = same_front (tag w j) (tag w k) (xs ++ r) (ys ++ s) (sym (append_assoc (tag w j) xs r) ∙ e ∙ append_assoc (tag w k) ys s) (length-tag w j ∙ sym (length-tag w k))
 
 -- ---- counts: those of one range that are tag_byte alike are one
-pub close : (w a b : ℕ) → low_bytes w a ≡ low_bytes w b → a ≤ b → b < a + 256 ^ w → a ≡ b
+pub close : (w a b : ℕ) → little_endian w a ≡ little_endian w b → a ≤ b → b < a + 256 ^ w → a ≡ b
 close zero a b e low high = omega arith
 close (suc w) a b e low high =
     let r : a % 256 ≡ b % 256 = cc in
-    let t : low_bytes w (a / 256) ≡ low_bytes w (b / 256) = cc in
+    let t : little_endian w (a / 256) ≡ little_endian w (b / 256) = cc in
     let p = pow-suc 256 w in
     let q = close w (a / 256) (b / 256) t (omega arith) (omega (arith, p, r)) in
     omega (arith, q, r)
@@ -154,13 +154,17 @@ module _ (C : List ℕ → Option Shape) where
   unpass zero h ms = ms
   unpass (suc k) h ms = more_members h.0 (unpass k h ms)
 
+  pub only_empty_more : {p : List ℕ} {ps : List (List ℕ)} → OnlyEmpty C p → AllOnlyEmpty C ps → (q : List ℕ) → IsIn q (p ∷ ps) → OnlyEmpty C q
+  only_empty_more h hs q first = h
+  only_empty_more h hs q (later a) = hs q a
+
   pub only_empty_copies : {p : List ℕ} (ps : List (List ℕ)) (k : ℕ) → OnlyEmpty C p → AllOnlyEmpty C ps → AllOnlyEmpty C (replicate k p ++ ps)
   only_empty_copies ps zero h hs = hs
-  only_empty_copies ps (suc k) h hs = (h, only_empty_copies ps k h hs)
+  only_empty_copies ps (suc k) h hs = only_empty_more h (only_empty_copies ps k h hs)
 
   pub only_empty_members : {ps : List (List ℕ)} → AllOnlyEmpty C ps → Members C ps []
   only_empty_members {ps = []} h = no_members
-  only_empty_members {ps = p ∷ ps} h = more_members h.0.0 (only_empty_members h.1)
+  only_empty_members {ps = p ∷ ps} h = more_members (h p first).0 (only_empty_members (λ q a. h q (later a)))
 
   pub whole : {x bs : List ℕ} → Member C x bs → Members C (x ∷ []) bs
   whole {x} {bs} m = subst (λ l. Members C (x ∷ []) l) (end bs) (more_members m no_members)

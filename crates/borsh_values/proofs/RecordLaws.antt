@@ -1,13 +1,17 @@
 -- Values one after another.
-use Rattle.std.proofs.Common.{◌≡◌, ℕ, zero, suc, ◌<◌, List, [], ◌∷◌, ◌++◌, length, take, drop, refl, sym, ◌∙◌, ap, subst, arith, append-nil, take-append-drop, length-take-le, ◌+◌, ◌*◌, ◌≤◌, inl, inr, true≢false, Bool, true, false, Result, Ok, Err, le_refl, append_assoc, length-append, length-take}
-use Rattle.std.specs.Prelude.{Option, ◌-◌, ◌^◌, ◌⊎◌, min, IfOk, OnOk, IfErr}
-use Rattle.std.proofs.lemmas.List.{append_cancel_left, take-append-le, drop-append-le, take-take, take_all}
-use Rattle.borsh_values.specs.Words.{Shape, Member, Consumes, Keeps, IsAtEnd, error_kind, ReaderState, Consumed, CountedUp, ReadFailedAfterRetries, Error, ErrorKindOutOfMemory as NoRoom, Fault, Buffered, Records, RecordError, RecordErrorNoMember as NoMember, CutShort, TooLong, EmptyValue, RecordErrorAmbiguous as Ambiguous, Reader, RecordErrorOutOfMemory as OutOfMemory}
+use Rattle.std.proofs.Common.{◌≡◌, ℕ, zero, suc, ◌<◌, List, [], ◌∷◌, ◌++◌, length, take, drop, refl, sym, ◌∙◌, ap, subst, arith, append-nil, take-append-drop, length-take-le, ◌+◌, ◌*◌, ◌≤◌, true≢false, Bool, true, false, Result, Ok, Err, le_refl, append_assoc, length-append, length-take}
+use Rattle.std.specs.Prelude.{Option, ◌-◌, ◌^◌, ◌⊎◌, min, IfErr}
+use Rattle.std.proofs.lemmas.List.{append_cancel_left, take-append-le, drop-append-le}
+use Rattle.borsh_walks.specs.Container.{Shape, Member}
+use Rattle.std.specs.Io.KnownBytes.{IsAtEnd}
+use Rattle.borsh_io.specs.{Errors.error_kind, Stream.ReaderState, Stream.CountedUp}
+use Rattle.borsh_io.specs.declared.{error.Error.Error, error.ErrorKind.TheVariants.OutOfMemory as NoRoom}
+use Rattle.borsh_values.specs.declared.records.RecordError.TheVariants.{NoMember, CutShort, TooLong, EmptyValue, Ambiguous, Reader, OutOfMemory}
+use Rattle.borsh_values.specs.declared.{faults.Fault.Fault, records.Records.Records, records.RecordError.RecordError}
 use Rattle.borsh_values.specs.Membership.{IsFront, HasNoFront, BeginsWith}
-use Rattle.borsh_values.specs.Records.{AreValues, IsFirst, reader_of, held, Lost, IsUnread, ReadsMore, TakesHeld, IsFirstOf, IsRecordError, FaultsAre, Advances, AdvancesHeld, SameRoot, Falls, most_at_once, ahead, limit_of, next_offset, source_of, value_of}
-use Rattle.std.proofs.Math.Seq.{take-append_seam, take-append-add}
-use Rattle.std.proofs.KnownBytes.{Consumes-nil, Consumes-kept, Consumes-trans}
-use Rattle.borsh_io.specs.declared.error.ErrorKind.{ErrorKind}
+use Rattle.borsh_io.specs.Buffered.{IsUnread, Lost, ReadsMore, TakesHeld, most_at_once}
+use Rattle.borsh_values.specs.Records.{AreValues, IsFirst, IsFirstOf, IsRecordError, FaultsAre, Advances, AdvancesHeld, SameRoot, TurnsFall, ahead, limit_of, next_offset, source_of, value_of}
+use Rattle.std.proofs.KnownBytes.{Consumes-nil, Consumes-trans}
 
 -- ---- the first of some values
 no_bytes : (xs ys : List ℕ) → xs ++ ys ≡ [] → length xs ≡ 0
@@ -38,101 +42,6 @@ module _ (C : List ℕ → Option Shape) (root bytes : List ℕ) where
           let same : v ≡ take n bytes = h.only v a.0 [] a.1 (sym a.2 ∙ sym (append-nil bytes)) in
           let left : a.0 ≡ drop n bytes = append_cancel_left v a.0 (drop n bytes) (sym a.2 ∙ sym (take-append-drop n bytes) ∙ ap (λ l. l ++ drop n bytes) (sym same)) in
           (vs, ap (λ l. l ∷ vs) same, subst (λ l. AreValues C root vs l) left a.3)
-
--- ---- values one after another, as a reader gives them
--- ---- reading more
-
--- what lies behind the bytes that were held, where n bytes of a buffer behind them were read, and no others are kept
-pub written : (m h n L : ℕ) (old Y Z buf P rest new zeros : List ℕ) → h ≡ length old → Z ≡ take (h + m) old ++ zeros → Y ≡ Z → n ≤ length buf → h + n ≤ L
-    → new ≡ take (h + n) (take L ((take h Y ++ (buf ++ P)) ++ rest)) → new ≡ old ++ take n buf
-written m h n L old Y Z buf P rest new zeros e f g bound low is =
-    let whole : take (h + m) old ≡ old = take_all (h + m) old (omega (arith, e)) in
-    let front : take h Y ≡ old = ap (take h) (g ∙ f ∙ ap (λ l. l ++ zeros) whole) ∙ ap (λ i. take i (old ++ zeros)) e ∙ take-append_seam old zeros in
-    let X = (take h Y ++ (buf ++ P)) ++ rest in
-    let joined : X ≡ old ++ (buf ++ (P ++ rest)) = ap (λ l. (l ++ (buf ++ P)) ++ rest) front ∙ append_assoc old (buf ++ P) rest ∙ ap (λ l. old ++ l) (append_assoc buf P rest) in
-    is ∙ take-take (h + n) L X low ∙ ap (take (h + n)) joined ∙ ap (λ i. take (i + n) (old ++ (buf ++ (P ++ rest)))) e
-    ∙ take-append-add old (buf ++ (P ++ rest)) n ∙ ap (λ l. old ++ l) (take-append-le n buf (P ++ rest) bound)
-
--- the same where none were read
-pub unwritten : (m h L : ℕ) (old Y Z buf P rest new zeros : List ℕ) → h ≡ length old → Z ≡ take (h + m) old ++ zeros → Y ≡ Z → h ≤ L
-    → new ≡ take h (take L ((take h Y ++ (buf ++ P)) ++ rest)) → new ≡ old
-unwritten m h L old Y Z buf P rest new zeros e f g low is =
-    let zero : h ≡ h + 0 = omega arith in
-    written m h 0 L old Y Z buf P rest new zeros e f g (omega arith) (omega (arith, low)) (is ∙ ap (λ i. take i (take L ((take h Y ++ (buf ++ P)) ++ rest))) zero) ∙ append-nil old
-
--- bytes from an end of 0 on are all
-pub from_zero : (end : ℕ) (old new added : List ℕ) → end ≡ 0 → new ≡ old ++ added → drop end new ≡ drop end old ++ added
-from_zero end old new added z e = ap (λ i. drop i new) z ∙ e ∙ ap (λ l. l ++ added) (sym (ap (λ i. drop i old) z))
-
-bounded-read : (n a b : ℕ) → n ≤ 65536 → a ≤ b → (0 < n → a < b) → n + 65536 * a ≤ 65536 * b
-bounded-read zero a b h l f = omega (arith, l)
-bounded-read (suc n) a b h l f = let g = f (omega arith) in omega (arith, h, g)
-
-module _ {R : Type 0} (state : R → ReaderState) (old new : Buffered R) where
-  pub more-read : (n : ℕ) (buf : List ℕ) → held new ≡ held old ++ take n buf → n ≤ length buf → 0 < length buf → length buf ≤ 65536
-      → Consumed (state (reader_of old)) (state (reader_of new)) (take n buf)
-      → (0 < n → (state (reader_of new)).reads_left < (state (reader_of old)).reads_left)
-      → (n ≡ 0 → 0 < length buf → IsAtEnd (state (reader_of new)).bytes) → ReadsMore state old new (Ok n)
-  more-read n buf e bound some most c fewer end = record {
-    read = take n buf;
-    held = e;
-    lost = record {
-      bounded = subst (λ k. k + 65536 * (state (reader_of new)).reads_left ≤ 65536 * (state (reader_of old)).reads_left) (sym (length-take-le n buf bound)) (bounded-read n _ _ (omega (arith, bound, most)) c.reads_left fewer);
-      bytes = c.bytes;
-      interruptions = c.interruptions;
-      reads_left = c.reads_left;
-      strict_order = c.strict_order;
-    };
-    number = sym (length-take-le n buf bound);
-    faults = c.faults;
-    fewer = fewer;
-    some = λ z. end z some;
-    failed = tt;
-  }
-
-  pub none-read : (e : Error) → held new ≡ held old → reader_of new ≡ reader_of old → error_kind e ≡ NoRoom → ReadsMore state old new (Err e)
-  none-read e h s k =
-      let same : state (reader_of new) ≡ state (reader_of old) = ap state s in
-      record {
-        read = [];
-        held = h ∙ sym (append-nil (held old));
-        lost = subst (λ t. Lost (state (reader_of old)) t []) (sym same) (record { bounded = omega arith; bytes = Consumes-nil _; interruptions = le_refl _; reads_left = le_refl _; strict_order = refl });
-        number = tt;
-        faults = tt;
-        fewer = tt;
-        some = tt;
-        failed = inl (k, ap (λ t. t.faults) same);
-      }
-
-  pub read-failed : {k : ErrorKind} (e : Error) → held new ≡ held old → ReadFailedAfterRetries (state (reader_of old)) (state (reader_of new)) k → ReadsMore state old new (Err e)
-  read-failed e h f = record {
-    read = [];
-    held = h ∙ sym (append-nil (held old));
-    lost = record { bounded = (let a = f.reads_left in omega (arith, a)); bytes = kept _ _ f.bytes; interruptions = f.interruptions; reads_left = f.reads_left; strict_order = f.strict_order };
-    number = tt;
-    faults = tt;
-    fewer = tt;
-    some = tt;
-    failed = inr f.faults;
-  }
-    where
-      kept : (a b : Option (List ℕ)) → Keeps a b → Consumes a b []
-      kept a b k = Consumes-kept a a b [] (Consumes-nil a) k
-
-  -- the bytes that were taken are let go first
-  pub read-behind : (mid : Buffered R) (r : Result ℕ Error) → held mid ≡ held old → reader_of mid ≡ reader_of old → ReadsMore state mid new r → ReadsMore state old new r
-  read-behind mid r h s m =
-      let same : state (reader_of mid) ≡ state (reader_of old) = ap state s in
-      record {
-        read = m.read;
-        held = m.held ∙ ap (λ l. l ++ m.read) h;
-        lost = subst (λ t. Lost t (state (reader_of new)) m.read) same m.lost;
-        number = m.number;
-        faults = subst (λ t. OnOk r ((state (reader_of new)).faults ≡ t.faults)) same m.faults;
-        fewer = subst (λ t. IfOk r (λ n. 0 < n → (state (reader_of new)).reads_left < t.reads_left)) same m.fewer;
-        some = m.some;
-        failed = subst (λ t. IfErr r (λ e. IsUnread t (state (reader_of new)) e)) same m.failed;
-      }
 
 -- ---- values
 
@@ -303,10 +212,10 @@ module _ (C : List ℕ → Option Shape) (root : List ℕ) {R : Type 0} where
         sym (length-append (old ++ read) more ∙ ap (λ k. k + length more) (length-append old read)) ∙ ap (λ l. length l) f.split ∙ length-append v (left ++ more) ∙ ap (λ k. length v + k) (length-append left more) in
         omega (arith, some, e, b)
 
-    pub falls-on : (old new : Records R) (r : Result Bool RecordError) → Advances C root state old new r → Falls state old new r
+    pub falls-on : (old new : Records R) (r : Result Bool RecordError) → Advances C root state old new r → TurnsFall state old new r
     falls-on old new r a is = falls _ _ (ahead old) a.read (value_of new) (ahead new) [] (a.goes.found is []) a.lost.bounded
 
-    pub falls-held : (old new : Records R) (nothing ended : Type 0) (r : Result Bool RecordError) → AdvancesHeld C root old new nothing ended r → Falls state old new r
+    pub falls-held : (old new : Records R) (nothing ended : Type 0) (r : Result Bool RecordError) → AdvancesHeld C root old new nothing ended r → TurnsFall state old new r
     falls-held old new nothing ended r a is =
         let f = subst (λ l. IsFirst C root (value_of new) (l ++ []) (ahead new ++ [])) (sym (append-nil (ahead old))) (a.goes.found is []) in
         let same : (state (source_of new)).reads_left ≡ (state (source_of old)).reads_left = ap (λ s. (state s).reads_left) a.reader in

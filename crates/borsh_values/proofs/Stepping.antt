@@ -1,9 +1,17 @@
 -- The steps of a cursor, and its folds.
 use Rattle.std.proofs.Common.{◌≡◌, ℕ, suc, ◌+◌, ◌-◌, ◌<◌, ◌≤◌, List, [], ◌∷◌, ◌++◌, length, take, drop, reverse, replicate, set, get_or, Some, None, refl, sym, ◌∙◌, ap, subst, take-append-drop, append-nil, append_assoc, Ok, zero, arith, length-append, ◌⊎◌, inl, inr}
 use Rattle.std.specs.Prelude.{Option, Vec, slice_get, Result}
-use Rattle.borsh_values.specs.Words.{Bor, Global, btree_map_len, get_by_text, Definition, IsZeroSize, Member, Members, Shape, shape_of, Cursor, Event, EventOpen as AtOpen, Pass as AtPass, Close as AtClose, End as AtEnd, EventFault as AtFault, EventUndecided as AtUndecided, Reason, Recursive as IsRecursive, Frame, Rest, Step, Mark, Empty, MarkOpen as Open, Passed, definitions_of, map_of, names_of, root_of, named_definition, name_at, name_of, Front, Value, FrontAmbiguous as Ambiguous, Plan, Node, Preorder}
+use Rattle.std.specs.{Borrow.Bor, Global.Global, BTreeMap.btree_map_len, BTreeMap.get_by_text}
+use Rattle.borsh_walks.specs.declared.definition.Definition.{Definition}
+use Rattle.borsh_walks.specs.Container.{IsZeroSize, Member, Members, Shape}
+use Rattle.borsh_walks.specs.Definitions.{shape_of}
+use Rattle.borsh_values.specs.declared.cursor.Event.TheVariants.{Open as AtOpen, Pass as AtPass, Close as AtClose, End as AtEnd, Fault as AtFault, Undecided as AtUndecided}
+use Rattle.borsh_values.specs.declared.{cursor.Cursor.Cursor, cursor.Event.Event, faults.Reason.Reason, faults.Reason.TheVariants.Recursive as IsRecursive, frames.Frame.Frame, frames.Rest.Rest, frames.Step.Step, frames.Mark.Mark, frames.Mark.TheVariants.Empty, frames.Mark.TheVariants.Open, runs.Passed.Passed, fronts.Front.Front, fronts.Front.TheVariants.Value, fronts.Front.TheVariants.Ambiguous, nodes.Node.Node, preorder.Preorder.Preorder}
+use Rattle.borsh_plan.specs.Plan.{definitions_of, map_of, names_of, root_of}
+use Rattle.borsh_plan.specs.Names.{found_definition, name_at, name_of}
+use Rattle.borsh_plan.specs.declared.plan.Plan.{Plan}
 use Rattle.borsh_walks.proofs.Laws.{zero_member}
-use Rattle.borsh_values.specs.Cursor.{Going, Happens, IsBegun, IsCursor, IsOpenable, IsStopped, Moves, OpensFull, PassesCopies, Why, before, name_in, pending_names, Begun, IsAnswerOf, Stays, GoesOn, KnownAs, NoneBegins, OnlyEmpty, past_copies, pending, remaining}
+use Rattle.borsh_values.specs.Cursor.{Going, Happens, IsBegun, IsCursor, IsOpenable, IsStopped, Moves, OpensFull, PassesCopies, before, name_in, pending_names, Begun, IsAnswerOf, Stays, StepsOn, KnownAs, NoneBegins, OnlyEmpty, past_copies, pending, remaining}
 use Rattle.borsh_values.specs.Free.{IsFreeFront}
 use Rattle.borsh_plan.proofs.Laws.{looked_up as named}
 use Rattle.borsh_plan.proofs.Places.{name_there}
@@ -11,7 +19,7 @@ use Rattle.borsh_values.specs.Nodes.{Opens}
 use Rattle.borsh_values.proofs.Answers.{before_whole, suffix_on, answers_no, is_front}
 use Rattle.borsh_values.proofs.Walk.{going_skip, known_empty, less_skip, going_reached, going_next, going_denied, room, going_new, going_on, going_past, going_pass, going_up, going_up_empty, going_back, going_leads, less_new, less_on, less_past, less_pass, next_names, left, passes, with_rest}
 use Rattle.borsh_values.proofs.MemberLaws.{members_head, no_more}
-use Rattle.borsh_values.specs.Membership.{IsFrontAnswer, StopsAt, IsUndecided}
+use Rattle.borsh_values.specs.Membership.{IsFrontAnswer, StopsAt, IsUndecided, Why}
 use Rattle.borsh_values.specs.Preorder.{AreZero, GivesNode}
 
 -- ---- each step of a cursor
@@ -36,7 +44,7 @@ module _ (c : Cursor) (i : IsCursor c) where
       let f = i.going.state.begun.forth c.bytes.now [] c.left.now m (append-nil c.bytes.now ∙ sym (before_whole c.bytes.now c.left.now i.suffix)) in
       subst (λ b. Members (definitions_of c.plan.now) (pending_names c) b) (sym (append-nil f.0) ∙ sym f.2) f.1
 
-module _ (c : Cursor) (i : IsCursor c) (s : Step) (g : GoesOn (names_of c.plan.now) c.frame.rest s) where
+module _ (c : Cursor) (i : IsCursor c) (s : Step) (g : StepsOn (names_of c.plan.now) c.frame.rest s) where
   -- copies of a name are passed that has the empty member alone
   pub cursor_skip : (r : Rest) → r ≡ past_copies c.frame.rest s → OnlyEmpty (definitions_of c.plan.now) (name_in c s.at) → IsCursor (record c { frame = with_rest c.frame r })
   cursor_skip r e h = record {
@@ -83,7 +91,7 @@ module _ (c : Cursor) (i : IsCursor c) (s : Step) (g : GoesOn (names_of c.plan.n
   stopped_again k = cursor_stopped IsRecursive (going_leads c.plan.now i.going s g k) (going_back c.plan.now i.going s g k)
 
   -- the definition that the name has in the map
-  pub looked_up : (d : Definition) → Some d ≡ named_definition (slice_get (names_of c.plan.now) s.at) → get_by_text (map_of c.plan.now) (name_in c s.at) ≡ Some d
+  pub looked_up : (d : Definition) → Some d ≡ found_definition (slice_get (names_of c.plan.now) s.at) → get_by_text (map_of c.plan.now) (name_in c s.at) ≡ Some d
   looked_up d e = named c.plan.now (name_in c s.at) s.at (name_there (names_of c.plan.now) s.at g.within) ∙ sym e
 
   -- the next name is opened
@@ -158,7 +166,7 @@ module _ (old new : Cursor) where
   pub none_full : (e : Event) → remaining (names_of old.plan.now) old.frame.rest ≡ [] → Happens old new e → OpensFull old e
   none_full e none h = λ at d own q z. (let b = (subst (λ e. Happens old new e) q h).0.before in cc)
 
-  pub next_full : (s : Step) → GoesOn (names_of old.plan.now) old.frame.rest s → (IsZeroSize (definitions_of old.plan.now) (name_in old s.at) → ⊥) → (e : Event) → Happens old new e → OpensFull old e
+  pub next_full : (s : Step) → StepsOn (names_of old.plan.now) old.frame.rest s → (IsZeroSize (definitions_of old.plan.now) (name_in old s.at) → ⊥) → (e : Event) → Happens old new e → OpensFull old e
   next_full s g some e h = λ at d own q z.
       let k = subst (λ e. Happens old new e) q h in
       let b : remaining (names_of old.plan.now) old.frame.rest ≡ name_in old at ∷ k.0.others = k.0.before in

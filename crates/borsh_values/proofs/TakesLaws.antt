@@ -1,14 +1,18 @@
 -- What an opened definition takes.
 use Rattle.std.proofs.Common.{◌≡◌, ℕ, suc, zero, ◌+◌, ◌-◌, ◌*◌, ◌<◌, ◌≤◌, ◌^◌, List, [], ◌∷◌, ◌++◌, length, take, drop, replicate, Some, refl, sym, ◌∙◌, ap, subst, arith, append_assoc, length-append, length-drop, append-nil, take-add, ◌⊎◌, inl, inr}
 use Rattle.std.specs.Prelude.{Option, None, All, ℤ, pos, negsuc, slice_get}
-use Rattle.borsh_values.specs.Words.{Shape, primitive, sequence, product, choice, IsIn, first, later, IsListedVariant, low_bytes, tag, variant_names, references, Member, of_primitive, of_sequence, of_parts, of_choice, Members, IsZeroSize, zeroed, Nothing, One, name_at, shape_at, parts_in, IsPlaceOf, Copies, Parts, Named, Opened, OpenedUndecided as Undecided, Refused, Taken, ReasonTooShort as TooShort}
+use Rattle.borsh_walks.specs.Container.{Shape, primitive, sequence, product, choice, IsIn, first, later, IsListedVariant, little_endian, tag, variant_names, references, Member, of_primitive, of_sequence, of_parts, of_choice, Members, IsZeroSize, zeroed}
+use Rattle.borsh_values.specs.declared.frames.Opened.TheVariants.{Undecided, Refused, Taken}
+use Rattle.borsh_values.specs.declared.{tags.Found.TheVariants.Nothing, tags.Found.TheVariants.One, frames.Rest.TheVariants.Copies, frames.Rest.TheVariants.Parts, frames.Opened.Opened, faults.Reason.TheVariants.TooShort, faults.Reason.TheVariants.Count, faults.Reason.TheVariants.Tag}
+use Rattle.borsh_plan.specs.Names.{name_at, shape_at, parts_in, IsPlaceOf}
+use Rattle.borsh_plan.specs.declared.named.Named.{Named}
 use Rattle.std.proofs.Math.Nat.{suc-mul}
 use Rattle.std.proofs.lemmas.List.Elements.{All-take, All-drop}
 use Rattle.borsh_walks.proofs.Names.{among_one}
 use Rattle.borsh_walks.proofs.Laws.{length-tag, among-replicate, variant-listed}
 use Rattle.borsh_values.specs.Unambiguous.{DistinctTags}
 use Rattle.borsh_values.specs.Nodes.{packed_size, OpensElements, Opens}
-use Rattle.borsh_values.specs.Membership.{BeginsWith, Refuses, HasOtherCount, HasOtherTag}
+use Rattle.borsh_values.specs.Membership.{BeginsWith, Refuses, few_for_elements, few_for_primitive, other_count, other_tag}
 use Rattle.borsh_values.specs.Cursor.{remaining, required_by, OnlyEmpty, AllOnlyEmpty, OpensOnce, NoneBegins, Takes, TakesElements, OpensAs}
 use Rattle.borsh_values.specs.Tags.{FoundAs}
 use Rattle.borsh_values.proofs.TagLaws.{listed_at, only_name}
@@ -36,15 +40,13 @@ too_short C {x} {bytes} none more f m = none (subst (λ b. BeginsWith C x b) (ap
 module _ (C : List ℕ → Option Shape) where
   -- zero sizes
   all_zero : (ps : List (List ℕ)) → AllOnlyEmpty C ps → (p : List ℕ) → IsIn p ps → IsZeroSize C p
-  all_zero [] h p a = elim a [ ]
-  all_zero (q ∷ qs) h p first = h.0.1
-  all_zero (q ∷ qs) h p (later a) = all_zero qs h.1 p a
+  all_zero ps h p a = (h p a).1
 
   sequence_zero : {x : List ℕ} (w lo hi k : ℕ) (e : List ℕ) → w ≡ 0 → hi < lo + 256 ^ w → lo ≤ k → k ≤ hi → C x ≡ Some (sequence w lo hi e) → AllOnlyEmpty C (replicate k e) → IsZeroSize C x
   sequence_zero zero zero zero k e z u low high c h = zeroed (sequence zero zero zero e) [] c refl (λ p a. elim a [ ])
   sequence_zero zero zero (suc hi) k e z u low high c h = absurd (omega arith)
   sequence_zero zero (suc lo) hi zero e z u low high c h = absurd (omega arith)
-  sequence_zero zero (suc lo) hi (suc k) e z u low high c h = zeroed (sequence zero (suc lo) hi e) (e ∷ []) c refl (λ p a. all_zero (e ∷ []) (h.0, tt) p a)
+  sequence_zero zero (suc lo) hi (suc k) e z u low high c h = zeroed (sequence zero (suc lo) hi e) (e ∷ []) c refl (λ p a. subst (λ y. IsZeroSize C y) (sym (among_one a)) (h e first).1)
   sequence_zero (suc w) lo hi k e z u low high c h = absurd (omega arith)
 
   choice_zero : {x : List ℕ} (w : ℕ) (k : ℤ) (p : List ℕ) (vs : List (ℤ × List ℕ)) → w ≡ 0 → vs ≡ (k, p) ∷ [] → C x ≡ Some (choice w vs) → IsZeroSize C p → IsZeroSize C x
@@ -101,6 +103,13 @@ module _ (C : List ℕ → Option Shape) where
       subst (λ l. Member C x l) (ap (λ i. tag i k ++ []) z ∙ ap (λ l. l ++ []) (no_tag k)) (of_choice c listed h.0),
       choice_zero C w k p vs z (single z) c h.1,
     )
+
+  short_primitive : {x : List ℕ} {n : ℕ} {bytes : List ℕ} → length bytes < n → C x ≡ Some (primitive n) → BeginsWith C x bytes → ⊥
+  short_primitive {n = n} h c m =
+      let b = member_as C (primitive n) c m.2 in
+      let l = ap (λ l. length l) m.3 in
+      let z = b.0 in
+      absurd (omega (arith, h, l, z, length-append m.0 m.1))
 
   pub short_sequence : {x : List ℕ} {w lo hi : ℕ} {e : List ℕ} {bytes : List ℕ} → length bytes < w → C x ≡ Some (sequence w lo hi e) → BeginsWith C x bytes → ⊥
   short_sequence {w = w} {lo = lo} {hi = hi} {e = e} h c m =
@@ -162,7 +171,7 @@ module _ (C : List ℕ → Option Shape) (w lo hi k n : ℕ) (e : List ℕ) (pac
     elements_small = All-take (λ b. b < 256) (k * suc n) (drop w bytes) (All-drop (λ b. b < 256) w bytes small)
 
     packed_only_empty : {x : List ℕ} → w + k * suc n ≡ 0 → C x ≡ Some (sequence w lo hi e) → OnlyEmpty C x
-    packed_only_empty {x} z c = sequence_only_empty C w lo hi k e unambiguous low high (omega (arith, z)) c (subst (λ i. AllOnlyEmpty C (replicate i e)) (sym (no_copies w k n z)) tt)
+    packed_only_empty {x} z c = sequence_only_empty C w lo hi k e unambiguous low high (omega (arith, z)) c (subst (λ i. AllOnlyEmpty C (replicate i e)) (sym (no_copies w k n z)) (λ p a. elim a [ ]))
 
     packed_opened : Opens C (sequence w lo hi e) (take (w + k * suc n) bytes) []
     packed_opened = (
@@ -201,7 +210,7 @@ elements_opened C ns w lo hi k at bytes u low high within t small (suc n) p Unde
 elements_opened C ns w lo hi k at bytes u low high within t small zero p (Refused r) h = let f = h.1 in absurd (omega (arith, f, within))
 elements_opened C ns w lo hi k at bytes u low high within t small (suc n) p (Refused r) h = (
   (λ x c. subst (λ i. NoneBegins C i x bytes) (sym h.0) (too_short C (λ m. no_packed C w lo hi k n (name_at ns at) p u low high h.1 t c m))),
-  subst (λ i. Refuses C i (sequence w lo hi (name_at ns at)) bytes) (sym h.0) (inr (k, t, low, high, subst (λ i. length bytes < w + k * i) (sym p) h.1)),
+  subst (λ i. Refuses C i (sequence w lo hi (name_at ns at)) bytes) (sym h.0) (few_for_elements k t low high (subst (λ i. length bytes < w + k * i) (sym p) h.1)),
 )
 elements_opened C ns w lo hi k at bytes u low high within t small zero p (Taken n r) h =
     let e = name_at ns at in
@@ -223,7 +232,7 @@ in_variants listed (later a) = elim a [ ]
 pub takes_choice : (C : List ℕ → Option Shape) (w : ℕ) (k : ℤ) (p bytes : List ℕ) (vs : List (ℤ × List ℕ)) → IsListedVariant k p vs → ((j : ℤ) (q : List ℕ) → IsListedVariant j q vs → tag w j ≡ tag w k → q ≡ p) → (w ≡ 0 → (q : List ℕ) → IsIn q (p ∷ []) → IsIn q (required_by (choice w vs))) → (w ≡ 0 → vs ≡ (k, p) ∷ []) → w ≤ length bytes → tag w k ≡ take w bytes → Takes C (choice w vs) bytes w (p ∷ [])
 takes_choice C w k p bytes vs listed one needs single within t = record {
   within = within;
-  only_empty = λ z x c a. choice_only_empty C w k p vs listed one single z c a.0;
+  only_empty = λ z x c a. choice_only_empty C w k p vs listed one single z c (a p first);
   opens = (k, p, listed, sym t, refl);
   once = subst (λ b. OpensOnce C (choice w vs) b (p ∷ [])) t (once_variant C w vs k p one);
   mentioned = λ q a. in_variants listed a;
@@ -242,27 +251,24 @@ one_of_none (suc w) lo hi z h = absurd (omega arith)
 pub array_opened : (C : List ℕ → Option Shape) (ns : List Named) (w lo hi at : ℕ) (bytes : List ℕ) → w ≡ 0 → lo ≡ hi → All (λ b. b < 256) bytes → (a : Opened) → TakesElements ns (packed_size (C (name_at ns at))) at lo 0 (length bytes) a → OpensAs C ns (sequence w lo hi (name_at ns at)) bytes a
 array_opened C ns w lo hi at bytes z h small a t = opened_at C ns w lo hi lo 0 at bytes (sym z) (one_of_none w lo hi z h) (omega arith) (omega (arith, h)) (omega (arith, z)) (no_width w lo bytes z) small a t
 
-written_at : (w size k : ℕ) (bytes : List ℕ) → size ≡ w → size ≤ length bytes → low_bytes (length (take size bytes)) k ≡ take size bytes → tag w (pos k) ≡ take w bytes
-written_at w size k bytes z within t = ap (λ i. low_bytes i k) (sym z) ∙ ap (λ i. low_bytes i k) (sym (length_take size bytes within)) ∙ t ∙ ap (λ i. take i bytes) z
+written_at : (w size k : ℕ) (bytes : List ℕ) → size ≡ w → size ≤ length bytes → little_endian (length (take size bytes)) k ≡ take size bytes → tag w (pos k) ≡ take w bytes
+written_at w size k bytes z within t = ap (λ i. little_endian i k) (sym z) ∙ ap (λ i. little_endian i k) (sym (length_take size bytes within)) ∙ t ∙ ap (λ i. take i bytes) z
 
 -- a sequence whose count was read
-pub list_opened : (C : List ℕ → Option Shape) (ns : List Named) (w lo hi k size at : ℕ) (bytes : List ℕ) → hi < 256 ^ w → size ≡ w → lo ≤ k → k ≤ hi → size ≤ length bytes → low_bytes (length (take size bytes)) k ≡ take size bytes → All (λ b. b < 256) bytes → (a : Opened) → TakesElements ns (packed_size (C (name_at ns at))) at k size (length bytes) a → OpensAs C ns (sequence w lo hi (name_at ns at)) bytes a
+pub list_opened : (C : List ℕ → Option Shape) (ns : List Named) (w lo hi k size at : ℕ) (bytes : List ℕ) → hi < 256 ^ w → size ≡ w → lo ≤ k → k ≤ hi → size ≤ length bytes → little_endian (length (take size bytes)) k ≡ take size bytes → All (λ b. b < 256) bytes → (a : Opened) → TakesElements ns (packed_size (C (name_at ns at))) at k size (length bytes) a → OpensAs C ns (sequence w lo hi (name_at ns at)) bytes a
 list_opened C ns w lo hi k size at bytes fits z low high within t small a h = opened_at C ns w lo hi k size at bytes z (omega arith) low high (omega (arith, z)) (written_at w size k bytes z within t) small a h
 
 pub small_at : (w size k : ℕ) (bytes : List ℕ) → size ≡ w → size ≤ length bytes → k < 256 ^ length (take size bytes) → k < 256 ^ w
 small_at w size k bytes z within h = subst (λ i. k < 256 ^ i) (length_take size bytes within ∙ z) h
 
-pub count_off : (w lo hi k size : ℕ) (e bytes : List ℕ) → hi < 256 ^ w → size ≡ w → size ≤ length bytes → low_bytes (length (take size bytes)) k ≡ take size bytes → k < 256 ^ length (take size bytes) → (k < lo) ⊎ (hi < k) → (C : List ℕ → Option Shape) (x : List ℕ) → C x ≡ Some (sequence w lo hi e) → (more : List ℕ) → BeginsWith C x (bytes ++ more) → ⊥
+pub count_off : (w lo hi k size : ℕ) (e bytes : List ℕ) → hi < 256 ^ w → size ≡ w → size ≤ length bytes → little_endian (length (take size bytes)) k ≡ take size bytes → k < 256 ^ length (take size bytes) → (k < lo) ⊎ (hi < k) → (C : List ℕ → Option Shape) (x : List ℕ) → C x ≡ Some (sequence w lo hi e) → (more : List ℕ) → BeginsWith C x (bytes ++ more) → ⊥
 count_off w lo hi k size e bytes fits z within t small off C x c more m = no_count C k fits (small_at w size k bytes z within small) (written_at w size k bytes z within t ∙ sym (take_front w bytes more (omega (arith, z, within)))) off c m
 
-pub other_count : (w lo hi n size : ℕ) (e bytes : List ℕ) → hi < 256 ^ w → size ≡ w → size ≤ length bytes → low_bytes (length (take size bytes)) n ≡ take size bytes → n < 256 ^ length (take size bytes) → (n < lo) ⊎ (hi < n) → HasOtherCount (sequence w lo hi e) bytes
-other_count w lo hi n size e bytes fits z within t small off = (
-  omega (arith, z, within),
-  λ k low high h.
-      let s = small_at w size n bytes z within small in
-      let o : n ≡ k = one_count w 0 (256 ^ w - 1) n k (omega arith) (omega arith) (omega (arith, s)) (omega arith) (omega (arith, high, fits)) (written_at w size n bytes z within t ∙ sym h) in
-      elim off [ inl a ↦ omega (arith, o, a, low) | inr a ↦ omega (arith, o, a, high) ],
-)
+pub count_refused : (C : List ℕ → Option Shape) (w lo hi n size : ℕ) (e bytes : List ℕ) → hi < 256 ^ w → size ≡ w → size ≤ length bytes → little_endian (length (take size bytes)) n ≡ take size bytes → n < 256 ^ length (take size bytes) → (n < lo) ⊎ (hi < n) → Refuses C Count (sequence w lo hi e) bytes
+count_refused C w lo hi n size e bytes fits z within t small off = other_count (omega (arith, z, within)) λ k low high h.
+    let s = small_at w size n bytes z within small in
+    let o : n ≡ k = one_count w 0 (256 ^ w - 1) n k (omega arith) (omega arith) (omega (arith, s)) (omega arith) (omega (arith, high, fits)) (written_at w size n bytes z within t ∙ sym h) in
+    elim off [ inl a ↦ omega (arith, o, a, low) | inr a ↦ omega (arith, o, a, high) ]
 
 single_needs : (w : ℕ) (k : ℤ) (p : List ℕ) (vs : List (ℤ × List ℕ)) → vs ≡ (k, p) ∷ [] → w ≡ 0 → (q : List ℕ) → IsIn q (p ∷ []) → IsIn q (required_by (choice w vs))
 single_needs zero k p vs e z q a = subst (λ l. IsIn q (required_by (choice zero l))) (sym e) a
@@ -316,10 +322,10 @@ found_none_choice w size bytes vs z within f C x c more m =
     let long = length-append bytes more in
     no_variant C (omega (arith, long, z, within)) (λ j q a b. f j q a (ap (λ i. tag i j) l ∙ b ∙ take_front w bytes more (omega (arith, z, within)) ∙ sym t)) c m
 
-pub other_tag : (w size : ℕ) (bytes : List ℕ) (vs : List (ℤ × List ℕ)) → size ≡ w → size ≤ length bytes → FoundAs vs (take size bytes) Nothing → HasOtherTag (choice w vs) bytes
-other_tag w size bytes vs z within f =
+pub tag_refused : (C : List ℕ → Option Shape) (w size : ℕ) (bytes : List ℕ) (vs : List (ℤ × List ℕ)) → size ≡ w → size ≤ length bytes → FoundAs vs (take size bytes) Nothing → Refuses C Tag (choice w vs) bytes
+tag_refused C w size bytes vs z within f =
     let l : length (take size bytes) ≡ w = length_take size bytes within ∙ z in
-    (omega (arith, z, within), λ k p a b. f k p a (ap (λ i. tag i k) l ∙ b ∙ sym (ap (λ i. take i bytes) z)))
+    other_tag (omega (arith, z, within)) (λ k p a b. f k p a (ap (λ i. tag i k) l ∙ b ∙ sym (ap (λ i. take i bytes) z)))
 
 pub several_ambiguous : (w size : ℕ) (bytes : List ℕ) (vs : List (ℤ × List ℕ)) → size ≡ w → size ≤ length bytes → (DistinctTags (length (take size bytes)) vs → ⊥) → DistinctTags w vs → ⊥
 several_ambiguous w size bytes vs z within f t = f (subst (λ i. DistinctTags i vs) (sym (length_take size bytes within ∙ z)) t)
@@ -332,6 +338,11 @@ module _ (C : List ℕ → Option Shape) (ns : List Named) (at : ℕ) (low : at 
     omega arith,
     low,
   )
+
+  pub refuses_primitive : (n size : ℕ) (s : Shape) (bytes : List ℕ) → s ≡ primitive n → size ≡ n → length bytes < size → OpensAs C ns s bytes (Refused TooShort)
+  refuses_primitive n size s bytes e z short =
+      let few : length bytes < n = omega (arith, z, short) in
+      subst (λ s. OpensAs C ns s bytes (Refused TooShort)) (sym e) ((λ x c. too_short C (λ m. short_primitive C few c m)), few_for_primitive {n = n} few)
 
   pub opens_product : (ps : List (List ℕ)) (s : Shape) (bytes : List ℕ) → s ≡ product ps → shape_at ns at ≡ Some s → OpensAs C ns s bytes (Taken 0 (Parts at 0))
   opens_product ps s bytes e h =

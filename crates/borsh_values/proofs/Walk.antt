@@ -3,26 +3,34 @@ use Rattle.std.proofs.Common.{◌++◌, replicate, subst, ◌≡◌, ℕ, suc, z
 use Rattle.std.specs.Prelude.{Option, String, option_map, string_bytes, cond}
 use Rattle.std.proofs.lemmas.List.{get_or-set_same, get_or-set_other, length-replicate, length-set}
 use Rattle.borsh_walks.proofs.Tables.{Updated}
-use Rattle.borsh_values.specs.Words.{name_at, shape_at, parts_in, IsPlaceOf, Named, Rest, Copies, Parts, Step, Mark, lookup, nat_cmp, is_eq, definitions_in, shape_of, BTreeMap, btree_map_len, get_by_text, Definition, Shape, references, IsIn, first, later, Member, of_primitive, of_sequence, of_parts, of_choice, Reached, Reaches, IsOnCycle, stays, onward, Frame, distinct_none, distinct_more, Empty, MarkOpen as Open, Reason, definitions_of, map_of, names_of, root_of, Plan, Taken, Passed}
-use Rattle.borsh_values.specs.Cursor.{HasPlaces, opens, parts_of_all, steps_of, Begun, On, Top, Link, Chain, Walk, Going, remaining, step_count, GoesOn, Fits, past_copies, mark_at, pending, required_by, OnlyEmpty, AllOnlyEmpty, Takes, NoneBegins, OpensAs, KnownAs}
+use Rattle.borsh_plan.specs.Names.{name_at, shape_at, parts_in, IsPlaceOf}
+use Rattle.borsh_plan.specs.Plan.{definitions_of, map_of, names_of, root_of}
+use Rattle.borsh_plan.specs.declared.{named.Named.Named, plan.Plan.Plan}
+use Rattle.borsh_values.specs.declared.{frames.Rest.Rest, frames.Rest.TheVariants.Copies, frames.Rest.TheVariants.Parts, frames.Step.Step, frames.Mark.Mark, frames.Frame.Frame, frames.Mark.TheVariants.Empty, frames.Mark.TheVariants.Open, faults.Reason.Reason, frames.Opened.TheVariants.Taken, runs.Passed.Passed}
+use Rattle.std.specs.BTreeMap.{BTreeMap, btree_map_len, get_by_text}
+use Rattle.std.specs.{Map.lookup, Ordering.nat_cmp, Ordering.is_eq}
+use Rattle.borsh_walks.specs.Container.{Shape, references, IsIn, first, later, Member, of_primitive, of_sequence, of_parts, of_choice, Reached, Reaches, IsOnCycle, stays, onward}
+use Rattle.borsh_walks.specs.{Definitions.definitions_in, Definitions.shape_of, SizeAnswer.distinct_none, SizeAnswer.distinct_more}
+use Rattle.borsh_walks.specs.declared.definition.Definition.{Definition}
+use Rattle.borsh_values.specs.Cursor.{opens, parts_of_all, steps_of, Begun, On, Waits, Chain, Walk, Going, remaining, step_count, StepsOn, Fits, past_copies, mark_at, pending, required_by, OnlyEmpty, AllOnlyEmpty, Takes, NoneBegins, OpensAs, KnownAs}
 use Rattle.borsh_plan.proofs.Places.{drop_end, drop_next, name_is, name_there}
 use Rattle.borsh_walks.proofs.Names.{shape_some, name_cases, also_defined, among_one, among_append, among_right, names_within}
 use Rattle.std.specs.Cmp.Lexicographic.{slice_cmp}
 use Rattle.std.proofs.Math.Nat.{mul-le-mul_left}
 use Rattle.borsh_values.specs.Membership.{BeginsWith, LeadsTo}
 use Rattle.borsh_values.specs.Nodes.{Opens, Reads, reads_none}
-use Rattle.borsh_values.proofs.MemberLaws.{begun_start, begun_skip, begun_on, begun_denied, begun_first, reads_on, reads_member, reads_skip, leads_on, only_empty_copies, not_required}
+use Rattle.borsh_values.proofs.MemberLaws.{begun_start, begun_skip, begun_on, begun_denied, begun_first, reads_on, reads_member, reads_skip, leads_on, only_empty_copies, only_empty_more, not_required}
 use Rattle.borsh_values.specs.Free.{AreFirst, IsFreeFront}
 use Rattle.borsh_plan.proofs.Laws.{back, defined_at, place, root_there, sound}
 
 -- ---- the parts and the marks at places
 -- ---- the next name
-pub parts_on : (ns : List Named) (at next k : ℕ) → at < length ns → IsPlaceOf ns at next (Some k) → GoesOn ns (Parts at next) (record { at = k; others = Parts at (next + 1) })
+pub parts_on : (ns : List Named) (at next k : ℕ) → at < length ns → IsPlaceOf ns at next (Some k) → StepsOn ns (Parts at next) (record { at = k; others = Parts at (next + 1) })
 parts_on ns at next k low h =
     let refs = parts_in (shape_at ns at) in
     let d : drop next refs ≡ name_at ns k ∷ drop (next + 1) refs = drop_next refs next h.1 in
     let l = ap (λ z. length z) d in
-    record { within = h.0; fits = low; parts = d; moves = omega (arith, l); steps = omega (arith, l) }
+    record { within = h.0; fits = low; parts = d; moves = λ _ _ _. omega (arith, l); steps = omega (arith, l) }
 
 pub parts_end : (ns : List Named) (at next : ℕ) → IsPlaceOf ns at next None → remaining ns (Parts at next) ≡ []
 parts_end ns at next h = drop_end (parts_in (shape_at ns at)) next h
@@ -37,7 +45,7 @@ fits_copies ns r at k e f = subst (λ s. Fits ns s) e f
 abbrev pub Passes : List Named → Rest → Step → Rest → Type 0
 Passes ns r s t = (k : ℕ) × (remaining ns r ≡ replicate (suc k) (name_at ns s.at) ++ remaining ns t) × (step_count ns t < step_count ns r) × Fits ns t
 
-pub passes : (ns : List Named) (r : Rest) (s : Step) → GoesOn ns r s → Passes ns r s (past_copies r s)
+pub passes : (ns : List Named) (r : Rest) (s : Step) → StepsOn ns r s → Passes ns r s (past_copies r s)
 passes ns (Copies at zero) s g = (let p = g.parts in cc)
 passes ns (Copies at (suc k)) s g =
     let p = g.parts in
@@ -47,28 +55,28 @@ passes ns (Copies at (suc k)) s g =
     end : (xs : List (List ℕ)) → xs ++ [] ≡ xs
     end [] = refl
     end (x ∷ xs) = ap (λ l. x ∷ l) (end xs)
-passes ns (Parts at i) s g = (0, g.parts, g.moves, g.fits)
+passes ns (Parts at i) s g = (0, g.parts, g.moves at i refl, g.fits)
 
 -- ---- marks
-module _ (ns : List Named) (h : HasPlaces ns) where
+module _ (l : Plan) where
   -- a mark is set at the place of a name: it is that of the name, and no other changes
-  pub marked : (ms : List (Option Mark)) (i : ℕ) (k : Mark) → length ms ≡ length ns → i < length ns → Updated (λ x. mark_at ms (h.place x)) (λ x. mark_at (set ms i (Some k)) (h.place x)) (name_at ns i) k
+  pub marked : (ms : List (Option Mark)) (i : ℕ) (k : Mark) → length ms ≡ length (names_of l) → i < length (names_of l) → Updated (λ x. mark_at ms (place l x)) (λ x. mark_at (set ms i (Some k)) (place l x)) (name_at (names_of l) i) k
   marked ms i k long low =
-      let b = h.back (name_at ns i) i (name_there ns i low) in
+      let b = back l (name_at (names_of l) i) i (name_there (names_of l) i low) in
       record {
         here = ap (λ o. mark_at (set ms i (Some k)) o) b ∙ get_or-set_same ms i (Some k) None (omega (arith, long, low));
-        others = λ x f. other x f (h.place x) refl;
+        others = λ x f. other x f (place l x) refl;
       }
     where
-      other : (x : List ℕ) → (x ≡ name_at ns i → ⊥) → (o : Option ℕ) → h.place x ≡ o → mark_at (set ms i (Some k)) o ≡ mark_at ms o
+      other : (x : List ℕ) → (x ≡ name_at (names_of l) i → ⊥) → (o : Option ℕ) → place l x ≡ o → mark_at (set ms i (Some k)) o ≡ mark_at ms o
       other x f None e = refl
       other x f (Some j) e =
-          let n = name_is ns j x (h.sound x j e) in
-          let apart : j ≡ i → ⊥ = λ q. f (sym n.1 ∙ ap (λ z. name_at ns z) q) in
+          let n = name_is (names_of l) j x (sound l x j e) in
+          let apart : j ≡ i → ⊥ = λ q. f (sym n.1 ∙ ap (λ z. name_at (names_of l) z) q) in
           get_or-set_other ms i j (Some k) None apart
 
-  pub mark_here : (ms : List (Option Mark)) (i : ℕ) → i < length ns → mark_at ms (h.place (name_at ns i)) ≡ get_or ms i None
-  mark_here ms i low = ap (λ o. mark_at ms o) (h.back (name_at ns i) i (name_there ns i low))
+  pub mark_here : (ms : List (Option Mark)) (i : ℕ) → i < length (names_of l) → mark_at ms (place l (name_at (names_of l) i)) ≡ get_or ms i None
+  mark_here ms i low = ap (λ o. mark_at ms o) (back l (name_at (names_of l) i) i (name_there (names_of l) i low))
 
 -- ---- no marks
 none_at : (n i : ℕ) → ◌≡◌ {A = Option Mark} (get_or (replicate n None) i None) None
@@ -138,15 +146,12 @@ with_rest f r = record { at = f.at; start = f.start; rest = r }
 
 module _ (C : List ℕ → Option Shape) (ns : List Named) where
   -- frames that were begun before some bytes were taken
-  pub far_link : {o : ℕ} (f : Frame) (y : List ℕ) (s : ℕ) → o < f.start → Link C ns o f y s
-  far_link f y s h = record { low = omega arith; same = λ e. absurd (omega arith); only_empty = λ e. absurd (omega arith); needs = λ e. absurd (omega arith) }
+  pub far_off : {o start : ℕ} {x : List ℕ} {next : List (List ℕ)} → o < start → Waits C o start x next
+  far_off h = record { low = omega arith; only_empty = λ e. absurd (omega arith); needs = λ e. absurd (omega arith) }
 
   pub far_chain : {o u : ℕ} (fs : List Frame) (y : List ℕ) (s : ℕ) → u < o → Chain C ns o fs y s → Chain C ns u fs y s
   far_chain [] y s h c = tt
-  far_chain (f ∷ fs) y s h c = (far_link f y s (let k = c.0.low in omega (arith, k)), far_chain fs (name_at ns f.at) f.start h c.1)
-
-  pub start_top : (o : ℕ) (f : Frame) → o < f.start → Top C ns o f
-  start_top o f h = record { low = omega arith; only_empty = λ e. absurd (omega arith); needs = λ e. absurd (omega arith) }
+  far_chain (f ∷ fs) y s h c = let k = c.0.low in (far_off (omega (arith, k)), (λ e. absurd (omega (arith, k, e))), far_chain fs (name_at ns f.at) f.start h c.2)
 
   from_root : {root x : List ℕ} (ps : List (List ℕ)) → ps ≡ root ∷ [] → IsIn x (ps ++ []) → Reached C root x
   from_root {root} {x} ps e a = subst (λ y. Reached C root y) (sym (among_one (subst (λ l. IsIn x (l ++ [])) e a))) stays
@@ -158,7 +163,7 @@ module _ (C : List ℕ → Option Shape) (ns : List Named) where
     empty = λ x h. let n = none x in cc;
     here = λ x h. let n = none x in cc;
     past = λ x k h. let n = none x in cc;
-    top = start_top (length bytes) f low;
+    top = far_off low;
     chain = tt;
     distinct = distinct_none;
     defined = λ x a. elim a [ ];
@@ -210,8 +215,8 @@ module _ (C : List ℕ → Option Shape) (ns : List Named) where
         empty = w.empty;
         here = λ x q. elim (w.here x q) [ inl k ↦ absurd (far k.1) | inr k ↦ k ];
         past = w.past;
-        top = record { low = w.chain.0.low; only_empty = λ s. absurd (far (w.chain.0.same s)); needs = λ s. absurd (far (w.chain.0.same s)) };
-        chain = w.chain.1;
+        top = record { low = w.chain.0.low; only_empty = λ s. absurd (far (w.chain.1 s)); needs = λ s. absurd (far (w.chain.1 s)) };
+        chain = w.chain.2;
         distinct = w.distinct;
         defined = w.defined;
         marked = w.marked;
@@ -221,7 +226,7 @@ module _ (C : List ℕ → Option Shape) (ns : List Named) where
   pub walk_up_empty : {root done rest : List ℕ} {T U : List ℕ → Option Mark} {fs : List Frame} {f h : Frame} {L : List (List ℕ)} → Walk C ns root done T (h ∷ fs) f rest L → remaining ns f.rest ≡ [] → f.start ≡ length rest → Updated T U (name_at ns f.at) Empty → Walk C ns root done U fs h rest L
   walk_up_empty {root} {done} {rest} {T} {U} {fs} {f} {h} {L} w e at u =
       let same : pending ns (f ∷ h ∷ fs) ≡ pending ns (h ∷ fs) = ap (λ l. l ++ pending ns (h ∷ fs)) e in
-      let is : OnlyEmpty C (name_at ns f.at) = w.top.only_empty at (subst (λ l. AllOnlyEmpty C l) (sym e) tt) in
+      let is : OnlyEmpty C (name_at ns f.at) = w.top.only_empty at (λ p a. elim (subst (λ l. IsIn p l) e a) [ ]) in
       record {
         begun = subst (λ l. Begun C root done l) same w.begun;
         reached = λ x a. w.reached x (subst (λ l. IsIn x l) (sym same) a);
@@ -233,10 +238,10 @@ module _ (C : List ℕ → Option Shape) (ns : List Named) where
         past = λ x n q. elim (name_cases x (name_at ns f.at)) [ inl k ↦ (let a = u.here in let b = ap U k in cc) | inr k ↦ w.past x n (sym (u.others x k) ∙ q) ];
         top = record {
           low = w.chain.0.low;
-          only_empty = λ s a. w.chain.0.only_empty s is a;
-          needs = λ s. let n = w.chain.0.needs s in (n.0, n.1, n.3, n.4, n.5, reads_on C n.6 (reads_member C is.0));
+          only_empty = λ s a. w.chain.0.only_empty s (only_empty_more C is a);
+          needs = λ s. let n = w.chain.0.needs s in (n.0, n.1, (λ q a. n.2 q (later a)), n.3, n.4, reads_on C n.5 (reads_member C is.0));
         };
-        chain = w.chain.1;
+        chain = w.chain.2;
         distinct = w.distinct;
         defined = w.defined;
         marked = λ x a. still_marked u (w.marked x a);
@@ -255,14 +260,6 @@ module _ (C : List ℕ → Option Shape) (ns : List Named) where
   module _ {root done rest p : List ℕ} {T : List ℕ → Option Mark} {fs : List Frame} {f : Frame} {L : List (List ℕ)} (w : Walk C ns root done T fs f rest L) (r : Rest) (e : remaining ns f.rest ≡ p ∷ remaining ns r) where
     next_is : pending ns (f ∷ fs) ≡ p ∷ (remaining ns r ++ pending ns fs)
     next_is = ap (λ l. l ++ pending ns fs) e
-
-    above : {o s : ℕ} → (f.start ≡ o → s ≡ o) → Top C ns o f → Link C ns o (with_rest f r) p s
-    above same t = record {
-      low = t.low;
-      same = same;
-      only_empty = λ q h a. t.only_empty q (subst (λ l. AllOnlyEmpty C l) (sym e) (h, a));
-      needs = λ q. let n = t.needs q in (n.0, n.1, n.2 p (subst (λ l. IsIn p l) (sym e) first), (λ z a. n.2 z (subst (λ l. IsIn z l) (sym e) (later a))), n.3, n.4, subst (λ l. Reads C n.3 [] l) e n.5);
-    }
 
     next_reached : Reached C root p
     next_reached = w.reached p (subst (λ l. IsIn p l) (sym next_is) first)
@@ -295,7 +292,7 @@ module _ (C : List ℕ → Option Shape) (ns : List Named) where
             only_empty = λ _ a. subst (λ y. OnlyEmpty C y) (sym name) (t.only_empty zero_is p c a);
             needs = λ _. (d, ap C name ∙ c, t.needs zero_is, remaining ns g.rest, subst (λ i. Opens C d (take i rest) (remaining ns g.rest)) zero_is t.opens, reads_none);
           };
-          chain = (subst (λ y. Link C ns (length rest) (with_rest f r) y g.start) (sym name) (above (λ _. start) w.top), w.chain);
+          chain = (subst (λ y. Waits C (length rest) f.start (name_at ns f.at) (y ∷ remaining ns r)) (sym name) (subst (λ l. Waits C (length rest) f.start (name_at ns f.at) l) e w.top), (λ _. start), w.chain);
           distinct = distinct_more (λ a. elim (w.marked p a) [ inl h ↦ not_empty h | inr h ↦ not_open h ]) w.distinct;
           defined = λ x a. also_defined C d c w.defined x a;
           marked = λ x a. also_marked u w.marked x a;
@@ -328,8 +325,8 @@ module _ (C : List ℕ → Option Shape) (ns : List Named) where
           empty = w.empty;
           here = λ x h. let k = w.past x (length (drop n rest)) h in absurd (omega (arith, k, less));
           past = λ x k h. let i = w.past x k h in omega (arith, i, less);
-          top = start_top (length (drop n rest)) g (omega (arith, start, less));
-          chain = (far_link (with_rest f r) _ _ (let k = w.top.low in omega (arith, k, less)), far_chain fs (name_at ns f.at) f.start less w.chain);
+          top = far_off (omega (arith, start, less));
+          chain = (let k = w.top.low in (far_off (omega (arith, k, less)), (λ q. absurd (omega (arith, k, less, q))), far_chain fs (name_at ns f.at) f.start less w.chain));
           distinct = distinct_none;
           defined = λ x a. elim a [ ];
           marked = λ x a. elim a [ ];
@@ -352,9 +349,9 @@ module _ (C : List ℕ → Option Shape) (ns : List Named) where
         on_leads o fs f c (inl h) = (h.1, subst (λ y. Reaches C required_by y (name_at ns f.at)) h.0 stays, inl (sym h.0))
         on_leads o [] f c (inr h) = absurd h
         on_leads o (g ∷ fs) f c (inr h) =
-            let l = on_leads o fs g c.1 h in
+            let l = on_leads o fs g c.2 h in
             let n = c.0.needs l.0 in
-            (c.0.same l.0, onward n.0 l.1 n.1 n.2, inr (leads_on C n.0 l.2 n.1 n.5 n.6))
+            (c.1 l.0, onward n.0 l.1 n.1 (n.2 (name_at ns f.at) first), inr (leads_on C n.0 l.2 n.1 n.4 n.5))
 
 -- ---- names are passed at once
 module _ (C : List ℕ → Option Shape) (ns : List Named) where
@@ -369,7 +366,7 @@ module _ (C : List ℕ → Option Shape) (ns : List Named) where
         empty = w.empty;
         here = λ x h. let k = w.past x (length (drop n rest)) h in absurd (omega (arith, k, less));
         past = λ x k h. let i = w.past x k h in omega (arith, i, less);
-        top = start_top C ns (length (drop n rest)) (with_rest f r) (let k = w.top.low in omega (arith, k, less));
+        top = far_off C ns (let k = w.top.low in omega (arith, k, less));
         chain = far_chain C ns fs (name_at ns f.at) f.start less w.chain;
         distinct = distinct_none;
         defined = λ x a. elim a [ ];
@@ -383,7 +380,6 @@ module _ (l : Plan) where
       let r = root_there l in
       let f : Frame = record { at = 0; start = length bytes + 1; rest = Copies 0 1 } in
       record {
-        places = record { place = place l; sound = sound l; back = back l };
         names = [];
         state = walk_start (definitions_of l) (names_of l) f (λ x. ap (λ k. mark_at k (place l x)) z ∙ none_marked (length (names_of l)) (place l x)) (omega arith) (ap (λ x. x ∷ []) r.1);
         count = refl;
@@ -391,9 +387,9 @@ module _ (l : Plan) where
         fits = (r.0, r.0, tt);
       }
 
-  module _ {done rest : List ℕ} {ms : List (Option Mark)} {fs : List Frame} {f : Frame} {idle : ℕ} (w : Going l done ms fs f rest idle) (s : Step) (g : GoesOn (names_of l) f.rest s) where
-    mark_is : mark_at ms (w.places.place (name_at (names_of l) s.at)) ≡ get_or ms s.at None
-    mark_is = mark_here (names_of l) w.places ms s.at g.within
+  module _ {done rest : List ℕ} {ms : List (Option Mark)} {fs : List Frame} {f : Frame} {idle : ℕ} (w : Going l done ms fs f rest idle) (s : Step) (g : StepsOn (names_of l) f.rest s) where
+    mark_is : mark_at ms (place l (name_at (names_of l) s.at)) ≡ get_or ms s.at None
+    mark_is = mark_here l ms s.at g.within
 
     pub next_names : pending (names_of l) (f ∷ fs) ≡ name_at (names_of l) s.at ∷ (remaining (names_of l) s.others ++ pending (names_of l) fs)
     next_names = ap (λ ps. ps ++ pending (names_of l) fs) g.parts
@@ -402,7 +398,6 @@ module _ (l : Plan) where
     going_skip h =
         let p = passes (names_of l) f.rest s g in
         record {
-          places = w.places;
           names = w.names;
           state = walk_skip (definitions_of l) (names_of l) p.0 (past_copies f.rest s) w.state h p.1;
           count = w.count;
@@ -439,15 +434,14 @@ module _ (l : Plan) where
       pub name_defined : (definitions_of l) (name_at (names_of l) s.at) ≡ Some d
       name_defined = defined_at l s.at g.within ∙ c
 
-      still : n ≡ 0 → KnownAs (get_or ms s.at None) (length rest) None → Walk (definitions_of l) (names_of l) (root_of l) done (λ x. mark_at (set ms s.at (Some (Open (length rest)))) (w.places.place x)) (with_rest f s.others ∷ fs) (record { at = s.at; start = length rest; rest = r }) rest (name_at (names_of l) s.at ∷ w.names)
-      still z k = walk_still (definitions_of l) (names_of l) w.state s.others g.parts (record { at = s.at; start = length rest; rest = r }) z name_defined o.0 (λ e. k.0 (sym mark_is ∙ e)) (λ e. k.1 (sym mark_is ∙ e)) (marked (names_of l) w.places ms s.at (Open (length rest)) w.long g.within) refl refl
+      still : n ≡ 0 → KnownAs (get_or ms s.at None) (length rest) None → Walk (definitions_of l) (names_of l) (root_of l) done (λ x. mark_at (set ms s.at (Some (Open (length rest)))) (place l x)) (with_rest f s.others ∷ fs) (record { at = s.at; start = length rest; rest = r }) rest (name_at (names_of l) s.at ∷ w.names)
+      still z k = walk_still (definitions_of l) (names_of l) w.state s.others g.parts (record { at = s.at; start = length rest; rest = r }) z name_defined o.0 (λ e. k.0 (sym mark_is ∙ e)) (λ e. k.1 (sym mark_is ∙ e)) (marked l ms s.at (Open (length rest)) w.long g.within) refl refl
 
       pub room : n ≡ 0 → KnownAs (get_or ms s.at None) (length rest) None → suc idle ≤ btree_map_len (map_of l)
       room z k = let t = still z k in let few = names_within (map_of l) (name_at (names_of l) s.at ∷ w.names) t.distinct t.defined in let c = w.count in omega (arith, few, c)
 
       pub going_new : n ≡ 0 → KnownAs (get_or ms s.at None) (length rest) None → Going l done (set ms s.at (Some (Open (length rest)))) (with_rest f s.others ∷ fs) (record { at = s.at; start = length rest; rest = r }) rest (idle + 1)
       going_new z k = record {
-        places = w.places;
         names = name_at (names_of l) s.at ∷ w.names;
         state = still z k;
         count = ap suc w.count ∙ sym (add-one idle);
@@ -457,7 +451,6 @@ module _ (l : Plan) where
 
       pub going_on : 0 < n → Going l (done ++ take n rest) ms (with_rest f s.others ∷ fs) (record { at = s.at; start = length rest; rest = r }) (drop n rest) 0
       going_on more = record {
-        places = w.places;
         names = [];
         state = walk_on (definitions_of l) (names_of l) w.state s.others g.parts (record { at = s.at; start = length rest; rest = r }) more name_defined o.0 refl refl;
         count = refl;
@@ -474,7 +467,6 @@ module _ (l : Plan) where
       going_past more none =
           let v = going_on more in
           record {
-            places = w.places;
             names = [];
             state = walk_up (definitions_of l) (names_of l) v.state none (λ q. (let k = fewer more in absurd (omega (arith, q, k))));
             count = refl;
@@ -498,7 +490,6 @@ module _ (l : Plan) where
   module _ {done rest : List ℕ} {ms : List (Option Mark)} {fs : List Frame} {f : Frame} {idle : ℕ} (w : Going l done ms fs f rest idle) (p : Passed) (g : IsFreeFront (definitions_of l) (names_of l) f.rest rest p) where
     pub going_pass : Going l (done ++ take p.taken rest) ms fs (with_rest f p.rest) (drop p.taken rest) 0
     going_pass = record {
-      places = w.places;
       names = [];
       state = walk_free (definitions_of l) (names_of l) g.names p.taken p.rest w.state g.first g.parts g.some;
       count = refl;
@@ -513,13 +504,12 @@ module _ (l : Plan) where
     less_pass = left_past (map_of l) (names_of l) (length (drop p.taken rest)) (length rest) idle f (with_rest f p.rest) fs fewer_pass g.steps
 
   pub going_up : {done rest : List ℕ} {ms : List (Option Mark)} {fs : List Frame} {f h : Frame} {idle : ℕ} → Going l done ms (h ∷ fs) f rest idle → remaining (names_of l) f.rest ≡ [] → (f.start ≡ length rest → ⊥) → Going l done ms fs h rest idle
-  going_up w e far = record { places = w.places; names = w.names; state = walk_up (definitions_of l) (names_of l) w.state e far; count = w.count; long = w.long; fits = w.fits.2 }
+  going_up w e far = record { names = w.names; state = walk_up (definitions_of l) (names_of l) w.state e far; count = w.count; long = w.long; fits = w.fits.2 }
 
   pub going_up_empty : {done rest : List ℕ} {ms : List (Option Mark)} {fs : List Frame} {f h : Frame} {idle : ℕ} → Going l done ms (h ∷ fs) f rest idle → remaining (names_of l) f.rest ≡ [] → f.start ≡ length rest → Going l done (set ms f.at (Some Empty)) fs h rest idle
   going_up_empty {ms = ms} {f = f} w e at = record {
-    places = w.places;
     names = w.names;
-    state = walk_up_empty (definitions_of l) (names_of l) w.state e at (marked (names_of l) w.places ms f.at Empty w.long w.fits.0);
+    state = walk_up_empty (definitions_of l) (names_of l) w.state e at (marked l ms f.at Empty w.long w.fits.0);
     count = w.count;
     long = length-set ms f.at (Some Empty) ∙ w.long;
     fits = w.fits.2;

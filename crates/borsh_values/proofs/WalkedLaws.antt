@@ -2,10 +2,12 @@
 use Rattle.std.proofs.Common.{◌≡◌, ℕ, suc, zero, ◌≤◌, ◌<◌, ◌^◌, inl, inr, List, [], ◌∷◌, ◌++◌, drop, take, length, length-append, Some, None, refl, sym, ◌∙◌, ap, subst, arith, append_assoc, append-nil}
 use Rattle.std.specs.Prelude.{Option, ℤ, pos, slice_get}
 use Rattle.std.proofs.Math.Seq.{take-append_seam, drop-append_seam}
-use Rattle.borsh_values.specs.Words.{Shape, sequence, product, choice, tag, Member, Members, IsZeroSize, Opened, OpenedUndecided as Undecided, Refused, Taken}
+use Rattle.borsh_walks.specs.Container.{Shape, sequence, product, choice, tag, Member, Members, IsZeroSize}
+use Rattle.borsh_values.specs.declared.frames.Opened.TheVariants.{Undecided, Refused, Taken}
+use Rattle.borsh_values.specs.declared.frames.Opened.{Opened}
 use Rattle.borsh_walks.proofs.Laws.{length-tag, zero_member}
 use Rattle.borsh_values.specs.Nodes.{packed_size, Opens, OpensElements, IsCountOf, IsVariantOf, Reads, reads_none}
-use Rattle.borsh_values.specs.Tags.{value_of, IsVariantIndex}
+use Rattle.borsh_values.specs.Tags.{number_of, IsVariantIndex}
 use Rattle.borsh_values.specs.Cursor.{OpensOnce}
 use Rattle.borsh_values.specs.Walks.{IsReadTo, IsCounted, CountsIfTaken}
 use Rattle.borsh_values.proofs.TagLaws.{listed_at, value_low}
@@ -81,8 +83,8 @@ module _ (C : List ℕ → Option Shape) where
       let f = first_of (suc w) (tag (suc w) (pos o.0)) o.1 own o.4 (length-tag (suc w) (pos o.0)) in
       let fits : (suc w ≤ 8) × (o.0 < 256 ^ suc w) = elim c [ inl h ↦ (let z = h.0 in absurd (omega (arith, z))) | inr h ↦ (h.0, (let a = h.1 in let b = o.3 in omega (arith, a, b))) ] in
       let long : suc w ≤ length own = (let a = ap (λ b. length b) o.4 in let b = length-append (tag (suc w) (pos o.0)) o.1 in let d = length-tag (suc w) (pos o.0) in omega (arith, a, b, d)) in
-      (o.0, go found v long fits.0 (ap (λ b. value_of b) f.0 ∙ value_low (suc w) o.0 fits.1), o.2, o.3, o.4 ∙ ap (λ b. tag (suc w) (pos o.0) ++ b) (sym f.1), subst (λ b. OpensElements (packed_size (C e)) e o.0 b parts) (sym f.1) o.5)
+      (o.0, go found v long fits.0 (ap (λ b. number_of b) f.0 ∙ value_low (suc w) o.0 fits.1), o.2, o.3, o.4 ∙ ap (λ b. tag (suc w) (pos o.0) ++ b) (sym f.1), subst (λ b. OpensElements (packed_size (C e)) e o.0 b parts) (sym f.1) o.5)
     where
-      go : (found : Option ℕ) → IsCountOf (sequence (suc w) lo hi e) own found → suc w ≤ length own → suc w ≤ 8 → value_of (take (suc w) own) ≡ o.0 → found ≡ Some o.0
+      go : (found : Option ℕ) → IsCountOf (sequence (suc w) lo hi e) own found → suc w ≤ length own → suc w ≤ 8 → number_of (take (suc w) own) ≡ o.0 → found ≡ Some o.0
       go None v long fits k = absurd (v long fits)
       go (Some n) v long fits k = ap (λ i. Some i) (v.0 ∙ k)

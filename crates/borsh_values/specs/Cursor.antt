@@ -1,10 +1,17 @@
 -- Where a walk over the bytes of a value is, and what its steps find.
-use Rattle.std.specs.Prelude.{◌≡◌, ℕ, Bool, true, false, suc, zero, ◌+◌, ◌*◌, ◌≤◌, ◌<◌, ◌^◌, List, [], ◌∷◌, ◌++◌, length, take, drop, replicate, ℤ, Option, Some, None, get_or, slice_get, ⊤, ◌⊎◌, ◌-◌, reverse, String}
-use Rattle.borsh_values.specs.Words.{Shape, primitive, sequence, product, choice, IsIn, IsListedVariant, tag, Member, references, IsZeroSize, IsDefined, Members, Reached, KeepsWidths, IsWidth, Reason, ReasonTooShort as TooShort, BytesLeft, Count, Tag, MissingDefinition, Recursive, name_at, shape_at, parts_in, name_of, Named, Step, Rest, Copies, Parts, Frame, Opened, OpenedUndecided as Unopened, Refused, Taken, Mark, Empty, MarkOpen as IsOpen, Bor, btree_map_len, get_by_text, Definition, shape_of, Distinct, Plan, definitions_of, map_of, names_of, root_of, Front, Value, FrontAmbiguous as Ambiguous, Cursor, Event, EventOpen as Open, Pass, Close, End, EventFault as Fault, EventUndecided as Undecided}
-use Rattle.borsh_values.specs.Unambiguous.{DistinctTags, UnambiguousShape}
-use Rattle.borsh_values.specs.Nodes.{Opens, Reads}
-use Rattle.borsh_values.specs.Membership.{BeginsWith, Refuses, IsRefused, LeadsTo, StopsAt, IsUndecided}
-use Rattle.borsh_values.specs.Tags.{AreTagTables}
+use Rattle.std.specs.Prelude.{◌≡◌, ℕ, Bool, true, false, suc, zero, ◌+◌, ◌*◌, ◌≤◌, ◌<◌, ◌^◌, List, [], ◌∷◌, ◌++◌, length, take, drop, map, replicate, Option, Some, None, MatchOption, get_or, ⊤, ◌⊎◌, ◌-◌, reverse, String}
+use Rattle.std.specs.{Borrow.Bor, BTreeMap.btree_map_len, BTreeMap.get_by_text}
+use Rattle.borsh_walks.specs.Container.{Shape, sum_of, sequence, product, choice, IsIn, Member, references, IsZeroSize, IsDefined, Members, Reached}
+use Rattle.borsh_walks.specs.{RulesAnswer.KeepsWidths, RulesAnswer.IsWidth, Definitions.shape_of, SizeAnswer.Distinct, declared.definition.Definition.Definition}
+use Rattle.borsh_plan.specs.Names.{name_at, shape_at, parts_in}
+use Rattle.borsh_plan.specs.Plan.{definitions_of, map_of, names_of, root_of}
+use Rattle.borsh_plan.specs.{declared.named.Named.Named, declared.plan.Plan.Plan}
+use Rattle.borsh_plan.proofs.Laws.{place}
+use Rattle.borsh_values.specs.declared.frames.Opened.TheVariants.{Undecided as Unopened, Refused, Taken}
+use Rattle.borsh_values.specs.declared.cursor.Event.TheVariants.{Open, Pass, Close, End, Fault, Undecided}
+use Rattle.borsh_values.specs.Membership.{BeginsWith, Refuses, Why, StopsAt, IsUndecided}
+use Rattle.borsh_values.specs.declared.{faults.Reason.TheVariants.TooShort, faults.Reason.Reason, frames.Step.Step, frames.Rest.Rest, frames.Rest.TheVariants.Copies, frames.Rest.TheVariants.Parts, frames.Frame.Frame, frames.Opened.Opened, frames.Mark.Mark, frames.Mark.TheVariants.Empty, frames.Mark.TheVariants.Open as IsOpen, fronts.Front.Front, fronts.Front.TheVariants.Value, fronts.Front.TheVariants.Ambiguous, cursor.Cursor.Cursor, cursor.Event.Event}
+use Rattle.borsh_values.specs.{Unambiguous.UnambiguousShape, Nodes.Opens, Nodes.Reads, Tags.AreTagTables}
 
 -- the names that are still to be read, of those of a plan
 abbrev pub remaining : List Named → Rest → List (List ℕ)
@@ -17,22 +24,18 @@ step_count ns (Copies at zero) = 1
 step_count ns (Copies at (suc k)) = 2
 step_count ns (Parts at i) = suc (length (drop i (parts_in (shape_at ns at))))
 
--- after one part of a definition fewer steps are left
-abbrev pub StepsOn : List Named → Rest → Rest → Type 0
-StepsOn ns (Copies at k) r = ⊤
-StepsOn ns (Parts at i) r = step_count ns r < step_count ns (Parts at i)
-
 -- the place is one of the plan
 abbrev pub Fits : List Named → Rest → Type 0
 Fits ns (Copies at k) = at < length ns
 Fits ns (Parts at i) = at < length ns
 
 -- the next name, and what follows it
-pub record GoesOn (ns : List Named) (r : Rest) (s : Step) : Type 0 where
+pub record StepsOn (ns : List Named) (r : Rest) (s : Step) : Type 0 where
   pub within : s.at < length ns
   pub fits : Fits ns s.others
   pub parts : remaining ns r ≡ name_at ns s.at ∷ remaining ns s.others
-  pub moves : StepsOn ns r s.others
+  -- after one part of a definition fewer steps are left
+  pub moves : (at i : ℕ) → r ≡ Parts at i → step_count ns s.others < step_count ns r
   pub steps : step_count ns s.others ≤ step_count ns r
 
 -- what follows all copies of the next name
@@ -67,8 +70,7 @@ abbrev pub OnlyEmpty : (List ℕ → Option Shape) → List ℕ → Type 0
 OnlyEmpty C x = Member C x [] × IsZeroSize C x
 
 abbrev pub AllOnlyEmpty : (List ℕ → Option Shape) → List (List ℕ) → Type 0
-AllOnlyEmpty C [] = ⊤
-AllOnlyEmpty C (p ∷ ps) = OnlyEmpty C p × AllOnlyEmpty C ps
+AllOnlyEmpty C ps = (p : List ℕ) → IsIn p ps → OnlyEmpty C p
 
 -- bytes that begin with own begin with no other own bytes of the definition, and with no other parts
 abbrev pub OpensOnce : (List ℕ → Option Shape) → Shape → List ℕ → List (List ℕ) → Type 0
@@ -128,23 +130,17 @@ module _ (C : List ℕ → Option Shape) where
     pub back : (us : List ℕ) → Members C ps us → Member C root (done ++ us)
     pub reads : Reads C (root ∷ []) done ps
 
+  -- a name x that waits for these names, since `start` bytes were left; where o bytes are left, it has taken none if these are as many
+  pub record Waits (o start : ℕ) (x : List ℕ) (next : List (List ℕ)) : Type 0 where
+    pub low : o ≤ start
+    pub only_empty : start ≡ o → AllOnlyEmpty C next → OnlyEmpty C x
+    pub needs : start ≡ o → (d : Shape) × (C x ≡ Some d) × ((p : List ℕ) → IsIn p next → IsIn p (required_by d)) × (qs : List (List ℕ)) × Opens C d [] qs × Reads C qs [] next
+
 module _ (C : List ℕ → Option Shape) (ns : List Named) where
-  -- of a frame that has taken no byte
-  pub record Top (o : ℕ) (f : Frame) : Type 0 where
-    pub low : o ≤ f.start
-    pub only_empty : f.start ≡ o → AllOnlyEmpty C (remaining ns f.rest) → OnlyEmpty C (name_at ns f.at)
-    pub needs : f.start ≡ o → (d : Shape) × (C (name_at ns f.at) ≡ Some d) × ((p : List ℕ) → IsIn p (remaining ns f.rest) → IsIn p (required_by d)) × (qs : List (List ℕ)) × Opens C d [] qs × Reads C qs [] (remaining ns f.rest)
-
-  -- the same, above the open name y, that was opened with s bytes left
-  pub record Link (o : ℕ) (f : Frame) (y : List ℕ) (s : ℕ) : Type 0 where
-    pub low : o ≤ f.start
-    pub same : f.start ≡ o → s ≡ o
-    pub only_empty : f.start ≡ o → OnlyEmpty C y → AllOnlyEmpty C (remaining ns f.rest) → OnlyEmpty C (name_at ns f.at)
-    pub needs : f.start ≡ o → (d : Shape) × (C (name_at ns f.at) ≡ Some d) × IsIn y (required_by d) × ((p : List ℕ) → IsIn p (remaining ns f.rest) → IsIn p (required_by d)) × (qs : List (List ℕ)) × Opens C d [] qs × Reads C qs [] (y ∷ remaining ns f.rest)
-
+  -- so the names of the frames, each for the one above it, of which y is the last, and was opened with s bytes left
   abbrev pub Chain : ℕ → List Frame → List ℕ → ℕ → Type 0
   Chain o [] y s = ⊤
-  Chain o (f ∷ fs) y s = Link o f y s × Chain o fs (name_at ns f.at) f.start
+  Chain o (f ∷ fs) y s = Waits C o f.start (name_at ns f.at) (y ∷ remaining ns f.rest) × (f.start ≡ o → s ≡ o) × Chain o fs (name_at ns f.at) f.start
 
   -- of the bytes those in done are read, and rest is left
   pub record Walk (root done : List ℕ) (T : List ℕ → Option Mark) (fs : List Frame) (f : Frame) (rest : List ℕ) (L : List (List ℕ)) : Type 0 where
@@ -153,24 +149,17 @@ module _ (C : List ℕ → Option Shape) (ns : List Named) where
     pub empty : (x : List ℕ) → T x ≡ Some Empty → OnlyEmpty C x
     pub here : (x : List ℕ) → T x ≡ Some (IsOpen (length rest)) → On ns x (length rest) (f ∷ fs)
     pub past : (x : List ℕ) (n : ℕ) → T x ≡ Some (IsOpen n) → length rest ≤ n
-    pub top : Top (length rest) f
+    pub top : Waits C (length rest) f.start (name_at ns f.at) (remaining ns f.rest)
     pub chain : Chain (length rest) fs (name_at ns f.at) f.start
     pub distinct : Distinct L
     pub defined : (x : List ℕ) → IsIn x L → IsDefined C x
     pub marked : (x : List ℕ) → IsIn x L → (T x ≡ Some Empty) ⊎ (T x ≡ Some (IsOpen (length rest)))
 
--- the place of each name
-pub record HasPlaces (ns : List Named) : Type 0 where
-  pub place : List ℕ → Option ℕ
-  pub sound : (x : List ℕ) (i : ℕ) → place x ≡ Some i → name_of ns i ≡ Some x
-  pub back : (x : List ℕ) (i : ℕ) → name_of ns i ≡ Some x → place x ≡ Some i
-
 -- what is left of the names and of the bytes, and what is known of the names
 pub record Going (l : Plan) (done : List ℕ) (ms : List (Option Mark)) (fs : List Frame) (f : Frame) (rest : List ℕ) (idle : ℕ) : Type 0 where
-  pub places : HasPlaces (names_of l)
   -- the names that were begun since the last byte
   pub names : List (List ℕ)
-  pub state : Walk (definitions_of l) (names_of l) (root_of l) done (λ x. mark_at ms (places.place x)) fs f rest names
+  pub state : Walk (definitions_of l) (names_of l) (root_of l) done (λ x. mark_at ms (place l x)) fs f rest names
   pub count : length names ≡ idle
   pub long : length ms ≡ length (names_of l)
   pub fits : AllFit (names_of l) (f ∷ fs)
@@ -188,12 +177,10 @@ pub record IsCursor (c : Cursor) : Type 0 where
 
 -- ---- at most so many steps are left
 abbrev pub steps_of : List Named → List Frame → ℕ
-steps_of ns [] = 0
-steps_of ns (f ∷ fs) = step_count ns f.rest + steps_of ns fs
+steps_of ns fs = sum_of (map (λ f. step_count ns f.rest) fs)
 
 abbrev pub parts_of_all : {A : Type 0} → List (String A × Definition) → ℕ
-parts_of_all [] = 0
-parts_of_all (e ∷ es) = length (references (shape_of e.1)) + parts_of_all es
+parts_of_all es = sum_of (map (λ e. length (references (shape_of e.1))) es)
 
 -- for each byte, each definition may be opened once
 abbrev pub opens : ℕ → ℕ → ℕ → ℕ
@@ -222,15 +209,6 @@ pub record IsOpenable (c : Cursor) (at : ℕ) (d : Definition) (n : ℕ) (r : Re
   pub shape : shape_at (names_of c.plan.now) at ≡ Some (shape_of d)
   pub defined : get_by_text (map_of c.plan.now) (name_in c at) ≡ Some d
   pub opens : OpensAs (definitions_of c.plan.now) (names_of c.plan.now) (shape_of d) c.left.now (Taken n r)
-
--- why no member of a name begins at the bytes that are left
-abbrev pub Why : (List ℕ → Option Shape) → Reason → List ℕ → List ℕ → Type 0
-Why C BytesLeft x left = ⊥
-Why C TooShort x left = IsRefused C TooShort x left
-Why C Count x left = IsRefused C Count x left
-Why C Tag x left = IsRefused C Tag x left
-Why C MissingDefinition x left = C x ≡ None
-Why C Recursive x left = LeadsTo C x x
 
 -- no value of the name x, which comes next, begins at the bytes that are left, and so none of the root begins
 pub record IsStopped (C : List ℕ → Option Shape) (root done left x : List ℕ) (r : Reason) : Type 0 where
@@ -272,13 +250,9 @@ Happens old new (Undecided at) = (new.left ≡ old.left) × IsUndecided (definit
 abbrev pub OpensFull : Cursor → Event → Type 0
 OpensFull c e = (at : ℕ) (d : Bor Definition) (own : Bor (List ℕ)) → e ≡ Open at d own → IsZeroSize (definitions_of c.plan.now) (name_in c at) → ⊥
 
--- ---- the answer of an event, if it is the last
-abbrev pub IsLastFault : ℕ → ℕ → List ℕ → Reason → Option Front → Type 0
-IsLastFault all left x r None = ⊥
-IsLastFault all left x r (Some a) = StopsAt all left x r a
-
+-- the answer of an event, if it is the last
 abbrev pub IsAnswerOf : Cursor → Event → Option Front → Type 0
 IsAnswerOf c End o = o ≡ Some (Value (length c.bytes.now - length c.left.now))
-IsAnswerOf c (Fault at r) o = IsLastFault (length c.bytes.now) (length c.left.now) (name_in c at) r o
+IsAnswerOf c (Fault at r) o = MatchOption o ⊥ (λ a. StopsAt (length c.bytes.now) (length c.left.now) (name_in c at) r a)
 IsAnswerOf c (Undecided at) o = (x : Bor (List ℕ)) × (o ≡ Some (Ambiguous x)) × (x.now ≡ name_in c at)
 IsAnswerOf c e o = o ≡ None

@@ -1,8 +1,9 @@
 -- Names whose members are all bytes of one length.
 use Rattle.std.specs.Prelude.{◌≡◌, ◌<◌, ◌≤◌, ◌-◌, ℕ, suc, List, [], ◌∷◌, ◌++◌, length, take, replicate, All, IfSome, Option}
-use Rattle.borsh_values.specs.Words.{Shape, Member, Members, Named, Rest, Copies, Run, Passed}
-use Rattle.borsh_values.specs.declared.runs.TagLength.{TagLength}
+use Rattle.borsh_walks.specs.Container.{Shape, Member, Members}
+use Rattle.borsh_plan.specs.declared.named.Named.{Named}
 use Rattle.borsh_values.specs.Cursor.{remaining, step_count, Fits}
+use Rattle.borsh_values.specs.declared.{frames.Rest.Rest, frames.Rest.TheVariants.Copies, runs.Run.Run, runs.Passed.Passed, runs.TagLength.TagLength}
 
 module _ (C : List ℕ → Option Shape) where
   -- each n bytes are a member of the name, and it has no others
@@ -26,8 +27,8 @@ module _ (C : List ℕ → Option Shape) where
   abbrev pub IsTagLength : List ℕ → ℕ → ℕ → Type 0
   IsTagLength x t n = (bs : List ℕ) → All (λ b. b < 256) bs → n ≤ suc (length bs) → AreOnly (x ∷ []) (take n (t ∷ bs))
 
-  abbrev pub IsRight : List ℕ → TagLength → Type 0
-  IsRight x t = IfSome t.length (λ n. IsTagLength x t.tag n)
+  abbrev pub IsRightLength : List ℕ → TagLength → Type 0
+  IsRightLength x t = IfSome t.length (λ n. IsTagLength x t.tag n)
 
   -- so many values of the name, at most count, are so many of the first bytes
   abbrev pub IsRun : List ℕ → List ℕ → ℕ → Run → Type 0

@@ -1,4 +1,3 @@
-pub mod Words
 pub mod Unambiguous
 pub mod Tags
 pub mod Nodes

@@ -1,25 +1,13 @@
 -- What is answered of bytes: whether they are a value, how they begin, and where and why they stop being one.
-use Rattle.std.specs.Prelude.{◌≡◌, ◌⊎◌, ℕ, ◌+◌, ◌*◌, ◌≤◌, ◌<◌, ℤ, pos, List, [], ◌∷◌, ◌++◌, length, take, drop, Option, Some, None, ⊤, Result, IfOk, ◌-◌}
-use Rattle.borsh_values.specs.Words.{Shape, primitive, sequence, product, choice, IsListedVariant, tag, Member, Reached, IsValid, Fault, Reason, BytesLeft, ReasonTooShort as TooShort, Count, Tag, MissingDefinition, Recursive, KeepsWidths, Membership, MembershipMember as IsMember, MembershipNoMember as NoMember, MembershipAmbiguous as Ambiguous, Front, Value, FrontTooShort as ShortFront, FrontNoMember as NoFront, FrontAmbiguous as Unclear}
+use Rattle.std.specs.Prelude.{◌≡◌, ℕ, ◌+◌, ◌*◌, ◌≤◌, ◌<◌, ℤ, pos, List, [], ◌∷◌, ◌++◌, length, take, drop, Option, Some, None, ⊤, Result, IfOk, ◌-◌}
+use Rattle.borsh_walks.specs.Container.{Shape, primitive, sequence, choice, IsListedVariant, tag, Member, Reached, IsValid}
+use Rattle.borsh_walks.specs.RulesAnswer.{KeepsWidths}
+use Rattle.borsh_values.specs.declared.faults.Reason.TheVariants.{BytesLeft, TooShort, Count, Tag, MissingDefinition, Recursive}
+use Rattle.borsh_values.specs.declared.members.Membership.TheVariants.{Member as IsMember, NoMember, Ambiguous}
+use Rattle.borsh_values.specs.declared.fronts.Front.TheVariants.{Value, TooShort as ShortFront, NoMember as NoFront, Ambiguous as Unclear}
 use Rattle.borsh_values.specs.Nodes.{packed_size, Opens, Reads}
+use Rattle.borsh_values.specs.declared.{faults.Fault.Fault, faults.Reason.Reason, members.Membership.Membership, fronts.Front.Front}
 use Rattle.borsh_values.specs.Unambiguous.{UnambiguousShape, IsUnambiguous}
-
--- the definition takes more bytes than these: as a primitive, for its tag, its count, or the elements that are listed with this
-abbrev pub TakesMore : (List ℕ → Option Shape) → Shape → List ℕ → Type 0
-TakesMore C (primitive n) bytes = length bytes < n
-TakesMore C (sequence w lo hi e) bytes = (length bytes < w) ⊎ ((k : ℕ) × (tag w (pos k) ≡ take w bytes) × (lo ≤ k) × (k ≤ hi) × (length bytes < w + k * packed_size (C e)))
-TakesMore C (product ps) bytes = ⊥
-TakesMore C (choice w vs) bytes = length bytes < w
-
--- the first bytes are no number of elements that the sequence may have
-abbrev pub HasOtherCount : Shape → List ℕ → Type 0
-HasOtherCount (sequence w lo hi e) bytes = (w ≤ length bytes) × ((k : ℕ) → lo ≤ k → k ≤ hi → tag w (pos k) ≡ take w bytes → ⊥)
-HasOtherCount d bytes = ⊥
-
--- the first bytes are the tag of no variant of the enum
-abbrev pub HasOtherTag : Shape → List ℕ → Type 0
-HasOtherTag (choice w vs) bytes = (w ≤ length bytes) × ((k : ℤ) (p : List ℕ) → IsListedVariant k p vs → tag w k ≡ take w bytes → ⊥)
-HasOtherTag d bytes = ⊥
 
 module _ (C : List ℕ → Option Shape) where
   -- some of the first bytes, or all, are a member of the name
@@ -27,35 +15,33 @@ module _ (C : List ℕ → Option Shape) where
   BeginsWith x bytes = (xs : List ℕ) × (ys : List ℕ) × Member C x xs × (bytes ≡ xs ++ ys)
 
   -- why a definition doesn't go with the bytes
-  abbrev pub Refuses : Reason → Shape → List ℕ → Type 0
-  Refuses TooShort d bytes = TakesMore C d bytes
-  Refuses Count d bytes = HasOtherCount d bytes
-  Refuses Tag d bytes = HasOtherTag d bytes
-  Refuses r d bytes = ⊥
-
-  -- the name has a definition, which doesn't go with the bytes
-  abbrev pub IsRefused : Reason → List ℕ → List ℕ → Type 0
-  IsRefused r x bytes = (d : Shape) × (C x ≡ Some d) × Refuses r d bytes
+  pub data Refuses : Reason → Shape → List ℕ → Type 0 where
+    -- it takes more: as a primitive, for its count, for the elements that are listed with that, or for its tag
+    few_for_primitive : {n : ℕ} {bytes : List ℕ} → length bytes < n → Refuses TooShort (primitive n) bytes
+    few_for_count : {w lo hi : ℕ} {e bytes : List ℕ} → length bytes < w → Refuses TooShort (sequence w lo hi e) bytes
+    few_for_elements : {w lo hi : ℕ} {e bytes : List ℕ} (k : ℕ) → tag w (pos k) ≡ take w bytes → lo ≤ k → k ≤ hi → length bytes < w + k * packed_size (C e) → Refuses TooShort (sequence w lo hi e) bytes
+    few_for_tag : {w : ℕ} {vs : List (ℤ × List ℕ)} {bytes : List ℕ} → length bytes < w → Refuses TooShort (choice w vs) bytes
+    -- the first bytes are no number of elements that the sequence may have
+    other_count : {w lo hi : ℕ} {e bytes : List ℕ} → w ≤ length bytes → ((k : ℕ) → lo ≤ k → k ≤ hi → tag w (pos k) ≡ take w bytes → ⊥) → Refuses Count (sequence w lo hi e) bytes
+    -- the first bytes are the tag of no variant of the enum
+    other_tag : {w : ℕ} {vs : List (ℤ × List ℕ)} {bytes : List ℕ} → w ≤ length bytes → ((k : ℤ) (p : List ℕ) → IsListedVariant k p vs → tag w k ≡ take w bytes → ⊥) → Refuses Tag (choice w vs) bytes
 
   -- where the name x is opened, the name y comes next before any byte
   abbrev pub LeadsTo : List ℕ → List ℕ → Type 0
   LeadsTo x y = (d : Shape) × (ns : List (List ℕ)) × (others : List (List ℕ)) × (C x ≡ Some d) × Opens C d [] ns × Reads C ns [] (y ∷ others)
 
+  -- why no member of the name begins at the bytes that are left: it has no definition, it leads back to itself before any byte, or its
+  -- definition doesn't go with them
+  abbrev pub Why : Reason → List ℕ → List ℕ → Type 0
+  Why MissingDefinition name left = C name ≡ None
+  Why Recursive name left = LeadsTo name name
+  Why r name left = (d : Shape) × (C name ≡ Some d) × Refuses r d left
+
   module _ (root bytes : List ℕ) where
-    -- what each reason says of a name and an offset
+    -- so at an offset, or the bytes before it are a value of the root and others are left
     abbrev pub IsWhy : Reason → ℕ → List ℕ → Type 0
-    -- the bytes before it are a value of the root, and others are left
     IsWhy BytesLeft offset name = (offset < length bytes) × (name ≡ root) × Member C root (take offset bytes)
-    -- the definition takes more bytes than are left
-    IsWhy TooShort offset name = IsRefused TooShort name (drop offset bytes)
-    -- the number of elements isn't in the range of the sequence
-    IsWhy Count offset name = IsRefused Count name (drop offset bytes)
-    -- no variant of the enum has the tag
-    IsWhy Tag offset name = IsRefused Tag name (drop offset bytes)
-    -- the name has no definition
-    IsWhy MissingDefinition offset name = C name ≡ None
-    -- the name leads back to itself before any byte
-    IsWhy Recursive offset name = LeadsTo name name
+    IsWhy r offset name = Why r name (drop offset bytes)
 
     -- the bytes before the offset are read of the root, the name comes next, and no member of it begins there
     pub record Stops (offset : ℕ) (name : List ℕ) : Type 0 where
@@ -98,13 +84,13 @@ module _ (C : List ℕ → Option Shape) (root bytes : List ℕ) where
     pub decided : IsValid C root → IsUnambiguous C root → IfOk result (λ a. IsDecided a)
 
 -- the fault is of the name and the reason, where so many of all bytes are left
-abbrev pub IsAt : ℕ → ℕ → List ℕ → Reason → Fault → Type 0
-IsAt all left name reason f = (f.offset ≡ all - left) × (f.name.now ≡ name) × (f.reason ≡ reason)
+abbrev pub IsFaultAt : ℕ → ℕ → List ℕ → Reason → Fault → Type 0
+IsFaultAt all left name reason f = (f.offset ≡ all - left) × (f.name.now ≡ name) × (f.reason ≡ reason)
 
 -- the answer is such a fault, and says whether more bytes may help
 abbrev pub StopsAt : ℕ → ℕ → List ℕ → Reason → Front → Type 0
-StopsAt all left name reason (ShortFront f) = IsAt all left name reason f × (reason ≡ TooShort)
-StopsAt all left name reason (NoFront f) = IsAt all left name reason f × (reason ≡ TooShort → ⊥)
+StopsAt all left name reason (ShortFront f) = IsFaultAt all left name reason f × (reason ≡ TooShort)
+StopsAt all left name reason (NoFront f) = IsFaultAt all left name reason f × (reason ≡ TooShort → ⊥)
 StopsAt all left name reason a = ⊥
 
 -- yes, no, or too short

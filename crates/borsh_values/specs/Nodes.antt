@@ -1,7 +1,7 @@
 -- The nodes of a value: its parts in preorder, each with the bytes that it encodes before its own parts.
 use Rattle.std.specs.Prelude.{◌≡◌, ℕ, suc, zero, ◌*◌, ◌<◌, ◌≤◌, ℤ, pos, List, [], ◌∷◌, ◌++◌, length, replicate, take, drop, Option, Some, None, MatchOption, All}
-use Rattle.borsh_values.specs.Tags.{value_of, IsVariantIndex}
-use Rattle.borsh_values.specs.Words.{Shape, primitive, sequence, product, choice, IsListedVariant, tag}
+use Rattle.borsh_walks.specs.Container.{Shape, primitive, sequence, product, choice, IsListedVariant, tag}
+use Rattle.borsh_values.specs.Tags.{number_of, IsVariantIndex}
 
 -- how many bytes an element has, by the definition of its name, if elements are listed with their sequence: primitives of some bytes; 0 for others
 abbrev pub packed_size : Option Shape → ℕ
@@ -29,7 +29,7 @@ IsVariantOf d own found = found ≡ None
 -- the number of elements that the own bytes of a sequence say: that of its definition where no byte says it, else that of its first bytes, where there are as many, and at most eight; none of a definition of another kind
 abbrev pub IsCountOf : Shape → List ℕ → Option ℕ → Type 0
 IsCountOf (sequence zero lo hi e) own found = found ≡ Some lo
-IsCountOf (sequence (suc w) lo hi e) own found = MatchOption found (suc w ≤ length own → suc w ≤ 8 → ⊥) (λ k. (k ≡ value_of (take (suc w) own)) × (suc w ≤ length own) × (suc w ≤ 8))
+IsCountOf (sequence (suc w) lo hi e) own found = MatchOption found (suc w ≤ length own → suc w ≤ 8 → ⊥) (λ k. (k ≡ number_of (take (suc w) own)) × (suc w ≤ length own) × (suc w ≤ 8))
 IsCountOf d own found = found ≡ None
 
 -- the bytes of elements behind the count of a sequence; all bytes of a definition of another kind

@@ -1,10 +1,12 @@
 -- Values whose nodes are given one after another.
 use Rattle.std.specs.Prelude.{◌≡◌, ⊤, ℕ, ◌+◌, ◌-◌, List, [], ◌∷◌, ◌++◌, length, Option, Some, MatchOption}
-use Rattle.borsh_values.specs.Words.{Bor, get_by_text, Shape, IsZeroSize, Member, shape_of, Plan, Node, Preorder, PreorderErrorOutOfMemory as OutOfMemory, PreorderErrorAmbiguous as Ambiguous, definitions_of, map_of, names_of, root_of, name_of}
-use Rattle.borsh_values.specs.declared.preorder.PreorderError.{PreorderError}
-use Rattle.borsh_values.specs.Cursor.{IsCursor, pending_names}
-use Rattle.borsh_values.specs.Membership.{IsUndecided}
-use Rattle.borsh_values.specs.Nodes.{Opens}
+use Rattle.std.specs.{Borrow.Bor, BTreeMap.get_by_text}
+use Rattle.borsh_walks.specs.Container.{Shape, IsZeroSize, Member}
+use Rattle.borsh_walks.specs.Definitions.{shape_of}
+use Rattle.borsh_plan.specs.Plan.{definitions_of, map_of, names_of, root_of}
+use Rattle.borsh_plan.specs.{declared.plan.Plan.Plan, Names.name_of}
+use Rattle.borsh_values.specs.declared.{nodes.Node.Node, preorder.Preorder.Preorder, preorder.PreorderError.TheVariants.OutOfMemory, preorder.PreorderError.TheVariants.Ambiguous, preorder.PreorderError.PreorderError}
+use Rattle.borsh_values.specs.{Cursor.IsCursor, Cursor.pending_names, Membership.IsUndecided, Nodes.Opens}
 
 -- the values of all of these names are without bytes
 abbrev pub AreZero : (List ℕ → Option Shape) → List (List ℕ) → Type 0

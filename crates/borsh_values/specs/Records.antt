@@ -1,7 +1,13 @@
 -- Values one after another, as a reader gives them.
-use Rattle.std.specs.Prelude.{◌≡◌, ℕ, ◌<◌, List, [], ◌∷◌, ◌++◌, length, Option, ⊤, ◌+◌, ◌*◌, ◌-◌, ◌^◌, ◌≤◌, ◌⊎◌, Bool, true, false, take, drop, min, Result, Ok, Err, IfOk, OnOk, IfErr}
-use Rattle.borsh_values.specs.Words.{Shape, Member, Consumes, IsAtEnd, error_kind, ReaderState, CountedUp, Error, ErrorKindOutOfMemory as NoRoom, Buffered, Bor, Plan, Records, RecordError, RecordErrorNoMember as NoMember, CutShort, TooLong, EmptyValue, RecordErrorAmbiguous as Ambiguous, Reader, RecordErrorOutOfMemory as OutOfMemory}
+use Rattle.std.specs.Prelude.{◌≡◌, ℕ, ◌<◌, List, [], ◌∷◌, ◌++◌, length, Option, ⊤, ◌+◌, ◌*◌, ◌-◌, ◌^◌, ◌≤◌, Bool, true, false, take, drop, min, Result, Ok, Err, IfErr}
+use Rattle.std.specs.{Io.KnownBytes.IsAtEnd, Borrow.Bor}
+use Rattle.borsh_io.specs.Buffered.{Lost, IsUnread, held, most_at_once, piece, reader_of}
+use Rattle.borsh_io.specs.{Stream.ReaderState, declared.error.Error.Error}
+use Rattle.borsh_walks.specs.Container.{Shape, Member}
+use Rattle.borsh_plan.specs.declared.plan.Plan.{Plan}
+use Rattle.borsh_values.specs.declared.records.RecordError.TheVariants.{NoMember, CutShort, TooLong, EmptyValue, Ambiguous, Reader, OutOfMemory}
 use Rattle.borsh_values.specs.Membership.{BeginsWith, HasNoFront, IsUndecided}
+use Rattle.borsh_values.specs.declared.{records.Records.Records, records.RecordError.RecordError}
 
 module _ (C : List ℕ → Option Shape) (root : List ℕ) where
   -- the bytes are these values of the root, one after another
@@ -15,54 +21,6 @@ module _ (C : List ℕ → Option Shape) (root : List ℕ) where
     pub some : 0 < length v
     pub split : bytes ≡ v ++ left
     pub only : (vs : List (List ℕ)) → AreValues vs bytes → (others : List (List ℕ)) × (vs ≡ v ∷ others) × AreValues others left
-
--- ---- a reader, and bytes that are held
-
-abbrev pub reader_of : {R : Type 0} → Buffered R → R
-reader_of b = b.reader
-
--- the bytes that were read and not yet taken
-abbrev pub held : {R : Type 0} → Buffered R → List ℕ
-held b = drop b.end b.buffer.items
-
--- the bytes that were taken last
-abbrev pub piece : {R : Type 0} → Buffered R → List ℕ
-piece b = drop b.start (take b.end b.buffer.items)
-
--- the first n of the bytes that are held were taken
-pub record TakesHeld {R : Type 0} (old new : Buffered R) (n : ℕ) : Type 0 where
-  pub piece : piece new ≡ take n (held old)
-  pub held : held new ≡ drop n (held old)
-  pub reader : reader_of new ≡ reader_of old
-
--- how many bytes a read gives at most
-abbrev pub most_at_once : ℕ
-most_at_once = 65536
-
--- these bytes were lost by a reader, after perhaps interruptions
-pub record Lost (before after : ReaderState) (lost : List ℕ) : Type 0 where
-  pub bounded : length lost + most_at_once * after.reads_left ≤ most_at_once * before.reads_left
-  pub bytes : Consumes before.bytes after.bytes lost
-  pub interruptions : after.interruptions ≤ before.interruptions
-  pub reads_left : after.reads_left ≤ before.reads_left
-  pub strict_order : after.strict_order ≡ before.strict_order
-
--- why no more was read: an allocation failed, or the reader did
-abbrev pub IsUnread : ReaderState → ReaderState → Error → Type 0
-IsUnread before after e = ((error_kind e ≡ NoRoom) × (after.faults ≡ before.faults)) ⊎ CountedUp before.faults after.faults
-
--- the outcome of a read behind the bytes that are held: n more are held, none only at the end
-pub record ReadsMore {R : Type 0} (state : R → ReaderState) (old new : Buffered R) (result : Result ℕ Error) : Type 0 where
-  pub read : List ℕ
-  pub held : held new ≡ held old ++ read
-  pub lost : Lost (state (reader_of old)) (state (reader_of new)) read
-  pub number : IfOk result (λ n. n ≡ length read)
-  pub faults : OnOk result ((state (reader_of new)).faults ≡ (state (reader_of old)).faults)
-  pub fewer : IfOk result (λ n. 0 < n → (state (reader_of new)).reads_left < (state (reader_of old)).reads_left)
-  pub some : IfOk result (λ n. n ≡ 0 → IsAtEnd (state (reader_of new)).bytes)
-  pub failed : IfErr result (λ e. IsUnread (state (reader_of old)) (state (reader_of new)) e)
-
--- ---- values
 
 abbrev pub value_of : {R : Type 0} → Records R → List ℕ
 value_of r = piece r.input
@@ -86,8 +44,8 @@ source_of r = reader_of r.input
 abbrev pub turns_left : {R : Type 0} → (R → ReaderState) → Records R → ℕ
 turns_left state r = most_at_once * (state (source_of r)).reads_left + length (ahead r)
 
-abbrev pub Falls : {R : Type 0} → (R → ReaderState) → Records R → Records R → Result Bool RecordError → Type 0
-Falls state old new result = result ≡ Ok true → turns_left state new < turns_left state old
+abbrev pub TurnsFall : {R : Type 0} → (R → ReaderState) → Records R → Records R → Result Bool RecordError → Type 0
+TurnsFall state old new result = result ≡ Ok true → turns_left state new < turns_left state old
 
 -- the plan, by which the values are known
 abbrev pub plan_of : {R : Type 0} → Records R → Bor Plan
@@ -115,10 +73,8 @@ module _ (C : List ℕ → Option Shape) (root bytes : List ℕ) (at limit : ℕ
   IsRecordError ended unread (NoMember o f) = (o ≡ at) × ((more : List ℕ) → HasNoFront C root (bytes ++ more) f)
   IsRecordError ended unread (CutShort o f) = (o ≡ at) × HasNoFront C root bytes f × (bytes ≡ [] → ⊥) × ended
   IsRecordError ended unread (TooLong o) = (o ≡ at) × (limit ≤ length bytes) × (BeginsWith C root (take limit bytes) → ⊥)
-  IsRecordError ended unread EmptyValue = Member C root []
-  IsRecordError ended unread (Ambiguous x) = IsUndecided C root x.now
   IsRecordError ended unread (Reader e) = unread e
-  IsRecordError ended unread OutOfMemory = ⊤
+  IsRecordError ended unread e = IsRootError C root e
 
   -- v is the first value of the bytes, whatever follows them, and others are left; or none is found, where `nothing` holds, or an error returned, and all are left
   pub record GoesOn (nothing ended : Type 0) (unread : Error → Type 0) (v left : List ℕ) (after : ℕ) (result : Result Bool RecordError) : Type 0 where

@@ -1,11 +1,12 @@
 -- Values that are walked part by part.
 use Rattle.std.specs.Prelude.{◌≡◌, ◌⊎◌, ⊤, ℕ, ◌+◌, ◌^◌, ◌<◌, ◌≤◌, List, [], ◌∷◌, ◌++◌, length, Option, Some, MatchOption, String}
-use Rattle.borsh_values.specs.Words.{BTreeMap, get_by_text, Definition, Shape, primitive, sequence, product, choice, Members, definitions_in, shape_of, definitions_of, map_of, names_of, root_of, Opened, OpenedUndecided as Undecided, Refused, Taken, Node, name_of}
-use Rattle.borsh_values.specs.declared.walker.Walker.{Walker}
-use Rattle.borsh_values.specs.Membership.{IsUndecided}
-use Rattle.borsh_values.specs.Nodes.{Opens, Reads}
-use Rattle.borsh_values.specs.Cursor.{OpensOnce}
-use Rattle.borsh_values.specs.Tags.{AreTagTables}
+use Rattle.std.specs.BTreeMap.{BTreeMap, get_by_text}
+use Rattle.borsh_walks.specs.Container.{Shape, sequence, Members}
+use Rattle.borsh_walks.specs.{declared.definition.Definition.Definition, Definitions.definitions_in, Definitions.shape_of}
+use Rattle.borsh_plan.specs.Plan.{map_of, names_of, root_of}
+use Rattle.borsh_plan.specs.Names.{name_of}
+use Rattle.borsh_values.specs.declared.{frames.Opened.Opened, frames.Opened.TheVariants.Taken, nodes.Node.Node, walker.Walker.Walker}
+use Rattle.borsh_values.specs.{Membership.IsUndecided, Nodes.Opens, Nodes.Reads, Cursor.OpensOnce}
 
 -- of a member of the root the bytes `done` are read, these names come next, and the bytes `left` are members of them
 abbrev pub IsReadTo : (List ℕ → Option Shape) → List ℕ → List ℕ → List (List ℕ) → List ℕ → Type 0
@@ -21,16 +22,7 @@ abbrev pub CountsIfTaken : Shape → Opened → Type 0
 CountsIfTaken d (Taken n r) = IsCounted d
 CountsIfTaken d o = ⊤
 
--- the plan is one, the tables are those of its enums, and the offset of each byte that is left is a `usize`
-pub record IsWalker (w : Walker) : Type 0 where
-  pub tables : AreTagTables (definitions_of w.plan.now) w.tables
-  pub small : w.offset + length w.left.now < 2 ^ 64
-
 module _ {A : Type 0} (m : BTreeMap (String A) Definition) where
-  -- own bytes of a definition are taken: whichever its parts are, they come next
-  abbrev pub GoesOnTo : List ℕ → Shape → List ℕ → List ℕ → List ℕ → Type 0
-  GoesOnTo x d own old new = (root done : List ℕ) (ns ps : List (List ℕ)) → Opens (definitions_in m) d own ns → IsReadTo (definitions_in m) root done (x ∷ ps) old → IsReadTo (definitions_in m) root (done ++ own) (ns ++ ps) new
-
   -- the node is that of the value of the name x with which the bytes begin that were left, and those behind its own bytes are left now
   pub record IsNodeOf (x : List ℕ) (old new : Walker) (n : Node) : Type 0 where
     pub name : n.name.now ≡ x
@@ -43,7 +35,8 @@ module _ {A : Type 0} (m : BTreeMap (String A) Definition) where
     pub opens : Opens (definitions_in m) (shape_of n.definition.now) n.bytes.now parts
     pub once : OpensOnce (definitions_in m) (shape_of n.definition.now) n.bytes.now parts
     pub counted : IsCounted (shape_of n.definition.now)
-    pub onward : GoesOnTo x (shape_of n.definition.now) n.bytes.now old.left.now new.left.now
+    -- own bytes are taken: whichever the parts are, they come next
+    pub onward : (root done : List ℕ) (ns ps : List (List ℕ)) → Opens (definitions_in m) (shape_of n.definition.now) n.bytes.now ns → IsReadTo (definitions_in m) root done (x ∷ ps) old.left.now → IsReadTo (definitions_in m) root (done ++ n.bytes.now) (ns ++ ps) new.left.now
 
   -- where there is no node, no member of the name begins the bytes, or its definition is ambiguous or breaks a rule of widths
   abbrev pub FindsNode : List ℕ → List ℕ → Walker → Walker → Option Node → Type 0

@@ -1,6 +1,7 @@
 // The one walk over the bytes of a value.
-ghost use Rattle.borsh_values.specs.Words.{definitions_of, names_of, root_of, Member};
-ghost use Rattle.borsh_values.specs.Cursor.{Happens, IsCursor, IsOpenable, Moves, OpensFull, Stays, pending_names, GoesOn, KnownAs, remaining};
+ghost use Rattle.borsh_plan.specs.Plan.{definitions_of, names_of, root_of};
+ghost use Rattle.borsh_walks.specs.Container.{Member};
+ghost use Rattle.borsh_values.specs.Cursor.{Happens, IsCursor, IsOpenable, Moves, OpensFull, Stays, pending_names, StepsOn, KnownAs, remaining};
 ghost use Rattle.std.specs.Prelude.{IfOk, OnOk, None, Some, [], false, true, ◌∷◌, ◌-◌, ◌<◌, ◌≤◌, ◌≡◌, drop, get_or, length, replicate, slice_set, take};
 
 use crate::faults::{Path, Reason, path_to};
@@ -215,7 +216,7 @@ impl<'a, 'p, 'b> Cursor<'a, 'p, 'b> {
     // Begins a value of the next name.
     fn begin(&mut self, step: Step) -> Result<Event<'a, 'b>, AllocError>
         requires cursor { IsCursor self.old }
-        requires step { GoesOn (names_of self.old.plan.now) self.old.frame.rest step }
+        requires step { StepsOn (names_of self.old.plan.now) self.old.frame.rest step }
         ensures cursor { OnOk result (IsCursor self.new) }
         ensures stays { Stays self.old self.new }
         ensures happens { IfOk result (λ e. Happens self.old self.new e) }
@@ -254,7 +255,7 @@ impl<'a, 'p, 'b> Cursor<'a, 'p, 'b> {
         parts: Rest,
     ) -> Result<Event<'a, 'b>, AllocError>
         requires cursor { IsCursor self.old }
-        requires step { GoesOn (names_of self.old.plan.now) self.old.frame.rest step }
+        requires step { StepsOn (names_of self.old.plan.now) self.old.frame.rest step }
         requires opens { IsOpenable self.old step.at definition.now 0 parts }
         ensures cursor { OnOk result (IsCursor self.new) }
         ensures stays { Stays self.old self.new }
@@ -292,7 +293,7 @@ impl<'a, 'p, 'b> Cursor<'a, 'p, 'b> {
         parts: Rest,
     ) -> Result<Event<'a, 'b>, AllocError>
         requires cursor { IsCursor self.old }
-        requires step { GoesOn (names_of self.old.plan.now) self.old.frame.rest step }
+        requires step { StepsOn (names_of self.old.plan.now) self.old.frame.rest step }
         requires some { 0 < own }
         requires opens { IsOpenable self.old step.at definition.now own parts }
         ensures cursor { OnOk result (IsCursor self.new) }

@@ -1,6 +1,6 @@
 // What is still to be read of a value.
-ghost use Rattle.borsh_values.specs.Words.{IsPlaceOf, name_at, places_in, names_of};
-ghost use Rattle.borsh_values.specs.Cursor.{Fits, GoesOn, past_copies, remaining};
+ghost use Rattle.borsh_plan.specs.Plan.{names_of};
+ghost use Rattle.borsh_values.specs.Cursor.{Fits, StepsOn, past_copies, remaining};
 ghost use Rattle.std.specs.Prelude.{false, length, true, ◌≡◌, ◌<◌, [], MatchOption, OnSome, slice_get};
 
 use crate::faults::Reason;
@@ -52,7 +52,7 @@ pub struct Step {
 pub fn next_part(plan: &Plan<'_>, rest: Rest) -> Option<Step>
     requires fits { Fits (names_of plan.now) rest }
     ensures { let names = names_of plan.now in
-        MatchOption result (remaining names rest ≡ []) (λ s. GoesOn names rest s) }
+        MatchOption result (remaining names rest ≡ []) (λ s. StepsOn names rest s) }
 {
     match rest {
         Rest::Copies(at, count) => {

@@ -1,5 +1,5 @@
 // The first value of some bytes, whatever follows it.
-ghost use Rattle.borsh_values.specs.Words.{definitions_of, root_of};
+ghost use Rattle.borsh_plan.specs.Plan.{definitions_of, root_of};
 ghost use Rattle.borsh_values.specs.Cursor.{IsAnswerOf};
 ghost use Rattle.borsh_values.specs.Membership.{AnswersFront};
 ghost use Rattle.std.specs.Prelude.{IfOk, ◌≤◌, length};

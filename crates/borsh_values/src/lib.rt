@@ -7,7 +7,6 @@
 //! that lead back to themselves, names without a definition, and 18446744073709551615 elements without bytes. None recurses.
 #![tactic(auto)]
 
-mod buffered;
 mod cursor;
 mod faults;
 mod frames;
@@ -24,7 +23,6 @@ mod unambiguous;
 mod walker;
 
 pub use borsh_plan::{Named, Plan};
-pub use buffered::Buffered;
 pub use faults::{Fault, Path, PathStep, Reason};
 pub use fronts::{Front, front_of};
 pub use members::{Membership, is_member, is_member_of};

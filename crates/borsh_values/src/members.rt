@@ -1,5 +1,6 @@
 // Whether bytes are a member of a name.
-ghost use Rattle.borsh_values.specs.Words.{definitions_of, root_of, definitions_in};
+ghost use Rattle.borsh_plan.specs.Plan.{definitions_of, root_of};
+ghost use Rattle.borsh_walks.specs.Definitions.{definitions_in};
 ghost use Rattle.borsh_values.specs.Membership.{AnswersMembership, IsAnswer, IsFrontAnswer};
 
 use crate::faults::{Fault, Path, Reason};

@@ -1,6 +1,6 @@
 // The nodes of a value.
 ghost use Rattle.borsh_values.specs.Nodes.{AreElementsOf, IsCountOf, IsVariantOf};
-ghost use Rattle.borsh_values.specs.Words.{shape_of};
+ghost use Rattle.borsh_walks.specs.Definitions.{shape_of};
 ghost use Rattle.std.specs.Prelude.{◌≡◌, take};
 
 use crate::tags::{number, variant_at};

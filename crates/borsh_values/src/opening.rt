@@ -1,10 +1,11 @@
 // What the definition of a name takes from the bytes.
-ghost use Rattle.borsh_values.specs.Words.{name_at, named_definition, shape_at, definitions_of, names_of, choice, sequence, shape_of, mark_of};
+ghost use Rattle.borsh_plan.specs.{Names.name_at, Names.shape_at, Plan.definitions_of, Plan.names_of};
+ghost use Rattle.borsh_walks.specs.{Container.choice, Container.sequence, Definitions.shape_of, Tables.mark_of};
 ghost use Rattle.borsh_values.specs.Nodes.{packed_size};
 ghost use Rattle.borsh_values.specs.Cursor.{FitsWidth, OpensAs, TakesElements};
 ghost use Rattle.borsh_values.specs.Tags.{AreTagTables, KeepsTables, TableFits};
 ghost use Rattle.borsh_values.specs.Walks.{CountsIfTaken};
-ghost use Rattle.std.specs.Prelude.{◌≡◌, ◌≤◌, ◌<◌, IfOk, OnOk, Some, length, map, option_map, slice_get, string_bytes};
+ghost use Rattle.std.specs.Prelude.{◌≡◌, ◌≤◌, ◌<◌, IfOk, Some, length, map, option_map, slice_get, string_bytes};
 
 use crate::faults::Reason;
 use crate::frames::{Opened, Rest};
@@ -117,7 +118,7 @@ fn open_enum<'a>(
         let C = definitions_of plan.now in
         IfOk result (λ o. OpensAs C (names_of plan.now) (choice width vs) bytes.now o) }
     ensures kept { let vs = map (λ v. (v.0, string_bytes v.2)) variants.now.items in
-        OnOk result (KeepsTables name.now width vs tables.old tables.new) }
+        KeepsTables name.now width vs tables.old tables.new }
 {
     let size = usize::from(width);
     if bytes.len() < size {
@@ -152,7 +153,7 @@ pub fn open_definition<'a>(
         let d = shape_of definition.now in
         IfOk result (λ o. OpensAs C (names_of plan.now) d bytes.now o) }
     ensures counted { IfOk result (λ o. CountsIfTaken (shape_of definition.now) o) }
-    ensures tables { OnOk result (AreTagTables (definitions_of plan.now) tables.new) }
+    ensures tables { AreTagTables (definitions_of plan.now) tables.new }
 {
     match definition {
         Definition::Primitive(size) => {

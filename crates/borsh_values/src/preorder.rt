@@ -1,5 +1,7 @@
 // The nodes of a value, one after another, from its bytes.
-ghost use Rattle.borsh_values.specs.Words.{definitions_of, root_of, PreorderErrorOutOfMemory as OutOfMemory, Member};
+ghost use Rattle.borsh_plan.specs.Plan.{definitions_of, root_of};
+ghost use Rattle.borsh_values.specs.declared.preorder.PreorderError.TheVariants.{OutOfMemory};
+ghost use Rattle.borsh_walks.specs.Container.{Member};
 ghost use Rattle.borsh_values.specs.Preorder.{GivesNext, IsInValue, IsNotGiven, bytes_left, names_left, next_offset, plan_of};
 ghost use Rattle.std.specs.Prelude.{IfErr, IfOk, OnOk, [], ◌∷◌, ◌≡◌};
 

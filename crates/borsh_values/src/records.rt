@@ -1,12 +1,13 @@
 // Values of a root, one after another, from a reader.
-ghost use Rattle.borsh_values.specs.Words.{definitions_of, root_of, RecordErrorOutOfMemory as OutOfMemory, Member};
-ghost use Rattle.borsh_values.specs.Records.{Advances, AdvancesHeld, Falls, IsFirstOf, IsRecordError, IsRootError, SameRoot, ahead, plan_of, limit_of, next_offset, source_of, value_of};
+ghost use Rattle.borsh_plan.specs.Plan.{definitions_of, root_of};
+ghost use Rattle.borsh_values.specs.declared.records.RecordError.TheVariants.{OutOfMemory};
+ghost use Rattle.borsh_walks.specs.Container.{Member};
+ghost use Rattle.borsh_values.specs.Records.{Advances, AdvancesHeld, TurnsFall, IsFirstOf, IsRecordError, IsRootError, SameRoot, ahead, plan_of, limit_of, next_offset, source_of, value_of};
 ghost use Rattle.std.specs.Prelude.{IfErr, IfOk, IfSome, None, OnOk, [], ⊤, ◌-◌, ◌≡◌, ◌≤◌, length, take, true};
 
-use crate::buffered::Buffered;
 use crate::faults::Fault;
 use crate::fronts::{Front, front_of};
-use borsh_io::{Error, Read};
+use borsh_io::{Buffered, Error, Read};
 use borsh_plan::Plan;
 use std::alloc::{AllocError, Global};
 use std::fmt;
@@ -165,7 +166,7 @@ impl<'a, 'l, R: Read + Drop> Records<'a, 'l, R> {
     /// ```
     pub fn advance(&mut self, alloc: Global) -> Result<bool, RecordError<'a>>
         ensures same { SameRoot self.old self.new }
-        ensures falls { Falls R.stream self.old self.new result }
+        ensures falls { TurnsFall R.stream self.old self.new result }
         ensures advances { let plan = (plan_of self.old).now in
             Advances (definitions_of plan) (root_of plan) R.stream self.old self.new result }
     {
@@ -196,7 +197,7 @@ impl<'a, 'l, R: Read + Drop> Records<'a, 'l, R> {
         ensures same { SameRoot self.old self.new }
         ensures advances { let plan = (plan_of self.old).now in
             AdvancesHeld (definitions_of plan) (root_of plan) self.old self.new ⊤ ⊥ result }
-        ensures falls { Falls R.stream self.old self.new result }
+        ensures falls { TurnsFall R.stream self.old self.new result }
     {
         self.find(alloc, false)
     }

@@ -1,7 +1,10 @@
 // Values that are passed without a frame for each: those of names of free size, and runs of values of one name.
-ghost use Rattle.borsh_values.specs.Words.{definitions_of, names_of, name_at, parts_in, shape_at, Copies, choice, product, shape_of};
+ghost use Rattle.borsh_plan.specs.Names.{name_at, parts_in, shape_at};
+ghost use Rattle.borsh_plan.specs.Plan.{definitions_of, names_of};
+ghost use Rattle.borsh_values.specs.declared.frames.Rest.TheVariants.{Copies};
+ghost use Rattle.borsh_walks.specs.Container.{choice, product};
 ghost use Rattle.borsh_values.specs.Cursor.{Fits};
-ghost use Rattle.borsh_values.specs.Free.{AreFirst, FreeSize, IsFreeFront, IsRight, IsRun, IsTagLength, Passes};
+ghost use Rattle.borsh_values.specs.Free.{AreFirst, FreeSize, IsFreeFront, IsRightLength, IsRun, IsTagLength, Passes};
 ghost use Rattle.std.specs.Prelude.{IfSome, MatchOption, Some, [], ◌∷◌, ◌≡◌, ◌<◌, ◌≤◌, ◌⊎◌, length, map, string_bytes};
 
 use crate::cursor::after;
@@ -85,11 +88,11 @@ fn length_of(
     requires shape { let vs = map (λ v. (v.0, string_bytes v.2)) variants.now.items in
         shape_at (names_of plan.now) at ≡ Some (choice 1 vs) }
     requires last { let name = name_at (names_of plan.now) at in
-        IsRight (definitions_of plan.now) name last }
+        IsRightLength (definitions_of plan.now) name last }
     requires other { let name = name_at (names_of plan.now) at in
-        IsRight (definitions_of plan.now) name other }
+        IsRightLength (definitions_of plan.now) name other }
     ensures right { let name = name_at (names_of plan.now) at in
-        IsRight (definitions_of plan.now) name result }
+        IsRightLength (definitions_of plan.now) name result }
     ensures same { result.tag ≡ tag }
 {
     if last.tag == tag {

@@ -1,7 +1,7 @@
 // The tags of variants, numbers for them, and tables, so that the variant of a tag isn't looked for among all variants.
-ghost use Rattle.borsh_values.specs.Tags.{FoundAs, IsTagKey, IsTagTable, IsVariantIndex, KeepsTables, TableFits, at_key, bits_of, byte_as, is_negative, key_of, magnitude_of, more_found, tag_from, value_of};
-ghost use Rattle.borsh_values.specs.Words.{low_bytes, tag, mark_of};
-ghost use Rattle.std.specs.Prelude.{Decides, IfOk, MatchOption, OnOk, ◌<◌, ◌≤◌, ◌≡◌, ◌^◌, length, map, string_bytes};
+ghost use Rattle.borsh_values.specs.Tags.{FoundAs, IsTagKey, IsTagTable, IsVariantIndex, KeepsTables, TableFits, at_key, bits_of, byte_as, is_negative, key_of, magnitude_of, more_found, tag_from, number_of};
+ghost use Rattle.borsh_walks.specs.{Container.little_endian, Container.tag, Tables.mark_of};
+ghost use Rattle.std.specs.Prelude.{Decides, IfOk, MatchOption, ◌<◌, ◌≤◌, ◌≡◌, ◌^◌, length, map, string_bytes};
 
 use borsh_walks::{Declaration, DiscriminantValue, VariantName};
 use std::alloc::{AllocError, Global};
@@ -22,8 +22,8 @@ const FEW: usize = 16;
 /// The number that at most eight bytes encode, little-endian.
 pub fn number(bytes: &[u8]) -> u64
     requires { length bytes.now ≤ 8 }
-    ensures value { result ≡ value_of bytes.now }
-    ensures written { low_bytes (length bytes.now) result ≡ bytes.now }
+    ensures value { result ≡ number_of bytes.now }
+    ensures written { little_endian (length bytes.now) result ≡ bytes.now }
     ensures small { result < 256 ^ length bytes.now }
 {
     let mut value: u64 = 0;
@@ -46,7 +46,7 @@ fn magnitude(discriminant: i64) -> u64
     }
 }
 
-fn is_below_zero(discriminant: i64) -> bool
+fn is_negative(discriminant: i64) -> bool
     ensures { result ≡ is_negative discriminant }
 {
     discriminant < 0
@@ -78,7 +78,7 @@ pub fn is_tag(discriminant: &i64, bytes: &[u8]) -> bool
     ensures { Decides result (tag (length bytes.now) discriminant.now ≡ bytes.now) }
 {
     let value = *discriminant;
-    writes_tag(is_below_zero(value), magnitude(value), bytes)
+    writes_tag(is_negative(value), magnitude(value), bytes)
 }
 
 fn add(found: Found, index: usize) -> Found
@@ -248,7 +248,7 @@ pub fn find_variant_of<'a>(
     ensures found { let vs = map (λ v. (v.0, string_bytes v.2)) variants.now.items in
         IfOk result (λ f. FoundAs vs tag.now f) }
     ensures kept { let vs = map (λ v. (v.0, string_bytes v.2)) variants.now.items in
-        OnOk result (KeepsTables name.now width vs tables.old tables.new) }
+        KeepsTables name.now width vs tables.old tables.new }
 {
     if variants.len() <= FEW {
         return Ok(find_variant(variants, tag));

@@ -1,7 +1,7 @@
 // Whether bytes say which value was encoded, by the definitions alone.
 ghost use Rattle.borsh_values.specs.Unambiguous.{DistinctTags, IsUnambiguous, UnambiguousShape};
 ghost use Rattle.borsh_values.specs.Membership.{IsAmbiguousName};
-ghost use Rattle.borsh_values.specs.Words.{definitions_in, shape_of};
+ghost use Rattle.borsh_walks.specs.Definitions.{definitions_in, shape_of};
 ghost use Rattle.std.specs.Prelude.{Decides, IfOk, MatchOption, ◌+◌, ◌^◌, ◌<◌, map, string_bytes};
 
 use crate::tags::{Found, numbers_in, tag_key};

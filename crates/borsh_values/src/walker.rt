@@ -1,6 +1,7 @@
 // A value that is walked part by part.
-ghost use Rattle.borsh_values.specs.Walks.{FindsAt, IsWalker};
-ghost use Rattle.std.specs.Prelude.{IfOk, IfSome, OnOk, ◌≡◌};
+ghost use Rattle.borsh_plan.specs.Plan.{definitions_of};
+ghost use Rattle.borsh_values.specs.Tags.{AreTagTables, tables_prop};
+ghost use Rattle.std.specs.Prelude.{IfOk, IfSome, ◌+◌, ◌<◌, ◌^◌, ◌≡◌, length};
 
 use crate::cursor::{after, front};
 use crate::frames::Opened;
@@ -30,12 +31,15 @@ pub struct Walker<'a, 'l, 'b> {
     pub left: &'b [u8],
     /// How many bytes of the value come before these.
     pub offset: usize,
+    pub ghost tabled: { AreTagTables (definitions_of plan.now) tables } by { tables_prop (definitions_of plan.now) tables },
+    pub ghost small: { offset + length left.now < 2 ^ 64 },
 }
 
 impl<'a, 'l, 'b> Walker<'a, 'l, 'b> {
+    ghost use Rattle.borsh_values.specs.Walks.{FindsAt};
+
     /// At the beginning of the bytes of a value. Nothing is allocated. Left open: none.
     pub fn new(alloc: Global, plan: &'l Plan<'a>, bytes: &'b [u8]) -> Walker<'a, 'l, 'b>
-        ensures walk { IsWalker result }
         ensures plan { result.plan ≡ plan.entry }
         ensures left { result.left.now ≡ bytes.now }
         ensures offset { result.offset ≡ 0 }
@@ -61,9 +65,7 @@ impl<'a, 'l, 'b> Walker<'a, 'l, 'b> {
     /// let node = walk.open(0, 0)?;
     /// ```
     pub fn open(&mut self, at: usize, depth: usize) -> Result<Option<Node<'a, 'b>>, AllocError>
-        requires { IsWalker self.old }
         ensures finds { IfOk result (λ found. FindsAt at self.old self.new found) }
-        ensures walk { OnOk result (IsWalker self.new) }
         ensures plan { self.new.plan ≡ self.old.plan }
         ensures depth { IfOk result (λ found. IfSome found (λ n. n.depth ≡ depth)) }
     {

@@ -8,11 +8,13 @@ pub mod SizeWalk
 pub mod Counting
 pub mod SizeExits
 pub mod SizeClaims
-pub mod SizeDue
+pub mod SizeComplete
 pub mod SizeExists
 pub mod SizeOutcome
 pub mod ZeroWalk
-pub mod ZeroGlue
+pub mod ZeroExits
 pub mod RulesLaws
-pub mod RulesDue
-pub mod RulesGlue
+pub mod RulesComplete
+pub mod RulesSteps
+pub mod Propositions
+pub mod Spoken

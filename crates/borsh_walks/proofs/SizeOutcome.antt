@@ -7,7 +7,7 @@ use Rattle.borsh_walks.specs.SizeOutcome.{AnswersSize}
 use Rattle.borsh_walks.specs.declared.error.SchemaMaxSerializedSizeError.{SchemaMaxSerializedSizeError}
 use Rattle.borsh_walks.proofs.Laws.{needed_reached, member_bound, size_longest}
 use Rattle.borsh_walks.proofs.SizeClaims.{HasSize}
-use Rattle.borsh_walks.proofs.SizeDue.{due}
+use Rattle.borsh_walks.proofs.SizeComplete.{if_fits}
 
 module _ (C : List ℕ → Option Shape) (root : List ℕ) where
   bounds : (r : Result ℕ SchemaMaxSerializedSizeError) → IsSizeAnswer C root r → IfOk r (λ n. (bs : List ℕ) → Member C root bs → length bs ≤ n)
@@ -20,7 +20,7 @@ module _ (C : List ℕ → Option Shape) (root : List ℕ) where
 
   pub answers_size : (r : Result ℕ SchemaMaxSerializedSizeError) → ((n : ℕ) → r ≡ Ok n → n < 2 ^ 64) → HasSize C root → IsSizeAnswer C root r → AnswersSize C root r
   answers_size r fits has a =
-      let d = due C root r fits a in
+      let d = if_fits C root r fits a in
       record {
         answer = a;
         bounds = bounds r a;

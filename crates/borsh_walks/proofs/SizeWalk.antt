@@ -5,7 +5,10 @@ use Rattle.borsh_walks.specs.Container.{Shape, primitive, sequence, product, cho
 use Rattle.borsh_walks.specs.Definitions.{spot_shape}
 use Rattle.borsh_walks.specs.SizeParts.{partial_size, add_part, size_of_parts}
 use Rattle.borsh_walks.specs.SizeAnswer.{Distinct, distinct_none, distinct_more, AreSizeReached}
-use Rattle.borsh_walks.specs.Tables.{Visited}
+use Rattle.borsh_walks.specs.Tables.{NameTable, mark_at, name_number, Visited}
+use Rattle.std.specs.Map.{lookup}
+use Rattle.std.specs.Cmp.Lexicographic.{slice_cmp}
+use Rattle.std.specs.Ordering.{nat_cmp, is_eq, ordering_then}
 use Rattle.borsh_walks.specs.declared.sizes.Frame.{Frame}
 use Rattle.borsh_walks.specs.declared.sizes.Mark.{Mark}
 use Rattle.borsh_walks.specs.declared.sizes.Mark.TheVariants.{Open, Finished}
@@ -24,6 +27,11 @@ spots_of (f ∷ fs) = f.spot ∷ spots_of fs
 
 abbrev pub path_of : Frame → List Frame → List (List ℕ)
 path_of f fs = names_of (spots_of (f ∷ fs))
+
+-- the places of the next parts fit
+abbrev pub AllSmall : List Frame → Type 0
+AllSmall [] = ⊤
+AllSmall (f ∷ fs) = (f.spot.next < 18446744073709551615) × AllSmall fs
 
 -- the frame with one more part, where the parts make n
 abbrev pub gathered_more : Frame → ℕ → Frame
@@ -172,6 +180,10 @@ module _ (C : List ℕ → Option Shape) where
     pub size_is : (x : List ℕ) (n : ℕ) → T x ≡ Some (Finished n) → MaxSize C x n
     pub closed : (x : List ℕ) (n : ℕ) (d : Shape) → T x ≡ Some (Finished n) → C x ≡ Some d → (y : List ℕ) → IsIn y (size_references d) → IsFinished T y
     pub marks : Visited (λ x. SizeReaches C root x × IsDefined C x) T L
+
+  -- the same entries make the same marks
+  pub state_stays : {root : List ℕ} (t u : NameTable Mark) {fs : List Frame} {f : Frame} {L : List (List ℕ)} → State root (mark_at t) fs f L → u.entries ≡ t.entries → State root (mark_at u) fs f L
+  state_stays {root} t u {fs} {f} {L} s e = subst (λ es. State root (λ x. lookup (λ k. is_eq (ordering_then (nat_cmp (name_number x) k.0) (slice_cmp nat_cmp x k.1.now))) es) fs f L) (sym e) s
 
   -- the next part is finished
   pub step_add : {root : List ℕ} {T : List ℕ → Option Mark} {fs : List Frame} {f : Frame} {L : List (List ℕ)} (p : List ℕ) (n m : ℕ) → State root T fs f L → slice_get (size_references (shape f)) f.spot.next ≡ Some p → T p ≡ Some (Finished n) → m ≡ add_part (shape f) f.gathered n → State root T fs (gathered_more f m) L

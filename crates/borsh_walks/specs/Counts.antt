@@ -51,6 +51,6 @@ add_to Rules k e = record e { rules = add_saturating e.rules k }
 abbrev pub CountsLook : {A : Type 0} → Question → Counted → Counted → Option A → Type 0
 CountsLook question old new found = counts_of new ≡ (if is_some found then add_to question 1 (counts_of old) else counts_of old)
 
--- `size` rose by at most the number of definitions, and the others stay
-abbrev pub SizeWork : Counted → Counted → Type 0
-SizeWork old new = (k : ℕ) × (k ≤ definition_count old) × (counts_of new ≡ add_to Size k (counts_of old))
+-- `size` rose by at most that many, and the others stay
+abbrev pub SizeWork : ℕ → Expansions → Expansions → Type 0
+SizeWork most old new = (k : ℕ) × (k ≤ most) × (new ≡ add_to Size k old)

@@ -4,7 +4,7 @@ use Rattle.borsh_walks.specs.Container.{Rule, zst_sequence, tag_too_wide, tag_to
 use Rattle.borsh_walks.specs.declared.error.SchemaContainerValidateError.{SchemaContainerValidateError}
 use Rattle.borsh_walks.specs.declared.error.SchemaContainerValidateError.TheVariants.{ZSTSequence, TagTooWide, TagTooNarrow, TagNotPowerOfTwo, MissingDefinition, EmptyLengthRange, OutOfMemory as NoMemory}
 use Rattle.borsh_walks.specs.declared.error.SchemaMaxSerializedSizeError.{SchemaMaxSerializedSizeError}
-use Rattle.borsh_walks.specs.declared.error.SchemaMaxSerializedSizeError.TheVariants.{Overflow, Recursive, MissingDefinition as Missing, OutOfMemory, Redefinition}
+use Rattle.borsh_walks.specs.declared.error.SchemaMaxSerializedSizeError.TheVariants.{OutOfMemory}
 
 -- an allocation failed in the walk for the rules
 abbrev pub no_memory : SchemaContainerValidateError
@@ -32,11 +32,3 @@ broken_rule (TagNotPowerOfTwo m) = Some (rule_name tag_not_power_of_two, string_
 broken_rule (MissingDefinition m) = Some (rule_name missing_definition, string_bytes m)
 broken_rule (EmptyLengthRange m) = Some (rule_name empty_length_range, string_bytes m)
 broken_rule NoMemory = None
-
--- why a container has no size, as a word, and the name that is missing; none if an allocation failed, and of two definitions
-abbrev pub size_reason : SchemaMaxSerializedSizeError → Option (List ℕ × Option (List ℕ))
-size_reason Overflow = Some (codes "overflow", None)
-size_reason Recursive = Some (codes "recursive", None)
-size_reason (Missing m) = Some (codes "missing", Some (string_bytes m))
-size_reason OutOfMemory = None
-size_reason (Redefinition m) = None

@@ -4,9 +4,11 @@ pub mod Counts
 pub mod Codecs
 pub mod Errors
 pub mod Tables
+pub mod TupleNames
 pub mod SizeParts
 pub mod SizeAnswer
 pub mod SizeOutcome
 pub mod ZeroAnswer
 pub mod RulesAnswer
 pub mod RulesState
+pub mod Answers

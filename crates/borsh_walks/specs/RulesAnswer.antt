@@ -8,7 +8,7 @@ use Rattle.borsh_walks.specs.declared.rules.Broken.{Broken}
 use Rattle.borsh_walks.specs.declared.rules.Broken.TheVariants.{ZeroSized, Wide, Narrow, NotPowerOfTwo, Missing, EmptyRange}
 use Rattle.borsh_walks.specs.declared.error.SchemaContainerValidateError.{SchemaContainerValidateError}
 use Rattle.borsh_walks.specs.declared.error.SchemaContainerValidateError.TheVariants.{ZSTSequence, TagTooWide, TagTooNarrow, TagNotPowerOfTwo, MissingDefinition, EmptyLengthRange, OutOfMemory}
-use Rattle.borsh_walks.specs.Container.{Shape, primitive, sequence, product, choice, Rule, zst_sequence, tag_too_wide, tag_too_narrow, tag_not_power_of_two, missing_definition, empty_length_range, Breaks, IsValid, Reached, Reaches}
+use Rattle.borsh_walks.specs.Container.{Shape, sequence, choice, Rule, zst_sequence, tag_too_wide, tag_too_narrow, tag_not_power_of_two, missing_definition, empty_length_range, Breaks, IsValid, Reached, Reaches}
 
 abbrev pub rule_of : Broken → Rule
 rule_of ZeroSized = zst_sequence
@@ -24,48 +24,34 @@ IsWidth w hi = (w ≡ 0) ⊎ (w ≡ 8) ⊎ ((w ≡ 1) × (hi < 256)) ⊎ ((w ≡
 
 -- a rule of a sequence's width, broken
 abbrev pub BreaksWidth : Rule → ℕ → ℕ → Type 0
-BreaksWidth zst_sequence w hi = ⊥
 BreaksWidth tag_too_wide w hi = 8 < w
 BreaksWidth tag_too_narrow w hi = ((w ≡ 1) × (256 ≤ hi)) ⊎ ((w ≡ 2) × (65536 ≤ hi)) ⊎ ((w ≡ 4) × (4294967296 ≤ hi))
 BreaksWidth tag_not_power_of_two w hi = (w ≡ 3) ⊎ (w ≡ 5) ⊎ (w ≡ 6) ⊎ (w ≡ 7)
-BreaksWidth missing_definition w hi = ⊥
-BreaksWidth empty_length_range w hi = ⊥
+BreaksWidth _ w hi = ⊥
 
 abbrev pub BreaksSequence : Rule → ℕ → ℕ → ℕ → Type 0
-BreaksSequence zst_sequence w lo hi = ⊥
-BreaksSequence tag_too_wide w lo hi = BreaksWidth tag_too_wide w hi
-BreaksSequence tag_too_narrow w lo hi = BreaksWidth tag_too_narrow w hi
-BreaksSequence tag_not_power_of_two w lo hi = BreaksWidth tag_not_power_of_two w hi
-BreaksSequence missing_definition w lo hi = ⊥
 BreaksSequence empty_length_range w lo hi = hi < lo
+BreaksSequence r w lo hi = BreaksWidth r w hi
 
 abbrev pub BreaksChoice : Rule → ℕ → Type 0
-BreaksChoice zst_sequence w = ⊥
 BreaksChoice tag_too_wide w = 8 < w
-BreaksChoice tag_too_narrow w = ⊥
-BreaksChoice tag_not_power_of_two w = ⊥
-BreaksChoice missing_definition w = ⊥
-BreaksChoice empty_length_range w = ⊥
+BreaksChoice _ w = ⊥
 
 -- the rules that need no look at another name
 abbrev pub KeepsWidths : Shape → Type 0
-KeepsWidths (primitive n) = ⊤
 KeepsWidths (sequence w lo hi e) = (lo ≤ hi) × IsWidth w hi
-KeepsWidths (product ps) = ⊤
 KeepsWidths (choice w vs) = w ≤ 8
+KeepsWidths _ = ⊤
 
 abbrev pub BreaksShape : Rule → Shape → Type 0
-BreaksShape r (primitive n) = ⊥
 BreaksShape r (sequence w lo hi e) = BreaksSequence r w lo hi
-BreaksShape r (product ps) = ⊥
 BreaksShape r (choice w vs) = BreaksChoice r w
+BreaksShape r _ = ⊥
 
 -- the element of a sequence that must not be of zero size
 abbrev pub checked_element : Shape → Option (List ℕ)
-checked_element (primitive n) = None
 checked_element (sequence w lo hi e) = cond (eqb w 0 && eqb lo hi) None (Some e)
-checked_element (product ps) = None
-checked_element (choice w vs) = None
+checked_element _ = None
 
 module _ (C : List ℕ → Option Shape) where
   -- what a name's definition breaks, if it breaks a rule

@@ -7,7 +7,7 @@ use Rattle.borsh_walks.specs.Definitions.{spot_shape}
 use Rattle.borsh_walks.specs.Counts.{counts_of, definition_at, definitions_of, add_to}
 use Rattle.borsh_walks.specs.SizeAnswer.{Distinct}
 use Rattle.borsh_walks.specs.ZeroAnswer.{ZeroTable}
-use Rattle.borsh_walks.specs.Tables.{mark_of, IsMarked, Visited}
+use Rattle.borsh_walks.specs.Tables.{mark_of, IsMarked, NameTable, mark_at, Visited}
 use Rattle.borsh_walks.specs.RulesAnswer.{RulesFault, ZeroSizeReaches, checked_element}
 use Rattle.borsh_walks.specs.declared.counted.Counted.{Counted}
 use Rattle.borsh_walks.specs.declared.counted.Expansions.{Expansions}
@@ -26,9 +26,9 @@ module _ (C : List ℕ → Option Shape) (root : List ℕ) where
   AllSpots (f ∷ fs) = ((C f.name.now ≡ Some (spot_shape f)) × Reached C root f.name.now × (f.next ≤ length (references (spot_shape f)))) × AllSpots fs
 
   -- the names seen are reached and keep their rules, and what they refer to is seen, waits on the stack, or is among `extra`
-  pub record RulesState (extra : List (List ℕ)) (seen : BTreeMap (Bor (List ℕ)) Bool) (stack : List Spot) (zeros : BTreeMap (Bor (List ℕ)) Bool) : Type 0 where
+  pub record RulesState (extra : List (List ℕ)) (seen : NameTable Bool) (stack : List Spot) (zeros : BTreeMap (Bor (List ℕ)) Bool) : Type 0 where
     pub names : List (List ℕ)
-    pub marks : Visited (λ x. Reached C root x × ((r : Rule) → Breaks C r x → ⊥) × IsDefined C x) (mark_of seen) names
+    pub marks : Visited (λ x. Reached C root x × ((r : Rule) → Breaks C r x → ⊥) × IsDefined C x) (mark_at seen) names
     pub len : btree_map_len seen ≡ length names
     pub spots : AllSpots stack
     pub closed : (x : List ℕ) (d : Shape) (y : List ℕ) → IsIn x names → C x ≡ Some d → IsIn y (references d) → IsIn y names ⊎ IsIn y extra ⊎ IsIn y (pending stack)
@@ -49,37 +49,54 @@ module _ (C : List ℕ → Option Shape) (root : List ℕ) where
   abbrev pub AreZeroSizeReached : List (List ℕ) → Type 0
   AreZeroSizeReached xs = Distinct xs × ((x : List ℕ) → IsIn x xs → ZeroSizeReaches C root x × IsDefined C x)
 
-abbrev pub RulesCounted : {E : Type 0} → List ℕ → Counted → Counted → BTreeMap (Bor (List ℕ)) Bool → BTreeMap (Bor (List ℕ)) Bool → BTreeMap (Bor (List ℕ)) Bool → BTreeMap (Bor (List ℕ)) Bool → Result (Unit {0}) E → Type 0
+  -- `rules` rose by the number of reached names, and `zero` by at least the number of elements that are checked
+  abbrev pub JudgedCounts : Expansions → Expansions → Type 0
+  JudgedCounts old new = (xs : List (List ℕ)) × (zs : List (List ℕ)) × Distinct xs × Distinct zs × ((x : List ℕ) → IsIn x xs ↔ Reached C root x)
+      × ((x : List ℕ) (d : Shape) (e : List ℕ) → Reached C root x → C x ≡ Some d → checked_element d ≡ Some e → IsIn e zs)
+      × (new ≡ add_to Rules (length xs) (add_to Zero (length zs) old))
+
+abbrev pub RulesCounted : {E : Type 0} → List ℕ → Counted → Counted → NameTable Bool → NameTable Bool → BTreeMap (Bor (List ℕ)) Bool → BTreeMap (Bor (List ℕ)) Bool → Result (Unit {0}) E → Type 0
 RulesCounted root old new s t u v r = (base : Expansions) → IsBothCount old (btree_map_len s) (btree_map_len u) base → (xs : List (List ℕ)) × (zs : List (List ℕ)) × AreReached (definitions_of old) root xs × AreZeroSizeReached (definitions_of old) root zs × IsBothCount new (length xs) (length zs) base × OnOk r ((length xs ≡ btree_map_len t) × (length zs ≡ btree_map_len v))
 
 -- the name is seen from now on, and what was seen still is
-abbrev pub HasSeen : List ℕ → BTreeMap (Bor (List ℕ)) Bool → BTreeMap (Bor (List ℕ)) Bool → Type 0
-HasSeen name s t = ((x : List ℕ) → (mark_of s x ≡ None → ⊥) → mark_of t x ≡ None → ⊥) × (mark_of t name ≡ None → ⊥) × (btree_map_len t ≡ btree_map_len s + 1)
+abbrev pub HasSeen : List ℕ → NameTable Bool → NameTable Bool → Type 0
+HasSeen name s t = ((x : List ℕ) → (mark_at s x ≡ None → ⊥) → mark_at t x ≡ None → ⊥) × (mark_at t name ≡ None → ⊥) × (btree_map_len t ≡ btree_map_len s + 1)
 
 -- the name was put on the stack
 abbrev pub HasPushed : Counted → List Spot → List Spot → List ℕ → Type 0
 HasPushed c old new name = (f : Spot) × (new ≡ f ∷ old) × (f.next ≡ 0) × (definition_at c name ≡ Some f.definition.now)
 
 -- what a visit makes of the state
-abbrev pub IsVisited : Counted → Counted → List ℕ → BTreeMap (Bor (List ℕ)) Bool → BTreeMap (Bor (List ℕ)) Bool → List Spot → List Spot → BTreeMap (Bor (List ℕ)) Bool → BTreeMap (Bor (List ℕ)) Bool → List ℕ → Result (Unit {0}) SchemaContainerValidateError → Type 0
+abbrev pub IsVisited : Counted → Counted → List ℕ → NameTable Bool → NameTable Bool → List Spot → List Spot → BTreeMap (Bor (List ℕ)) Bool → BTreeMap (Bor (List ℕ)) Bool → List ℕ → Result (Unit {0}) SchemaContainerValidateError → Type 0
 IsVisited old new name s t stack stack_after u v root (Ok _) = RulesState (definitions_of old) root [] t stack_after v × HasSeen name s t × HasPushed old stack stack_after name
 IsVisited old new name s t stack stack_after u v root (Err e) = RulesFault (definitions_of old) root e
 
 -- the name is visited for the first time: what the visit makes of the state, for every root that reaches the name
-abbrev pub Visits : Counted → Counted → List ℕ → BTreeMap (Bor (List ℕ)) Bool → BTreeMap (Bor (List ℕ)) Bool → List Spot → List Spot → BTreeMap (Bor (List ℕ)) Bool → BTreeMap (Bor (List ℕ)) Bool → Result (Unit {0}) SchemaContainerValidateError → Type 0
+abbrev pub Visits : Counted → Counted → List ℕ → NameTable Bool → NameTable Bool → List Spot → List Spot → BTreeMap (Bor (List ℕ)) Bool → BTreeMap (Bor (List ℕ)) Bool → Result (Unit {0}) SchemaContainerValidateError → Type 0
 Visits old new name s t stack stack_after u v r =
-    (root : List ℕ) → RulesState (definitions_of old) root (name ∷ []) s stack u → Reached (definitions_of old) root name → mark_of s name ≡ None → IsVisited old new name s t stack stack_after u v root r
+    (root : List ℕ) → RulesState (definitions_of old) root (name ∷ []) s stack u → Reached (definitions_of old) root name → mark_at s name ≡ None → IsVisited old new name s t stack stack_after u v root r
 
 -- and what it counts
-abbrev pub CountsVisit : Counted → Counted → List ℕ → BTreeMap (Bor (List ℕ)) Bool → BTreeMap (Bor (List ℕ)) Bool → List Spot → BTreeMap (Bor (List ℕ)) Bool → BTreeMap (Bor (List ℕ)) Bool → Result (Unit {0}) SchemaContainerValidateError → Type 0
+abbrev pub CountsVisit : Counted → Counted → List ℕ → NameTable Bool → NameTable Bool → List Spot → BTreeMap (Bor (List ℕ)) Bool → BTreeMap (Bor (List ℕ)) Bool → Result (Unit {0}) SchemaContainerValidateError → Type 0
 CountsVisit old new name s t stack u v r =
-    (root : List ℕ) → RulesState (definitions_of old) root (name ∷ []) s stack u → Reached (definitions_of old) root name → mark_of s name ≡ None → RulesCounted root old new s t u v r
+    (root : List ℕ) → RulesState (definitions_of old) root (name ∷ []) s stack u → Reached (definitions_of old) root name → mark_at s name ≡ None → RulesCounted root old new s t u v r
 
--- on a yes `rules` rises by the number of reached names, and `zero` by at least the number of elements that are checked
-abbrev pub RulesCountedOnYes : Counted → Counted → List ℕ → Type 0
-RulesCountedOnYes old new root = (xs : List (List ℕ)) × (zs : List (List ℕ)) × Distinct xs × Distinct zs × ((x : List ℕ) → IsIn x xs ↔ Reached (definitions_of old) root x)
-    × ((x : List ℕ) (d : Shape) (e : List ℕ) → Reached (definitions_of old) root x → definitions_of old x ≡ Some d → checked_element d ≡ Some e → IsIn e zs)
-    × (counts_of new ≡ add_to Rules (length xs) (add_to Zero (length zs) (counts_of old)))
+-- the same names are seen
+pub record SeesSame (s t : NameTable Bool) : Type 0 where
+  pub kept : (x : List ℕ) → (mark_at s x ≡ None → ⊥) → mark_at t x ≡ None → ⊥
+  pub known : (x : List ℕ) → (mark_at t x ≡ None → ⊥) → mark_at s x ≡ None → ⊥
+  pub len : btree_map_len t ≡ btree_map_len s
+
+-- a name that was seen is not visited again
+pub record StaysSeen (old new : Counted) (s t : NameTable Bool) (stack stack_after : List Spot) (u v : BTreeMap (Bor (List ℕ)) Bool) (r : Result (Unit {0}) SchemaContainerValidateError) : Type 0 where
+  pub seen : SeesSame s t
+  pub waiting : stack_after ≡ stack
+  pub zeros : v ≡ u
+  pub counts : counts_of new ≡ counts_of old
+  pub ok : r ≡ Ok tt
+
+abbrev pub StaysIfSeen : Counted → Counted → List ℕ → NameTable Bool → NameTable Bool → List Spot → List Spot → BTreeMap (Bor (List ℕ)) Bool → BTreeMap (Bor (List ℕ)) Bool → Result (Unit {0}) SchemaContainerValidateError → Type 0
+StaysIfSeen old new name s t stack stack_after u v r = (mark_at s name ≡ None → ⊥) → StaysSeen old new s t stack stack_after u v r
 
 -- `rules` rose by the number of `names` and `zero` by that of `zeros`, neither by more than `most`
 pub record RulesWork (C : List ℕ → Option Shape) (root : List ℕ) (most : ℕ) (old new : Expansions) : Type 0 where

@@ -2,11 +2,10 @@
 use Rattle.std.specs.Prelude.{◌≡◌, ℕ, ◌^◌, ◌≤◌, ◌↔◌, List, [], ◌∷◌, length, Option, None, string_bytes, ⊤, MatchResult, OnOk, Result}
 use Rattle.borsh_walks.specs.declared.error.SchemaMaxSerializedSizeError.{SchemaMaxSerializedSizeError}
 use Rattle.borsh_walks.specs.declared.error.SchemaMaxSerializedSizeError.TheVariants.{Overflow, Recursive, MissingDefinition, OutOfMemory, Redefinition}
-use Rattle.borsh_walks.specs.declared.counted.Counted.{Counted}
 use Rattle.borsh_walks.specs.declared.counted.Expansions.{Expansions}
 use Rattle.borsh_walks.specs.declared.counted.Question.TheVariants.{Size}
 use Rattle.borsh_walks.specs.Container.{Shape, IsIn, IsDefined, MaxSize, PartialSize, SizeReaches, IsRecursive}
-use Rattle.borsh_walks.specs.Counts.{add_to, counts_of}
+use Rattle.borsh_walks.specs.Counts.{add_to}
 
 -- no name twice
 pub data Distinct : List (List ℕ) → Type 0 where
@@ -15,11 +14,9 @@ pub data Distinct : List (List ℕ) → Type 0 where
 
 -- the error of a name without a definition, or `OutOfMemory` if the name could not be copied
 abbrev pub IsMissing : List ℕ → SchemaMaxSerializedSizeError → Type 0
-IsMissing name Overflow = ⊥
-IsMissing name Recursive = ⊥
 IsMissing name (MissingDefinition m) = string_bytes m ≡ name
 IsMissing name OutOfMemory = ⊤
-IsMissing name (Redefinition m) = ⊥
+IsMissing name _ = ⊥
 
 module _ (C : List ℕ → Option Shape) (root : List ℕ) where
   -- the cause of an error
@@ -37,10 +34,6 @@ module _ (C : List ℕ → Option Shape) (root : List ℕ) where
   -- a returned size is the `MaxSize`; an error has its cause
   abbrev pub IsSizeAnswer : Result ℕ SchemaMaxSerializedSizeError → Type 0
   IsSizeAnswer r = MatchResult r (λ n. MaxSize C root n) (λ e. SizeFault e)
-
-  -- `size` rose by the number of names looked at, each once, needed and defined; if a size is returned, all that are needed
-  abbrev pub IsCounted : Counted → Counted → Result ℕ SchemaMaxSerializedSizeError → Type 0
-  IsCounted old new r = (xs : List (List ℕ)) × Distinct xs × ((x : List ℕ) → IsIn x xs → SizeReaches C root x × IsDefined C x) × (counts_of new ≡ add_to Size (length xs) (counts_of old)) × OnOk r (AreSizeReached xs)
 
   -- `size` rose by the number of names in a list, each there once, needed and defined
   pub record VisitsNeeded (old new : Expansions) (xs : List (List ℕ)) : Type 0 where

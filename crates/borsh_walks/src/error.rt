@@ -1,5 +1,5 @@
 // Why a container breaks the rules, or has no greatest size.
-ghost use Rattle.borsh_walks.specs.Errors.{broken_rule, size_reason, no_memory, out_of_memory};
+ghost use Rattle.borsh_walks.specs.Errors.{broken_rule, no_memory, out_of_memory};
 ghost use Rattle.std.specs.Prelude.{◌≡◌, option_map};
 
 use crate::definition::Declaration;
@@ -71,30 +71,6 @@ pub enum SchemaMaxSerializedSizeError {
     OutOfMemory,
     /// The type gives this name two different definitions. Only the size of a type has this error.
     Redefinition(Declaration),
-}
-
-impl SchemaMaxSerializedSizeError {
-    /// Why a container has no size, as a word, and the name that is missing; none if an allocation failed, and of
-    /// `Redefinition`.
-    ///
-    /// ```
-    /// if let Some((word, name)) = error.reason() {
-    ///     println!(rt; "no size: {word} {}", name.unwrap_or(""))?;
-    /// }
-    /// ```
-    pub fn reason(&self) -> Option<(&'static str, Option<&str>)>
-        ensures { option_map (λ p. (p.0.now, option_map (λ name. name.now) p.1)) result
-            ≡ size_reason self.now }
-    {
-        match self {
-            SchemaMaxSerializedSizeError::Overflow => Some(("overflow", None)),
-            SchemaMaxSerializedSizeError::Recursive => Some(("recursive", None)),
-            SchemaMaxSerializedSizeError::MissingDefinition(name) => {
-                Some(("missing", Some(name.as_str())))
-            }
-            _ => None,
-        }
-    }
 }
 
 impl From<AllocError> for SchemaContainerValidateError {

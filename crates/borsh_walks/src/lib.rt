@@ -5,6 +5,7 @@
 //! each definition at most once for each kind of question, and don't recurse.
 #![tactic(auto)]
 
+pub mod answers;
 mod codec;
 pub mod counted;
 pub mod definition;
@@ -15,6 +16,7 @@ pub mod sizes;
 mod stack;
 pub mod zero;
 
+pub use answers::{Words, rules_in_words, size_in_words};
 pub use counted::{Counted, Expansions, Question};
 pub use definition::{
     Declaration, Definition, DiscriminantValue, FieldName, Fields, LengthRange, VariantName,

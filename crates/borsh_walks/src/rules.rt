@@ -3,14 +3,14 @@ ghost use Rattle.borsh_walks.specs.Counts.{counts_of, definition_count, definiti
 ghost use Rattle.borsh_walks.specs.RulesAnswer.{AcceptsIfValid, AnswersShape, ElementReaches, IsRulesError, JudgesRules, IsWidth, BreaksWidth, MarksElement, RuleAnswer, rule_of, checked_element};
 ghost use Rattle.borsh_walks.specs.Definitions.{shape_of};
 ghost use Rattle.borsh_walks.specs.ZeroAnswer.{ZeroCounted, ZeroTable};
-ghost use Rattle.borsh_walks.specs.RulesState.{CountsVisit, RulesCountedOnYes, RulesWork, Visits};
+ghost use Rattle.borsh_walks.specs.RulesState.{CountsVisit, JudgedCounts, RulesWork, StaysIfSeen, Visits};
 ghost use Rattle.std.specs.Prelude.{◌≡◌, IfOk, MatchOption, OnOk, option_map, reverse};
 
 use crate::counted::{Counted, Question};
 use crate::definition::Definition;
 use crate::error::SchemaContainerValidateError;
 use crate::parts::referenced_part;
-use crate::stack::Spot;
+use crate::stack::{Spot, key_of};
 use crate::zero::is_zero;
 use std::alloc::{AllocError, Global};
 use std::collections::BTreeMap;
@@ -148,11 +148,11 @@ fn error_of(alloc: Global, broken: Broken, name: &str) -> SchemaContainerValidat
     }
 }
 
-// The first visit of a reached name: its rules are checked, and the names that it refers to wait on the stack.
+// The visit of a reached name. The first one checks its rules, and the names that it refers to wait on the stack.
 fn visit<'a, 'm: 'a>(
     alloc: Global,
     name: &'a str,
-    seen: &mut BTreeMap<&'a str, bool>,
+    seen: &mut BTreeMap<(u64, &'a str), bool>,
     stack: &mut Vec<Spot<'a>>,
     table: &mut BTreeMap<&'a str, bool>,
     counted: &mut Counted<'m, '_>,
@@ -163,14 +163,18 @@ fn visit<'a, 'm: 'a>(
         (reverse stack.old.items) (reverse stack.new.items) table.old table.new result }
     ensures counts { CountsVisit counted.old counted.new name.now seen.old seen.new
         (reverse stack.old.items) table.old table.new result }
+    ensures again { StaysIfSeen counted.old counted.new name.now seen.old seen.new
+        (reverse stack.old.items) (reverse stack.new.items) table.old table.new result }
 {
+    if seen.insert(key_of(name), true)?.is_some() {
+        return Ok(());
+    }
     let Some(definition) = counted.look(Question::Rules, name) else {
         return Err(error_of(alloc, Broken::Missing, name));
     };
     if let Some(broken) = broken_rule(alloc, definition, table, counted)? {
         return Err(error_of(alloc, broken, name));
     }
-    seen.insert(name, true)?;
     stack.push(Spot::at(name, definition))?;
     Ok(())
 }
@@ -197,7 +201,8 @@ pub fn check_rules(
     ensures same { LooksOn counted.old counted.new }
     ensures answer { JudgesRules (definitions_of counted.old) root.now result }
     ensures complete { AcceptsIfValid (definitions_of counted.old) root.now result }
-    ensures counts { OnOk result (RulesCountedOnYes counted.old counted.new root.now) }
+    ensures counts { OnOk result (JudgedCounts (definitions_of counted.old) root.now
+        (counts_of counted.old) (counts_of counted.new)) }
     ensures work { RulesWork (definitions_of counted.old) root.now (definition_count counted.old)
         (counts_of counted.old) (counts_of counted.new) }
 {
@@ -213,12 +218,13 @@ fn walk_rules<'a, 'm: 'a>(
 ) -> Result<(), SchemaContainerValidateError>
     ensures same { LooksOn counted.old counted.new }
     ensures answer { JudgesRules (definitions_of counted.old) root.now result }
-    ensures counts { OnOk result (RulesCountedOnYes counted.old counted.new root.now) }
+    ensures counts { OnOk result (JudgedCounts (definitions_of counted.old) root.now
+        (counts_of counted.old) (counts_of counted.new)) }
     ensures work { RulesWork (definitions_of counted.old) root.now (definition_count counted.old)
         (counts_of counted.old) (counts_of counted.new) }
 {
     let mut table: BTreeMap<&'a str, bool> = BTreeMap::new(alloc);
-    let mut seen: BTreeMap<&'a str, bool> = BTreeMap::new(alloc);
+    let mut seen: BTreeMap<(u64, &'a str), bool> = BTreeMap::new(alloc);
     let mut stack: Vec<Spot<'a>> = Vec::new(alloc);
     visit(alloc, root, &mut seen, &mut stack, &mut table, counted)?;
     while let Some(mut spot) = stack.pop() {
@@ -227,9 +233,7 @@ fn walk_rules<'a, 'm: 'a>(
         };
         spot.next += 1;
         stack.push(spot)?;
-        if !seen.contains_key(part) {
-            visit(alloc, part, &mut seen, &mut stack, &mut table, counted)?;
-        }
+        visit(alloc, part, &mut seen, &mut stack, &mut table, counted)?;
     }
     Ok(())
 }

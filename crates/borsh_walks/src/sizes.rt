@@ -1,17 +1,19 @@
 // The greatest size of a name.
-ghost use Rattle.borsh_walks.specs.Counts.{counts_of, definitions_of, LooksOn, SizeWork};
+ghost use Rattle.borsh_walks.specs.Counts.{counts_of, definition_count, definitions_of, LooksOn, SizeWork};
 ghost use Rattle.borsh_walks.specs.Definitions.{shape_of};
-ghost use Rattle.borsh_walks.specs.SizeAnswer.{CountsNeeded, IsCounted, IsMissing, IsSizeAnswer};
+ghost use Rattle.borsh_walks.specs.SizeAnswer.{CountsNeeded, IsMissing, IsSizeAnswer};
 ghost use Rattle.borsh_walks.specs.SizeOutcome.{AnswersSize};
 ghost use Rattle.borsh_walks.specs.SizeParts.{IsIfFits, add_part, size_of_parts};
+ghost use Rattle.borsh_walks.specs.Tables.{MarksNew};
+ghost use Rattle.borsh_walks.specs.declared.sizes.Mark.TheVariants.{Open};
 ghost use Rattle.std.specs.Prelude.{◌^◌, ◌<◌, IfOk};
 
 use crate::counted::{Counted, Question};
 use crate::definition::Definition;
 use crate::error::SchemaMaxSerializedSizeError;
 use crate::parts::needed_part;
-use crate::stack::Spot;
-use std::alloc::Global;
+use crate::stack::{Spot, key_of};
+use std::alloc::{AllocError, Global};
 use std::collections::BTreeMap;
 
 // How far a name's size has come.
@@ -84,9 +86,27 @@ pub fn root_size(
     ensures size { AnswersSize (definitions_of counted.old) root.now result }
     ensures counts { CountsNeeded (definitions_of counted.old) root.now
         (counts_of counted.old) (counts_of counted.new) result }
-    ensures bounded_work { SizeWork counted.old counted.new }
+    ensures bounded_work { SizeWork (definition_count counted.old)
+        (counts_of counted.old) (counts_of counted.new) }
 {
     walk_sizes(alloc, root, counted)
+}
+
+// The mark of the name; a name without one is `Open` from now on.
+fn open<'a>(
+    table: &mut BTreeMap<(u64, &'a str), Mark>,
+    name: &'a str,
+) -> Result<Option<Mark>, AllocError>
+    ensures { IfOk result (MarksNew name.now Open table.old table.new) }
+{
+    let key = key_of(name);
+    match table.get(&key) {
+        Some(mark) => Ok(Some(*mark)),
+        None => {
+            table.insert(key, Mark::Open)?;
+            Ok(None)
+        }
+    }
 }
 
 // The walk for the size of the root. A name on the stack is `Open`, and one with a size is `Finished`.
@@ -98,23 +118,24 @@ fn walk_sizes<'a, 'm: 'a>(
     ensures same { LooksOn counted.old counted.new }
     ensures answer { IsSizeAnswer (definitions_of counted.old) root.now result }
     ensures fits { IfOk result (λ n. n < 2 ^ 64) }
-    ensures counts { IsCounted (definitions_of counted.old) root.now counted.old counted.new result }
+    ensures counts { CountsNeeded (definitions_of counted.old) root.now
+        (counts_of counted.old) (counts_of counted.new) result }
 {
     let Some(definition) = counted.look(Question::Size, root) else {
         return Err(missing(alloc, root));
     };
-    let mut table: BTreeMap<&'a str, Mark> = BTreeMap::new(alloc);
+    let mut table: BTreeMap<(u64, &'a str), Mark> = BTreeMap::new(alloc);
     let mut stack: Vec<Frame<'a>> = Vec::new(alloc);
-    table.insert(root, Mark::Open)?;
+    table.insert(key_of(root), Mark::Open)?;
     let mut frame = Frame {
         spot: Spot::at(root, definition),
         gathered: 0,
     };
     loop {
         match needed_part(frame.spot.definition, frame.spot.next) {
-            Some(part) => match table.get(part) {
+            Some(part) => match open(&mut table, part)? {
                 Some(Mark::Finished(size)) => {
-                    let Some(gathered) = gather(frame.spot.definition, frame.gathered, *size) else {
+                    let Some(gathered) = gather(frame.spot.definition, frame.gathered, size) else {
                         return Err(SchemaMaxSerializedSizeError::Overflow);
                     };
                     frame.gathered = gathered;
@@ -125,7 +146,6 @@ fn walk_sizes<'a, 'm: 'a>(
                     let Some(definition) = counted.look(Question::Size, part) else {
                         return Err(missing(alloc, part));
                     };
-                    table.insert(part, Mark::Open)?;
                     stack.push(frame)?;
                     frame = Frame {
                         spot: Spot::at(part, definition),
@@ -137,9 +157,17 @@ fn walk_sizes<'a, 'm: 'a>(
                 let Some(size) = finish(frame.spot.definition, frame.gathered) else {
                     return Err(SchemaMaxSerializedSizeError::Overflow);
                 };
-                table.insert(frame.spot.name, Mark::Finished(size))?;
+                table.insert(key_of(frame.spot.name), Mark::Finished(size))?;
                 match stack.pop() {
-                    Some(above) => frame = above,
+                    Some(above) => {
+                        frame = above;
+                        let Some(gathered) = gather(frame.spot.definition, frame.gathered, size)
+                        else {
+                            return Err(SchemaMaxSerializedSizeError::Overflow);
+                        };
+                        frame.gathered = gathered;
+                        frame.spot.next += 1;
+                    }
                     None => return Ok(size),
                 }
             }

@@ -66,6 +66,14 @@ impl<A: BorshSerialize, B: BorshSerialize> BorshSerialize for Either<A, B> {
             Either::Right { of, with } => write_three(&Tag(2), of, with, alloc, writer),
         }
     }
+
+    fn put(&self, room: &mut [u8]) -> Option<usize> {
+        match self {
+            Either::Neither => put_bytes(&[0], room),
+            Either::Left(part0) => put_two(&Tag(1), part0, room),
+            Either::Right { of, with } => put_three(&Tag(2), of, with, room),
+        }
+    }
 }
 
 impl<A: BorshDeserialize, B: BorshDeserialize> BorshDeserialize for Either<A, B> {

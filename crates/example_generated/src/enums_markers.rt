@@ -54,6 +54,12 @@ impl<T, U> BorshSerialize for Markers<T, U> {
             Markers::Both(part0, part1) => write_three(&Tag(0), part0, part1, alloc, writer),
         }
     }
+
+    fn put(&self, room: &mut [u8]) -> Option<usize> {
+        match self {
+            Markers::Both(part0, part1) => put_three(&Tag(0), part0, part1, room),
+        }
+    }
 }
 
 impl<T, U> BorshDeserialize for Markers<T, U> {

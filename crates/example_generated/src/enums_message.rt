@@ -83,6 +83,10 @@ impl BorshType for Message {
 
 impl BorshSerialize for Message {
     fn serialize<W: Write>(&self, alloc: Global, writer: &mut W) -> Result<()> {
+        let mut room = [0u8; 256];
+        if let Some(n) = self.put(&mut room) {
+            return write_bytes(&room[..n], writer);
+        }
         match self {
             Message::Ping => write_bytes(&[0], writer),
             Message::Text(part0) => write_two(&Tag(1), part0, alloc, writer),
@@ -92,6 +96,19 @@ impl BorshSerialize for Message {
             Message::Run { id, .. } => write_two(&Tag(5), id, alloc, writer),
             Message::Wait(part0, _) => write_two(&Tag(6), part0, alloc, writer),
             Message::Stop { .. } => write_bytes(&[7], writer),
+        }
+    }
+
+    fn put(&self, room: &mut [u8]) -> Option<usize> {
+        match self {
+            Message::Ping => put_bytes(&[0], room),
+            Message::Text(part0) => put_two(&Tag(1), part0, room),
+            Message::Move { x, y } => put_three(&Tag(2), x, y, room),
+            Message::Open(part0, part1) => put_three(&Tag(3), part0, part1, room),
+            Message::Tagged(part0) => put_two(&Tag(4), part0, room),
+            Message::Run { id, .. } => put_two(&Tag(5), id, room),
+            Message::Wait(part0, _) => put_two(&Tag(6), part0, room),
+            Message::Stop { .. } => put_bytes(&[7], room),
         }
     }
 }

@@ -73,6 +73,17 @@ impl BorshSerialize for XY {
             XY::F(part0) => write_two(&Tag(11), part0, alloc, writer),
         }
     }
+
+    fn put(&self, room: &mut [u8]) -> Option<usize> {
+        match self {
+            XY::A => put_bytes(&[0], room),
+            XY::B => put_bytes(&[20], room),
+            XY::C => put_bytes(&[21], room),
+            XY::D(part0, part1) => put_three(&Tag(22), part0, part1, room),
+            XY::E => put_bytes(&[10], room),
+            XY::F(part0) => put_two(&Tag(11), part0, room),
+        }
+    }
 }
 
 impl BorshDeserialize for XY {

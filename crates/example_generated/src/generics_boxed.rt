@@ -45,9 +45,20 @@ impl<W: BorshType, G: BorshType> BorshType for Boxed<W, G> {
 
 impl<W: BorshSerialize, G: BorshSerialize> BorshSerialize for Boxed<W, G> {
     fn serialize<WType: Write>(&self, alloc: Global, writer: &mut WType) -> Result<()> {
+        let mut room = [0u8; 256];
+        if let Some(n) = self.put(&mut room) {
+            return write_bytes(&room[..n], writer);
+        }
         match self {
             Boxed::X { f } => write_two(&Tag(0), f, alloc, writer),
             Boxed::Y(part0) => write_two(&Tag(1), part0, alloc, writer),
+        }
+    }
+
+    fn put(&self, room: &mut [u8]) -> Option<usize> {
+        match self {
+            Boxed::X { f } => put_two(&Tag(0), f, room),
+            Boxed::Y(part0) => put_two(&Tag(1), part0, room),
         }
     }
 }

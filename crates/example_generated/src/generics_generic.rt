@@ -3,8 +3,8 @@ ghost use Rattle.borsh.specs.Derived.{contramap, contramap-lawful, from, key_fac
 
 use super::generics::Generic;
 use borsh::derived::{
-    BorshDeserialize, BorshSerialize, BorshType, FromParts, Global, Read, Tuple6, Write,
-    read_parts, write_six,
+    BorshDeserialize, BorshSerialize, BorshType, FromParts, Global, Read, Tuple6, Write, put_six,
+    read_parts, write_bytes, write_six,
 };
 use borsh_samples::B;
 use std::marker::PhantomData;
@@ -32,9 +32,22 @@ impl<T: BorshType, F: BorshType, G: BorshType> BorshType for Generic<T, F, G> {
 
 impl<T: BorshSerialize, F: BorshSerialize, G: BorshSerialize> BorshSerialize for Generic<T, F, G> {
     fn serialize<W: Write>(&self, alloc: Global, writer: &mut W) -> borsh::derived::Result<()> {
+        let mut room = [0u8; 256];
+        if let Some(n) = self.put(&mut room) {
+            return write_bytes(&room[..n], writer);
+        }
         write_six(
             &self.x, &self.y, &self.b, &self.pd, &self.c, &self.d, alloc, writer,
         )
+    }
+
+    fn put(&self, room: &mut [u8]) -> Option<usize> {
+        put_six(&self.x, &self.y, &self.b, &self.pd, &self.c, &self.d, room)
+    }
+
+    fn encoded_length(&self) -> Option<u32> {
+        let fields = (&self.x, &self.y, &self.b, &self.pd, &self.c, &self.d);
+        fields.encoded_length()
     }
 }
 

@@ -32,6 +32,11 @@ impl<const N: usize> BorshSerialize for Grid<N> {
     fn put(&self, room: &mut [u8]) -> Option<usize> {
         put_two(&self.cells, &self.turned, room)
     }
+
+    fn encoded_length(&self) -> Option<u32> {
+        let fields = (&self.cells, &self.turned);
+        fields.encoded_length()
+    }
 }
 
 impl<const N: usize> FromParts for Grid<N> {

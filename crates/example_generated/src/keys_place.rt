@@ -28,7 +28,20 @@ impl BorshType for Place {
 
 impl BorshSerialize for Place {
     fn serialize<W: Write>(&self, alloc: Global, writer: &mut W) -> Result<()> {
+        let mut room = [0u8; 256];
+        if let Some(n) = self.put(&mut room) {
+            return write_bytes(&room[..n], writer);
+        }
         write_two(&self.zone, &self.street, alloc, writer)
+    }
+
+    fn put(&self, room: &mut [u8]) -> Option<usize> {
+        put_two(&self.zone, &self.street, room)
+    }
+
+    fn encoded_length(&self) -> Option<u32> {
+        let fields = (&self.zone, &self.street);
+        fields.encoded_length()
     }
 }
 

@@ -32,6 +32,10 @@ impl<'a> BorshType for Offer<'a> {
 
 impl<'a> BorshSerialize for Offer<'a> {
     fn serialize<W: Write>(&self, alloc: Global, writer: &mut W) -> Result<()> {
+        let mut room = [0u8; 256];
+        if let Some(n) = self.put(&mut room) {
+            return write_bytes(&room[..n], writer);
+        }
         write_four(
             &self.price,
             &self.name,
@@ -40,6 +44,10 @@ impl<'a> BorshSerialize for Offer<'a> {
             alloc,
             writer,
         )
+    }
+
+    fn put(&self, room: &mut [u8]) -> Option<usize> {
+        put_four(&self.price, &self.name, &self.text, &self.marks, room)
     }
 }
 

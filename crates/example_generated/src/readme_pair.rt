@@ -35,6 +35,11 @@ impl<A: BorshSerialize, B: BorshSerialize> BorshSerialize for Pair<A, B> {
     fn put(&self, room: &mut [u8]) -> Option<usize> {
         put_two(&self.first, &self.second, room)
     }
+
+    fn encoded_length(&self) -> Option<u32> {
+        let fields = (&self.first, &self.second);
+        fields.encoded_length()
+    }
 }
 
 impl<A: BorshDeserialize, B: BorshDeserialize> FromParts for Pair<A, B> {

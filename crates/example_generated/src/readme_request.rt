@@ -59,6 +59,10 @@ impl BorshType for Request {
 
 impl BorshSerialize for Request {
     fn serialize<W: Write>(&self, alloc: Global, writer: &mut W) -> Result<()> {
+        let mut room = [0u8; 256];
+        if let Some(n) = self.put(&mut room) {
+            return write_bytes(&room[..n], writer);
+        }
         match self {
             Request::List => write_bytes(&[0], writer),
             Request::Buy {
@@ -67,6 +71,18 @@ impl BorshSerialize for Request {
                 price,
             } => write_four(&Tag(1), name, pieces, price, alloc, writer),
             Request::Cancel { number } => write_two(&Tag(2), number, alloc, writer),
+        }
+    }
+
+    fn put(&self, room: &mut [u8]) -> Option<usize> {
+        match self {
+            Request::List => put_bytes(&[0], room),
+            Request::Buy {
+                name,
+                pieces,
+                price,
+            } => put_four(&Tag(1), name, pieces, price, room),
+            Request::Cancel { number } => put_two(&Tag(2), number, room),
         }
     }
 }

@@ -28,6 +28,10 @@ impl BorshType for Block {
 
 impl BorshSerialize for Block {
     fn serialize<W: Write>(&self, alloc: Global, writer: &mut W) -> Result<()> {
+        let mut room = [0u8; 256];
+        if let Some(n) = self.put(&mut room) {
+            return write_bytes(&room[..n], writer);
+        }
         write_four(
             &self.hash,
             &self.rows,
@@ -36,6 +40,15 @@ impl BorshSerialize for Block {
             alloc,
             writer,
         )
+    }
+
+    fn put(&self, room: &mut [u8]) -> Option<usize> {
+        put_four(&self.hash, &self.rows, &self.signers, &self.origin, room)
+    }
+
+    fn encoded_length(&self) -> Option<u32> {
+        let fields = (&self.hash, &self.rows, &self.signers, &self.origin);
+        fields.encoded_length()
     }
 }
 

@@ -34,6 +34,10 @@ impl BorshSerialize for Code {
     fn put(&self, room: &mut [u8]) -> Option<usize> {
         self.0.put(room)
     }
+
+    fn encoded_length(&self) -> Option<u32> {
+        self.0.encoded_length()
+    }
 }
 
 impl FromParts for Code {

@@ -34,6 +34,11 @@ impl BorshSerialize for Session {
     fn put(&self, room: &mut [u8]) -> Option<usize> {
         put_two(&self.user, &self.token, room)
     }
+
+    fn encoded_length(&self) -> Option<u32> {
+        let fields = (&self.user, &self.token);
+        fields.encoded_length()
+    }
 }
 
 impl FromParts for Session {

@@ -30,6 +30,14 @@ impl<'a> BorshType for Note<'a> {
 
 impl<'a> BorshSerialize for Note<'a> {
     fn serialize<W: Write>(&self, alloc: Global, writer: &mut W) -> Result<()> {
+        let mut room = [0u8; 256];
+        if let Some(n) = self.put(&mut room) {
+            return write_bytes(&room[..n], writer);
+        }
         write_two(&self.text, &self.place, alloc, writer)
+    }
+
+    fn put(&self, room: &mut [u8]) -> Option<usize> {
+        put_two(&self.text, &self.place, room)
     }
 }

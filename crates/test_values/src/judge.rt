@@ -29,7 +29,7 @@ impl<'a> Root<'a> {
         if json.starts_with("! ") {
             return self.judge_refused(bytes, json);
         }
-        self.judge_written(bytes, "taken", json)?;
+        self.judge_written(bytes, json)?;
         self.judge_lengths(bytes)?;
         self.judge_read(json, bytes)?;
         let lines = self.json(bytes, Style::PRETTY)?;
@@ -44,7 +44,7 @@ impl<'a> Root<'a> {
         let front = self.front(bytes)?;
         let is_front = wanted.ends_with("too few bytes are left") == (front.as_str() == "short");
         check(alloc, is_front, "front", front.as_str())?;
-        self.expect_answers(bytes, wanted, wanted)?;
+        self.expect_answers(bytes, wanted)?;
         let plan = Plan::new(alloc, self.name, self.map)?;
         match Rows::new(alloc, &plan, bytes) {
             Ok(_) => check(alloc, false, "rows", "rows"),
@@ -52,20 +52,22 @@ impl<'a> Root<'a> {
         }
     }
 
-    /// That the bytes are a value, which the type takes or refuses so, and which has this JSON, or after `! ` why none.
-    pub fn judge_written(&self, bytes: &[u8], strict: &str, json: &str) -> Result<(), Wrong> {
+    /// That the bytes are a value, which has this JSON, or after `! ` why none.
+    pub fn judge_written(&self, bytes: &[u8], json: &str) -> Result<(), Wrong> {
         self.judge_member(bytes)?;
-        self.expect_answers(bytes, strict, json)
+        self.expect_answers(bytes, json)
     }
 
-    fn expect_answers(&self, bytes: &[u8], strict: &str, json: &str) -> Result<(), Wrong> {
+    /// That the bytes have this JSON, and pass without their type; or neither, and each call says why.
+    fn expect_answers(&self, bytes: &[u8], json: &str) -> Result<(), Wrong> {
         let alloc = self.alloc;
-        expect(alloc, "check_strict", self.strict(bytes)?.as_str(), strict)?;
         let written = self.json(bytes, Style::COMPACT)?;
         expect(alloc, "to_json", written.as_str(), json)?;
+        let strict = self.strict(bytes)?;
         if json.starts_with("! ") {
-            return Ok(());
+            return expect(alloc, "check_strict", strict.as_str(), json);
         }
+        expect(alloc, "check_strict", strict.as_str(), "taken")?;
         self.expect_given_back(bytes)
     }
 
@@ -103,7 +105,7 @@ impl<'a> Root<'a> {
         self.judge_read(json, bytes)
     }
 
-    /// That the bytes have a JSON, which is read as them, exactly if the type takes them as far as names tell.
+    /// That the bytes have a JSON, which is read as them, exactly if they pass without their type.
     pub fn judge_json(&self, bytes: &[u8]) -> Result<(), Wrong> {
         let written = self.json(bytes, Style::COMPACT)?;
         let strict = self.strict(bytes)?;
@@ -114,7 +116,7 @@ impl<'a> Root<'a> {
         }
     }
 
-    /// `taken`, or why the type doesn't take the bytes.
+    /// `taken`, or why the bytes don't pass without their type.
     pub fn strict(&self, bytes: &[u8]) -> Result<String, Wrong> {
         match check_strict(self.alloc, self.name, self.map, bytes) {
             Ok(()) => text(self.alloc, "taken"),

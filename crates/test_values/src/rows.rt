@@ -11,8 +11,7 @@ use std::alloc::Global;
 /// Adds the definition of a row, or checks what it says. The columns are, beside those of [`define`]:
 ///
 /// - `value` ROOT HEX JSON..: a value and its JSON, both ways; or after `! ` why the bytes are none, by each call
-/// - `nojson` ROOT HEX REFUSAL..: a value without JSON
-/// - `refused` ROOT HEX REFUSAL..: a value by the definitions, which the type refuses
+/// - `refused` ROOT HEX REFUSAL..: a value by the definitions without JSON, as one that the type refuses
 /// - `quoted` ROOT HEX JSON..: a value and its JSON with numbers of 64 bits as texts
 /// - `member` ROOT HEX: a value, whose JSON isn't looked at
 /// - `records` ROOT HEX ANSWER..: where values one after another begin, with `+` behind each, and `end` or why they don't end
@@ -71,8 +70,7 @@ fn judge_root(root: &Root<'_>, kind: &str, columns: &[&str]) -> Result<(), Wrong
     let bytes = bytes.as_slice();
     match kind {
         "value" => root.judge(bytes, text),
-        "nojson" => root.judge_written(bytes, "taken", text),
-        "refused" => root.judge_written(bytes, text, text),
+        "refused" => root.judge_written(bytes, text),
         "quoted" => root.judge_quoted(bytes, text),
         "member" => root.judge_member(bytes),
         "records" => root.judge_records(bytes, text),

@@ -1,7 +1,7 @@
 use Rattle.std.proofs.Common.{Option, [], ℕ, refl, string_bytes, subst, sym}
 use Rattle.borsh_c.specs.Answers.{About, IsUnclear}
 use Rattle.borsh_c.specs.Answers.Answers.{yes}
-use Rattle.borsh_c.specs.Many.{IsCut, IsNoRecord}
+use Rattle.borsh_c.specs.Many.{IsCutShort, IsNoRecord}
 use Rattle.borsh_c.specs.Many.AnswersRecords.{whole, cut}
 use Rattle.borsh_c.proofs.Told.{refused_answers}
 use Rattle.borsh_c.proofs.borsh_c_records.Goals as goal
@@ -14,7 +14,7 @@ returns-in-Ok-Values-clause-answer c =
 pub returns-in-Ok-Short-clause-answer : goal.returns-in-Ok-Short-clause-answer
 returns-in-Ok-Short-clause-answer c =
     let is_cut = rw c.in-Ok-Short.field-0-is at c.in-Ok-Short.ensures.ok in
-    (string_bytes c.in-Ok-Short.said.text, cut (subst (λ (o : Option ℕ). About c.args.schema.now (IsCut c.args.bytes.now o (string_bytes c.in-Ok-Short.said.text))) (sym c.tell.ensures.offset) is_cut) refl, c.tell.ensures.given)
+    (string_bytes c.in-Ok-Short.said.text, cut (subst (λ (o : Option ℕ). About c.args.schema.now (IsCutShort c.args.bytes.now o (string_bytes c.in-Ok-Short.said.text))) (sym c.tell.ensures.offset) is_cut) refl, c.tell.ensures.given)
 
 pub returns-in-Err-clause-answer : goal.returns-in-Err-clause-answer
 returns-in-Err-clause-answer c =

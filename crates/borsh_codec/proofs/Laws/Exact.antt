@@ -131,32 +131,24 @@ filtered-lawful texts test {c = c} respects l = record {
   refused = λ a e. passed_none (test a) (l.refused a e);
 }
 
--- ---- values in memory of their own
+-- ---- values in memory of their own, and what isn't encoded
+
+-- the laws say nothing of memory, nor of what isn't encoded
+made-lawful : {A : Type 0} (P : A → Type 0) (memory : Bool) {c : Codec A} → Lawful A c → Lawful A (record c { made = P; decoding_allocates = memory })
+made-lawful P memory l = record {
+  equivalent_encoding = l.equivalent_encoding;
+  prefix_free = l.prefix_free;
+  empty = l.empty;
+  non_empty = l.non_empty;
+  round_trip = l.round_trip;
+  unambiguous = l.unambiguous;
+  re_encodable = l.re_encodable;
+  canonical = l.canonical;
+  refused = l.refused;
+}
 
 pub allocated-lawful : {A : Type 0} {c : Codec A} → Lawful A c → Lawful A (allocated c)
-allocated-lawful l = record {
-  equivalent_encoding = l.equivalent_encoding;
-  prefix_free = l.prefix_free;
-  empty = l.empty;
-  non_empty = l.non_empty;
-  round_trip = l.round_trip;
-  unambiguous = l.unambiguous;
-  re_encodable = l.re_encodable;
-  canonical = l.canonical;
-  refused = l.refused;
-}
-
--- ---- what isn't encoded
+allocated-lawful {c = c} l = made-lawful c.made true l
 
 pub decoded_with-lawful : {A : Type 0} (P : A → Type 0) {c : Codec A} → Lawful A c → Lawful A (decoded_with P c)
-decoded_with-lawful P l = record {
-  equivalent_encoding = l.equivalent_encoding;
-  prefix_free = l.prefix_free;
-  empty = l.empty;
-  non_empty = l.non_empty;
-  round_trip = l.round_trip;
-  unambiguous = l.unambiguous;
-  re_encodable = l.re_encodable;
-  canonical = l.canonical;
-  refused = l.refused;
-}
+decoded_with-lawful P {c = c} l = made-lawful (λ a. P a × c.made a) c.decoding_allocates l

@@ -6,7 +6,6 @@ use Rattle.borsh_codec.specs.Shapes.{little_endian, unsigned_encoding, unsigned,
 use Rattle.borsh_codec.proofs.Laws.Exact.{by_encoding-lawful}
 
 pub length-little : (n x : ℕ) → length (little_endian n x) ≡ n
-unfolding little_endian
 length-little zero x = refl
 length-little (suc n) x = ap suc (length-little n (x / 256))
 
@@ -14,7 +13,6 @@ below : (n x : ℕ) → x < 256 ^ suc n → x / 256 < 256 ^ n
 below n x h = let e : 256 ^ suc n ≡ 256 ^ n * 256 = pow-suc 256 n in omega (arith, e)
 
 pub little_apart : (n x y : ℕ) → x < 256 ^ n → y < 256 ^ n → little_endian n x ≡ little_endian n y → x ≡ y
-unfolding little_endian
 little_apart zero x y p q e = omega arith
 little_apart (suc n) x y p q e =
     let heads : x % 256 ≡ y % 256 = cc in

@@ -3,7 +3,7 @@ use Rattle.std.proofs.Common.{◌≡◌, ℕ, zero, suc, ℤ, pos, negsuc, ◌-�
 use Rattle.std.specs.Prelude.{All, ⊤}
 use Rattle.std.proofs.lemmas.Option.{cond_some}
 use Rattle.borsh_codec.specs.Codec.{Codec}
-use Rattle.borsh_codec.specs.Shapes.{contramap, little_endian, unsigned_encoding, unsigned, sign_bound, signed_encoding, signed, unit, never, pair, variant, concat_encodings, array, length_prefixed, list, refused_if, filtered, allocated, decoded_with}
+use Rattle.borsh_codec.specs.Shapes.{contramap, little_endian, unsigned_encoding, unsigned, sign_bound, signed_encoding, signed, unit, never, pair, behind_tag, either, variant, concat_encodings, array, length_prefixed, list, refused_if, filtered, allocated, decoded_with}
 use Rattle.borsh_codec.specs.Maps.{sorted_by_key, ascends, btree_entries, hash_entries}
 use Rattle.std.specs.declared.cmp.Ordering.{Ordering}
 use Rattle.std.specs.Map.{keys_of}
@@ -16,8 +16,8 @@ use Rattle.borsh_codec.proofs.Laws.Exact.{allowed_some, passed_some}
 use Rattle.borsh_codec.proofs.Laws.Lists.{some_same, joined_some}
 use Rattle.borsh_codec.proofs.Laws.Numbers.{number_some, length-little}
 use Rattle.borsh_codec.proofs.Laws.Variants.{behind_some}
-use Rattle.borsh_walks.specs.Container.{Shape, primitive, sequence, product, choice, Member, of_primitive, of_sequence, of_parts, of_choice, Members, no_members, more_members, IsListedVariant, low_bytes, tag}
-use Rattle.borsh_definitions.specs.Language.{Describes, DescribesAll, IsVariant, DescribesChoice}
+use Rattle.borsh_walks.specs.Container.{Shape, primitive, sequence, product, choice, Member, of_primitive, of_sequence, of_parts, of_choice, Members, no_members, more_members, IsListedVariant, tag}
+use Rattle.borsh_definitions.specs.Language.{Describes, DescribesAll, IsOfVariant, DescribesChoice}
 
 -- ---- bytes
 
@@ -32,15 +32,8 @@ more_bytes b x h t zero d l = h
 more_bytes b x h t (suc k) d l = t k d (omega arith)
 
 little_bytes : (n x : ℕ) → AreBytes (little_endian n x)
-unfolding little_endian
 little_bytes zero x = no_bytes
 little_bytes (suc n) x = more_bytes (x % 256) (little_endian n (x / 256)) (omega arith) (little_bytes n (x / 256))
-
--- the count is written as the tag of that width
-low_little : (n x : ℕ) → low_bytes n x ≡ little_endian n x
-unfolding little_endian
-low_little zero x = refl
-low_little (suc n) x = ap (λ y. x % 256 ∷ y) (low_little n (x / 256))
 
 -- the bytes of some number
 record IsLittle (n : ℕ) (x : List ℕ) : Type 0 where
@@ -140,17 +133,26 @@ module _ {C : List ℕ → Option Shape} where
   pub choice_none : {w : ℕ} {vs : List (ℤ × List ℕ)} → DescribesChoice ⊥ C never w vs
   choice_none = record { one = λ a x e. absurd a }
 
-  choice_one : {A B : Type 0} {m : List ℕ} {k : ℕ} {vs : List (ℤ × List ℕ)} {a : Codec A} {b : Codec B} → IsListedVariant (pos k) m vs → nat_lt k 256 ≡ true → Describes A C a m → DescribesChoice B C b 1 vs
-      → (v : A ⊎ B) (x : List ℕ) → (variant k a b).encoding v ≡ Some x → IsVariant C 1 vs x
-  choice_one {m = m} {k = k} {a = a} l t d e (inl v) x f =
-      let p = behind_some k (a.encoding v) x f in
-      record { discriminant = pos k; variant = m; part = p.part; listed = l; whole = ap (λ y. y ++ p.part) (tag_byte k t) ∙ sym p.whole; member = d.member v p.part p.is }
-  choice_one l t d e (inr v) x f = e.one v x f
+  -- a value behind a tag of one byte
+  pub choice_tag : {A : Type 0} {m : List ℕ} {k : ℕ} {vs : List (ℤ × List ℕ)} {a : Codec A} → IsListedVariant (pos k) m vs → nat_lt k 256 ≡ true → Describes A C a m → DescribesChoice A C (behind_tag k a) 1 vs
+  choice_tag {m = m} {k = k} {a = a} l t d = record {
+    one = λ v x f. (let p = behind_some k (a.encoding v) x f in
+        record { discriminant = pos k; variant = m; part = p.part; listed = l; whole = ap (λ y. y ++ p.part) (tag_byte k t) ∙ sym p.whole; member = d.member v p.part p.is });
+  }
+
+  module _ {A B : Type 0} {a : Codec A} {b : Codec B} {vs : List (ℤ × List ℕ)} (d : DescribesChoice A C a 1 vs) (e : DescribesChoice B C b 1 vs) where
+    either_one : (v : A ⊎ B) (x : List ℕ) → (either a b).encoding v ≡ Some x → IsOfVariant C 1 vs x
+    either_one (inl v) x h = d.one v x h
+    either_one (inr v) x h = e.one v x h
+
+    -- a value of one of two
+    pub choice_either : DescribesChoice (A ⊎ B) C (either a b) 1 vs
+    choice_either = record { one = either_one }
 
   -- the first variant, whose tag is one byte, and the others
   pub choice_more : {A B : Type 0} {m : List ℕ} {k : ℕ} {vs : List (ℤ × List ℕ)} {a : Codec A} {b : Codec B} → IsListedVariant (pos k) m vs → nat_lt k 256 ≡ true → Describes A C a m → DescribesChoice B C b 1 vs
       → DescribesChoice (A ⊎ B) C (variant k a b) 1 vs
-  choice_more l t d e = record { one = choice_one l t d e }
+  choice_more l t d e = choice_either (choice_tag l t d) e
 
   pub describes_choice : {A : Type 0} {m : List ℕ} {w : ℕ} {vs : List (ℤ × List ℕ)} {c : Codec A} → C m ≡ Some (choice w vs) → DescribesChoice A C c w vs → Describes A C c m
   describes_choice {m = m} h d = record {
@@ -170,7 +172,7 @@ module _ {C : List ℕ → Option Shape} where
   describes_counted {n = n} {c = c} h d = record {
     member = λ xs x e. (let p = joined_some (unsigned_encoding 4 (length xs)) (concat_encodings c.encoding xs) x e in
         let k = number_some 4 (length xs) p.first p.left in
-        let t : low_bytes 4 (length xs) ≡ p.first = low_little 4 (length xs) ∙ k.1 in
+        let t : tag 4 (pos (length xs)) ≡ p.first = k.1 in
         let f = k.0 in
         subst (Member C n) (ap (λ y. y ++ p.second) t ∙ sym p.whole) (of_sequence (length xs) h (omega arith) (omega arith) (joined_members d xs p.second p.right)));
   }

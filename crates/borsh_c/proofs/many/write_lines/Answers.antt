@@ -16,10 +16,10 @@ loop-count-preserved c =
     let items = c.in_ok-push-in-Ok.ensures.items ∙ ap (λ (bytes : List ℕ). bytes ++ (10 ∷ [])) (c.in_ok-extend_from_slice-in-Ok.ensures.items ∙ line) in
     let json = c.in-Ok.ensures in
     let printed = subst (λ (layout : Layout). IsPrinted layout (string_bytes c.in-Ok.line)) c.requires.0 (json.printed c.requires.1) in
-    let says = subst (λ (bytes : List ℕ). IsLineOf m root bytes (string_bytes c.in-Ok.line)) c.first.ensures ((json.says, printed), json.line c.requires.0) in
+    let says = subst (λ (bytes : List ℕ). IsLineOf c.args.style.long_numbers m root bytes (string_bytes c.in-Ok.line)) c.first.ensures ((json.says, printed, json.short), json.line c.requires.0) in
     record {
       within = omega arith;
-      lines = subst (HaveLines m root (take (c.loop-count.count + 1) lengths) c.args.values.now) (sym items)
-          (lined m root lengths c.args.values.now c.loop-count.left.now text c.loop-count.count (string_bytes c.in-Ok.line) (omega arith) c.loop-count.invariant.lines c.loop-count.invariant.rest says);
+      lines = subst (HaveLines c.args.style.long_numbers m root (take (c.loop-count.count + 1) lengths) c.args.values.now) (sym items)
+          (lined c.args.style.long_numbers m root lengths c.args.values.now c.loop-count.left.now text c.loop-count.count (string_bytes c.in-Ok.line) (omega arith) c.loop-count.invariant.lines c.loop-count.invariant.rest says);
       rest = c.others-left.ensures ∙ passed c.args.lengths.now c.args.values.now c.loop-count.left.now c.loop-count.count (omega arith) c.loop-count.invariant.rest;
     }

@@ -6,7 +6,7 @@ use Rattle.borsh_c.proofs.many.write_lines.Given as goal
 abbrev pub invariant-loop-count : goal.invariant-loop-count
 invariant-loop-count l = record {
   within : l.count ≤ length l.lengths;
-  lines : HaveLines (map_of l.json.plan.now) (root_of l.json.plan.now) (take l.count l.lengths) l.values l.text.items;
+  lines : HaveLines l.fn.style.long_numbers (map_of l.json.plan.now) (root_of l.json.plan.now) (take l.count l.lengths) l.values l.text.items;
   rest : l.left ≡ behind (take l.count l.lengths) l.values;
 }
 

@@ -1,7 +1,8 @@
 use Rattle.std.proofs.Common.{subst}
 use Rattle.std.proofs.lemmas.Result.{IfErr-weaker, IfOk-weaker}
 use Rattle.borsh_plan.specs.Plan.{IsPlanOf}
-use Rattle.borsh_c.specs.Pairs.{AreAny, IsLost, IsOneMalformed, IsStillRead, NoText}
+use Rattle.borsh_compare.specs.Walks.{IsStillRead}
+use Rattle.borsh_c.specs.Pairs.{AreAny, IsLost, IsOneMalformed, NoText}
 use Rattle.borsh_c.proofs.Two.{refuses_more, two_told}
 use Rattle.borsh_c.proofs.pairs.comparison_of.Goals as goal
 

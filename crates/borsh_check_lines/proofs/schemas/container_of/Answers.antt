@@ -1,6 +1,6 @@
 use Rattle.std.proofs.Common.{refl, codes, sym, subst, inl, inr}
 use Rattle.std.proofs.lemmas.Result.{IfOk-weaker}
-use Rattle.borsh_check_lines.specs.OneLine.{IsLine}
+use Rattle.borsh_io.specs.Lines.{IsLine}
 use Rattle.borsh_check_lines.proofs.OneLineSteps.{line_of_text, line_of_digits}
 use Rattle.borsh_check_lines.proofs.schemas.container_of.Goals as goal
 

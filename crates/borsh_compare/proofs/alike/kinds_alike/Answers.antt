@@ -12,12 +12,12 @@ use Rattle.borsh_compare.proofs.alike.kinds_alike.Goals as goal
 pub returns-in-Repeated-default : goal.returns-in-Repeated-default
 returns-in-Repeated-default c = λ h.
     at_kinds c.args.both.old.now c.args.both.new.now c.args.pairs.now.list.items c.args.at.old c.args.at.new c.args.old.0.now c.args.new.0.now (Repeated c.in-Repeated-default.field-0-0) c.args.new.1 c.in-Repeated-default.is-0 refl
-    (λ x y ix iy fx gy p q. unsaid itself p)
+    (λ x y ix iy fx gy p q. unsaid itself p.0)
 
 pub returns-in-List-default : goal.returns-in-List-default
 returns-in-List-default c = λ h.
     at_kinds c.args.both.old.now c.args.both.new.now c.args.pairs.now.list.items c.args.at.old c.args.at.new c.args.old.0.now c.args.new.0.now (Elements c.in-List-default.elements) c.args.new.1 c.in-List-default.is-0 refl
-    (λ x y ix iy fx gy p q. unsaid itself (subst (λ r. IsListOf (forms_of c.args.both.old.now) (names_of c.args.both.old.now) x (form_of c.args.old.0.now) c.in-List-default.elements.at r) c.if-elements.true p.0))
+    (λ x y ix iy fx gy p q. unsaid itself (subst (λ r. IsListOf (forms_of c.args.both.old.now) (names_of c.args.both.old.now) x (form_of c.args.old.0.now) c.in-List-default.elements.at r) c.if-elements.true p.0).0)
 
 pub returns-then-lengths_lie : goal.returns-then-lengths_lie
 returns-then-lengths_lie c = λ h.

@@ -2,16 +2,16 @@ use Rattle.std.proofs.Common.{◌≡◌, ◌∙◌, ◌∷◌, ◌++◌, [], ℕ
 use Rattle.borsh_plan.specs.declared.plan.Plan.{Plan}
 use Rattle.borsh_plan.specs.Names.{name_at}
 use Rattle.borsh_plan.specs.Plan.{definitions_of, names_of}
-use Rattle.borsh_compare.specs.Together.{GoesOn, begins}
+use Rattle.borsh_compare.specs.Together.{GoUntil, begins}
 use Rattle.std.specs.Prelude.{Option, IfSome}
-use Rattle.borsh_compare.specs.Walks.{Finds, Paired, pending}
+use Rattle.borsh_compare.specs.Walks.{Finds, Paired, names_from}
 use Rattle.borsh_compare.specs.declared.through.Next.{Next}
 use Rattle.borsh_compare.proofs.Keeping.{keeps_same, keeps_on, paired_kept, goes_on_more}
 use Rattle.borsh_compare.proofs.Reading.{pending_more, goes_next}
 use Rattle.borsh_compare.proofs.through.go_through.Goals as goal
 
-one : (p : Plan) (none items : List ℕ) (at : ℕ) → none ≡ [] → items ≡ none ++ at ∷ [] → pending p items ≡ name_at (names_of p) at ∷ []
-one p none items at e h = pending_more p items none at h ∙ ap (λ l. name_at (names_of p) at ∷ pending p l) e
+one : (p : Plan) (none items : List ℕ) (at : ℕ) → none ≡ [] → items ≡ none ++ at ∷ [] → names_from p items ≡ name_at (names_of p) at ∷ []
+one p none items at e h = pending_more p items none at h ∙ ap (λ l. name_at (names_of p) at ∷ names_from p l) e
 
 pub loop-init : goal.loop-init
 loop-init c =
@@ -27,10 +27,10 @@ loop-init c =
     let ys = name_at (names_of new) j ∷ [] in
     let a = one old c.new-old_names.result.items c.push.new.self.items i c.new-old_names.ensures.items c.in_ok-push.ensures.items in
     let b = one new c.new-new_names.result.items c.push-2.new.self.items j c.new-new_names.ensures.items c.in_ok-push-2.ensures.items in
-    let start : GoesOn C D R xs ys xs ys = begins in
+    let start : GoUntil C D R xs ys xs ys = begins in
     record {
       kept = keeps_same pairs;
-      go = subst (λ z. GoesOn C D R xs ys (pending old c.push.new.self.items) z) (sym b) (subst (λ z. GoesOn C D R xs ys z ys) (sym a) start);
+      go = subst (λ z. GoUntil C D R xs ys (names_from old c.push.new.self.items) z) (sym b) (subst (λ z. GoUntil C D R xs ys z ys) (sym a) start);
     }
 
 pub loop-preserved : goal.loop-preserved

@@ -5,7 +5,7 @@ use Rattle.borsh_values.specs.Free.{FreeSize}
 use Rattle.borsh_compare.specs.Together.{without_members, of_one_size}
 use Rattle.std.specs.Prelude.{Bool}
 use Rattle.borsh_walks.specs.Definitions.{shape_of}
-use Rattle.borsh_compare.specs.Corresponding.{CorrespondAt, Listing, Stays}
+use Rattle.borsh_compare.specs.Corresponding.{CorrespondAt, Listing, StaysInside}
 use Rattle.borsh_compare.proofs.Parts.{defined_of, ok_any}
 use Rattle.borsh_compare.proofs.walk.names_go.Goals as goal
 
@@ -33,5 +33,5 @@ returns-then-has_other_parts-clause-stays c =
     let j = c.args.owners.new in
     let before = c.args.pairs.now.list.items in
     let after = c.go_through.new.pairs.list.items in
-    ok_any (λ (b : Bool). (S : Listing) → CorrespondAt old new S i j → Stays old new S before after b) c.go_through.result
+    ok_any (λ (b : Bool). (S : Listing) → CorrespondAt old new S i j → StaysInside old new S before after b) c.go_through.result
     (λ b S g. absurd (c.has_other_parts.ensures c.if-has_other_parts.true S (g (shape_of c.in-Some.old.now) (sym c.in-Some.ensures.shape))))

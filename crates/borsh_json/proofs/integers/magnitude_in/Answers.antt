@@ -9,5 +9,5 @@ loop-place-preserved c =
     let w = i.within in
     record {
       within = omega arith;
-      value = λ h. decoded_more c.args.is_negative c.args.bytes.now (p - 1) p c.loop-place.value c.from.result (λ k l. let b = c.type_inv.bytes k in omega (arith, b)) h (omega arith) (omega arith) (i.value h) (c.from.ensures ∙ c.turned-byte.ensures);
+      value = λ h. decoded_more c.args.is_negative c.args.bytes.now (p - 1) p c.loop-place.value c.from.result (λ k l. let b = c.type_inv.bytes k in omega (arith, b)) h (omega arith) (omega arith) (i.value h) (c.from.ensures ∙ c.byte_as-byte.ensures);
     }

@@ -5,6 +5,7 @@ use Rattle.std.proofs.lemmas.List.{length-map}
 use Rattle.borsh_plan.specs.Plan.{names_of as plan_names}
 use Rattle.borsh_json.specs.Forms.{form_of_struct, newtype}
 use Rattle.borsh_json.specs.Found.{forms_of}
+use Rattle.borsh_json.specs.Table.{ComesTwice}
 use Rattle.borsh_json.proofs.FormsLaws.{twice}
 use Rattle.borsh_json.proofs.FoundLaws.{one_part, on_some}
 use Rattle.borsh_json.proofs.NameLaws.{fields_repeated, newtype_kind}
@@ -17,7 +18,8 @@ returns-in-Some-clause-kind c = λ x h full.
     let fs = map (λ f. (string_bytes f.0, string_bytes f.1)) items in
     let e = h.1 ∙ ap (λ f. Some (form_of_struct f)) c.in-NamedFields.is in
     let q = on_some _ _ c.in_ok-name-in-NamedFields.field-0 c.in-Some.name c.in-Some.is c.in_ok-name-in-NamedFields.ensures in
-    fields_repeated (forms_of d) x full (plan_names d.plan.now) fs e (λ i. q (subst (λ l. IsDistinct bytes_eq l) (twice (λ f. (string_bytes f.0, string_bytes f.1)) (λ f. f.0) (λ f. string_bytes f.0) (λ f. refl) items) i))
+    let t = twice (λ f. (string_bytes f.0, string_bytes f.1)) (λ f. f.0) (λ f. string_bytes f.0) (λ f. refl) items in
+    fields_repeated (forms_of d) x full (plan_names d.plan.now) fs c.in-Some.name.now e (λ i. q.0 (subst (λ l. IsDistinct bytes_eq l) t i)) (subst (λ l. ComesTwice c.in-Some.name.now l) (sym t) q.1)
 
 pub returns-then-len-eq1-clause-kind : goal.returns-then-len-eq1-clause-kind
 returns-then-len-eq1-clause-kind c = λ x h full.

@@ -1,7 +1,7 @@
 use Rattle.std.proofs.Common.{◌≡◌, ◌∙◌, ◌+◌, ◌-◌, ◌<◌, ℕ, List, length, get_or, false, refl, sym, ap, subst, arith, below_more}
 use Rattle.std.proofs.lemmas.Option.{get_or_from_slice_get}
 use Rattle.borsh_json.proofs.FrameLaws.{get_from}
-use Rattle.borsh_json.proofs.RepeatedLaws.{Text, same_text, none_repeated, one_repeated}
+use Rattle.borsh_json.proofs.RepeatedLaws.{Text, comes_twice, same_text, none_repeated, one_repeated}
 use Rattle.borsh_json.proofs.kinds.repeated_name.Goals as goal
 
 same_at : (ks : List Text) (i j : ℕ) (a b d : Text) → i < length ks → j < length ks → a ≡ get_or ks i a → b ≡ get_or ks j b → same_text (get_or ks i d) (get_or ks j d) ≡ same_text a b
@@ -21,7 +21,10 @@ returns-then-eq c =
     let b = c.index.result.now in
     let l : i < length ks.items = (let t = c.loop-index-test.true in let e = c.len-index-end.ensures in let o = ks.ok.0 in omega arith) in
     let m : 1 < i + 1 = (let t = c.loop-index.auto.index in omega arith) in
-    one_repeated c.args.names.items ks.items c.sort_unstable.ensures.permutation (i - 1) i b (omega arith) l (same_at ks.items (i - 1) i a b b (omega arith) l c.index-in-loop-index.ensures c.index.ensures ∙ sym c.eq.ensures ∙ c.if-eq.true)
+    let e = same_at ks.items (i - 1) i a b b (omega arith) l c.index-in-loop-index.ensures c.index.ensures ∙ sym c.eq.ensures ∙ c.if-eq.true in
+    let p = c.sort_unstable.ensures.permutation in
+    let less : i - 1 < i = omega arith in
+    (one_repeated c.args.names.items ks.items p (i - 1) i b less l e, comes_twice c.args.names.items ks.items p (i - 1) i b less l c.index.ensures e)
 
 pub loop-index-preserved : goal.loop-index-preserved
 loop-index-preserved c =

@@ -36,7 +36,7 @@ returns-in-Err c = λ F ns k keys parts o a.
     let l = lengths_of f in
     let h = subst (λ (q : KeyKind). AreKeysOf F ns k f q keys) c.in-Text.is a in
     let d = list_node F k n.bytes.now es parts (utf8 l) n.definition.now 0 (defined F ns k f (utf8 l) o.0 (λ e. cc) h.1) tt (λ e b. b.1) o.1 c.elements_of.ensures in
-    (d.0, (l, h.1, no_text F k n.bytes.now es l d.1 h.1 (tells_count f o.2) c.in-Err.ensures.cases.0))
+    (d.0, ((l, h.1), no_text F k n.bytes.now es l d.1 h.1 (tells_count f o.2) c.in-Err.ensures.cases.0))
 
 pub returns-then-is_zero : goal.returns-then-is_zero
 returns-then-is_zero c = λ F ns k keys parts o a.

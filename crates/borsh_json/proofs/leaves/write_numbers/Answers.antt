@@ -6,7 +6,7 @@ use Rattle.borsh_json.specs.Leaves.{HasSize}
 use Rattle.borsh_json.specs.Places.{lengths_of}
 use Rattle.borsh_json.specs.Table.{primitive_kind}
 use Rattle.borsh_json.proofs.LeafLaws.{primitive_sized}
-use Rattle.borsh_json.proofs.ListLaws.{IsListing, list_refused, listing_end, listing_more, listing_start, no_items_there, no_list, numbers_there, one_more, tells_count}
+use Rattle.borsh_json.proofs.ListLaws.{IsListing, list_refused, listing_end, listing_more, listing_start, no_items_there, no_list, numbers_there, piece_there, one_more, tells_count}
 use Rattle.borsh_json.proofs.leaves.write_numbers.Goals as goal
 
 pub elements-init : goal.elements-init
@@ -41,7 +41,9 @@ returns-in-Err c = λ x parts o i.
     let full : length rest ≡ 0 → ⊥ = λ z. (let t = c.elements-test.true in let b = c.is_empty.ensures in grind (arith, nat_tests)) in
     let room = one_more F t.1 size all c.args.out.now c.elements.out rest t.5.0 t.5.4 full g in
     let l : length piece ≡ size = omega (arith, c.split_at.ensures.front_len, c.clamp.ensures, room, t.6) in
-    (t.0, list_refused F c.in-Err.error x t.1 own piece (c.in-Err.ensures F t.1 k p t.4 (subst (λ n. HasSize k n) (sym l) s)) (no_list F t.1 k size t.4 s x own all rest piece c.split_at.result.1.now c.args.out.now c.elements.out (lengths_of (form_of n.definition.now)) g t.3 (tells_count (form_of n.definition.now) o.2) t.5 c.split_at.ensures.by_index.0 l t.6))
+    let w = lengths_of (form_of n.definition.now) in
+    let there = piece_there F t.1 k size t.4 s own all rest piece c.split_at.result.1.now c.args.out.now c.elements.out w g t.5 c.split_at.ensures.by_index.0 in
+    (t.0, list_refused F c.in-Err.error w x t.1 own there.0 piece c.split_at.result.1.now t.3 there.1 (c.in-Err.ensures F t.1 k p t.4 (subst (λ n. HasSize k n) (sym l) s)) (no_list F t.1 k size t.4 s x own all rest piece c.split_at.result.1.now c.args.out.now c.elements.out (lengths_of (form_of n.definition.now)) g t.3 (tells_count (form_of n.definition.now) o.2) t.5 c.split_at.ensures.by_index.0 l t.6))
 
 pub returns : goal.returns
 returns c = λ x parts o i.

@@ -23,4 +23,4 @@ returns-in-Err c = λ F ns x parts o h.
     let es = c.elements_of.result.now in
     let l = lengths_of (form_of n.definition.now) in
     let d = list_node F x n.bytes.now es parts (utf8 l) n.definition.now 0 (defined F ns x (form_of n.definition.now) (utf8 l) o.0 (λ e. cc) h) tt (λ e b. b.1) o.1 c.elements_of.ensures in
-    (d.0, (l, h, no_text F x n.bytes.now es l d.1 h (tells_count (form_of n.definition.now) o.2) c.in-Err.ensures.cases.0))
+    (d.0, ((l, h), no_text F x n.bytes.now es l d.1 h (tells_count (form_of n.definition.now) o.2) c.in-Err.ensures.cases.0))

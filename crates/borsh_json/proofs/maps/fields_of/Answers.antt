@@ -7,7 +7,7 @@ use Rattle.borsh_json.specs.Frames.{IsText}
 use Rattle.borsh_json.specs.Table.{entries_of}
 use Rattle.borsh_json.proofs.FieldLaws.{in_place, wanted}
 use Rattle.borsh_json.proofs.MemberLaws.{keyed_length}
-use Rattle.borsh_json.proofs.PartsLaws.{all_found, names_of}
+use Rattle.borsh_json.proofs.PartsLaws.{all_found, all_others, names_of}
 use Rattle.borsh_json.proofs.maps.fields_of.Goals as goal
 
 pub returns-in-Some : goal.returns-in-Some
@@ -22,7 +22,7 @@ returns-in-Ok c d j b =
     let m = c.in-Ok.members in
     let a = c.in-Ok.ensures j b in
     let e = subst (λ (l : List (List ℕ)). IsDistinct bytes_eq l) (sym (names_of (λ f. string_bytes f.0) (λ f. string_bytes f.1) fs)) d in
-    (a.0, btree_map_len m, a.2, keyed_length IsText m.entries a.1 a.4 ∙ length_permutation (entries_of a.0) a.1 a.3, (e, all_found m (map wanted fs) a.0 a.5, refl))
+    (a.0, btree_map_len m, a.2, keyed_length IsText m.entries a.1 a.4 ∙ length_permutation (entries_of a.0) a.1 a.3, (e, all_found m (map wanted fs) a.0 a.5, refl, all_others m a.0 a.5))
 
 pub returns-in-Err : goal.returns-in-Err
 returns-in-Err c d j b = c.in-Err.ensures j b

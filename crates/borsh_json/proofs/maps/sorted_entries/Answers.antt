@@ -6,7 +6,7 @@ use Rattle.borsh_json.specs.declared.sources.Source.TheVariants.{Texts, Ranks}
 use Rattle.borsh_json.specs.Frames.{AreSorted}
 use Rattle.borsh_json.specs.Places.{AreKeysOf}
 use Rattle.borsh_json.specs.Table.{Keys}
-use Rattle.borsh_json.proofs.MapLaws.{texts_sorted, ranks_sorted, texts_said, numbers_said}
+use Rattle.borsh_json.proofs.MapLaws.{texts_sorted, ranks_sorted, texts_said, numbers_fail}
 use Rattle.borsh_json.proofs.OpeningLaws.{refuses_keys}
 use Rattle.borsh_json.proofs.RepresentsLaws.{kind_small}
 use Rattle.borsh_json.proofs.maps.sorted_entries.Goals as goal
@@ -40,4 +40,4 @@ returns-in-Err-ranks_of c F ns x k v l g keys j h a b =
     let n = c.in-Number.number in
     let a2 = subst (λ (q : KeyKind). AreKeysOf F ns k g q keys) c.in-Number.is a in
     let small = kind_small F a2.1 n.size n.is_signed n.is_non_zero refl in
-    refuses_keys F ns x j c.in-Err-ranks_of.error (numbers_said F ns x j l keys k v h n a2.0 a2.1) (c.in-Err-ranks_of.ensures small j b)
+    numbers_fail F ns x j l keys k v h n a2.0 a2.1 c.in-Err-ranks_of.error (c.in-Err-ranks_of.ensures small j b)

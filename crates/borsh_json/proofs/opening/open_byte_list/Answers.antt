@@ -3,7 +3,7 @@ use Rattle.json.specs.Json.{Json, string}
 use Rattle.borsh_json.specs.Forms.{form_of}
 use Rattle.borsh_json.specs.Places.{lengths_of}
 use Rattle.borsh_json.specs.Table.{byte_list, IsPrefixed, IsHex}
-use Rattle.borsh_json.proofs.OpeningLaws.{opened, opened_digits, said, string_is, denies_or, plain_why}
+use Rattle.borsh_json.proofs.OpeningLaws.{opened, opened_digits, said, string_is, refuses_or}
 use Rattle.borsh_json.proofs.BytesFall.{bytes_fall, digits_rise}
 use Rattle.borsh_json.proofs.PartsLaws.{no_text, byte_said}
 use Rattle.borsh_json.proofs.RepresentsLaws.{hex_one}
@@ -29,10 +29,10 @@ returns-in-Ok c F ns orders x j e at h size order none b =
     let l = lengths_of (form_of c.args.definition.now) in
     let s = string_is j c.in-Some.text.now (sym (c.in-Some.ensures j b)) in
     let v = c.as_slice.ensures.value in
-    denies_or c.in-Err-put_ascending.error (plain_why F ns x j) (λ g. let k = said F ns x j (byte_list l e) h g in let q = byte_said F j l e k.0 k.1 c.in-Some.text.now s k.2 in (k.0, subst (λ (t : List ℕ). IsPrefixed l (length t) t k.0) (hex_one q.1 c.in-Ok.ensures ∙ sym v) q.2)) (bytes_fall F ns orders x j l e c.in-Some.text.now c.as_slice.result.now c.args.elements h size order s (subst (λ (t : List ℕ). IsHex (string c.in-Some.text.now) t) (sym v) c.in-Ok.ensures)) c.in-Err-put_ascending.ensures.added
+    refuses_or F ns x j c.in-Err-put_ascending.error (λ g. let k = said F ns x j (byte_list l e) h g in let q = byte_said F j l e k.0 k.1 c.in-Some.text.now s k.2 in (k.0, subst (λ (t : List ℕ). IsPrefixed l (length t) t k.0) (hex_one q.1 c.in-Ok.ensures ∙ sym v) q.2)) (bytes_fall F ns orders x j l e c.in-Some.text.now c.as_slice.result.now c.args.elements h size order s (subst (λ (t : List ℕ). IsHex (string c.in-Some.text.now) t) (sym v) c.in-Ok.ensures)) c.in-Err-put_ascending.ensures.added
 
 pub returns : goal.returns
 returns c F ns orders x j e at h size order none b =
     let l = lengths_of (form_of c.args.definition.now) in
     let s = string_is j c.in-Some.text.now (sym (c.in-Some.ensures j b)) in
-    denies_or c.in-Err.error (plain_why F ns x j) (λ g. let k = said F ns x j (byte_list l e) h g in let q = byte_said F j l e k.0 k.1 c.in-Some.text.now s k.2 in (q.0, q.1)) (λ i f. absurd f) c.in-Err.ensures
+    refuses_or F ns x j c.in-Err.error (λ g. let k = said F ns x j (byte_list l e) h g in let q = byte_said F j l e k.0 k.1 c.in-Some.text.now s k.2 in (q.0, q.1)) (λ i f. absurd f) c.in-Err.ensures

@@ -1,6 +1,6 @@
 use Rattle.std.proofs.Common.{false, true, true≢false, sym, ◌∙◌, ap, refl}
 use Rattle.std.specs.Prelude.{from_bits, pos}
-use Rattle.borsh_walks.specs.Container.{low_bytes, tag}
+use Rattle.borsh_walks.specs.Container.{little_endian, tag}
 use Rattle.borsh_json.specs.Table.{float}
 use Rattle.borsh_json.proofs.FloatLaws.{below_size}
 use Rattle.borsh_json.proofs.OpeningLaws.{opened_leaf, denied, refuses_expected}
@@ -12,7 +12,7 @@ returns-in_ok-put_count-in-Some c F ns orders x j h b =
     let d = c.in-Some.ensures h.0 j h.1 b in
     let own = tag c.args.size (pos n) in
     opened_leaf F ns orders x j (float h.0) (λ l e q. cc) c.args.out.now.items c.put_count.new.out.items own h.2 c.in_ok-put_count-in-Some.ensures
-    (from_bits h.0 n, d.1, (n, ap (λ k. low_bytes k n) h.1, below_size h.0 n d.0, refl, d.2), refl)
+    (from_bits h.0 n, d.1, (n, ap (λ k. little_endian k n) h.1, below_size h.0 n d.0, refl, d.2), refl)
 
 pub returns-in-None : goal.returns-in-None
 returns-in-None c F ns orders x j h b =

@@ -1,11 +1,11 @@
-use Rattle.std.proofs.Common.{[], sym, subst, refl, append-nil}
+use Rattle.std.proofs.Common.{[], inl, sym, subst, refl, append-nil}
 use Rattle.borsh_plan.specs.Plan.{map_of, names_of as plan_names}
 use Rattle.borsh_json.specs.declared.kinds.Kind.{Kind}
 use Rattle.borsh_json.specs.declared.position.Parts.TheVariants.{Newtype}
 use Rattle.borsh_json.specs.Forms.{form_of, forms_in}
 use Rattle.borsh_json.specs.Orders.{KindHasOrder, KindTellsOrder}
 use Rattle.borsh_json.specs.Places.{IsKindOf}
-use Rattle.borsh_json.specs.Table.{inner}
+use Rattle.borsh_json.specs.Table.{inner, RepeatsName}
 use Rattle.borsh_json.proofs.OpeningLaws.{opened, unmoved, only_found}
 use Rattle.borsh_json.proofs.PartsLaws.{unsayable}
 use Rattle.borsh_json.proofs.opening.open_kind.Goals as goal
@@ -120,4 +120,4 @@ returns-in_ok-name-in-Repeated c x j at e h order tells b =
     let F = forms_in (map_of c.args.json.now.plan.now) in
     let ns = plan_names c.args.json.now.plan.now in
     let none = subst (λ (k : Kind). IsKindOf F ns x (form_of c.args.definition.now) k) c.in-Repeated.is h in
-    (λ i. unsayable F ns x i none, unsayable F ns x j none)
+    ((subst (λ s. RepeatsName F x s) (sym c.in_ok-name-in-Repeated.ensures.ok) none.1, λ i. unsayable F ns x i none.0), inl (unsayable F ns x j none.0))

@@ -8,7 +8,7 @@ use Rattle.borsh_json.proofs.opening.open_list.Goals as goal
 pub returns-then-elements : goal.returns-then-elements
 returns-then-elements c F ns orders x j o none h b =
     let none = subst (λ (r : Bool). IsListOf F ns x (form_of c.args.definition.now) c.args.elements.at r) c.if-elements.true h in
-    (λ i. unsayable F ns x i none, unsayable F ns x j none)
+    ((none.1, λ i. unsayable F ns x i none.0), inl (unsayable F ns x j none.0))
 
 pub returns : goal.returns
 returns c F ns orders x j o none h b =

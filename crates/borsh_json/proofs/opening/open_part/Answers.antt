@@ -2,15 +2,13 @@ use Rattle.std.proofs.Common.{◌≡◌, ◌∙◌, inl, inr, ℕ, List, Option,
 use Rattle.json.specs.Json.{Json}
 use Rattle.borsh_plan.specs.Plan.{map_of, names_of as plan_names}
 use Rattle.borsh_json.specs.Forms.{Form, HasNoBytes, forms_in}
-use Rattle.borsh_json.specs.Represents.{SaysSome}
+use Rattle.borsh_json.specs.NoValue.{SaysOwn}
 use Rattle.borsh_json.proofs.OpeningLaws.{opened, unmoved}
-use Rattle.borsh_json.proofs.ReaderLaws.{uncons}
 use Rattle.borsh_json.proofs.opening.open_part.Goals as goal
 
-undefined_says : (F : List ℕ → Option Form) (x : List ℕ) (j : Json) → F x ≡ None → (HasNoBytes F x → ⊥) → SaysSome F x j → ⊥
+undefined_says : (F : List ℕ → Option Form) (x : List ℕ) (j : Json) → F x ≡ None → (HasNoBytes F x → ⊥) → SaysOwn F x j → ⊥
 undefined_says F x j e full s =
-    let u = uncons F s.1 in
-    elim u.4.1 [
+    elim s.2.1 [
       | inl z ↦ full z.0
       | inr d ↦ (let g = d.2 in cc)
     ]
@@ -27,7 +25,7 @@ returns-in_default c x j at b =
     let F = forms_in (map_of c.args.json.now.plan.now) in
     let full : HasNoBytes F x → ⊥ = λ z. (let q = (c.is_zero_size.ensures x at).1 z in let s = c.if-is_zero_size.false in cc) in
     let none = c.in_default.ensures.kind x at full in
-    ((c.in_ok-name.ensures.ok ∙ c.name.ensures x at, none), undefined_says F x j none full)
+    ((c.in_ok-name.ensures.ok ∙ c.name.ensures x at, none), inl (undefined_says F x j none full))
 
 pub returns : goal.returns
 returns c x j at b =

@@ -33,7 +33,7 @@ returns-in_default-variant_named c x j i d h b =
     let ns = plan_names c.args.json.now.plan.now in
     let vs : List (ℤ × List ℕ × List ℕ) = map (λ v. (v.0, string_bytes v.1, string_bytes v.2)) c.args.variants.now.items in
     let u = unknown_variant F ns x j c.args.width vs h c.in-Some.name.now (distinct c.args.variants.now.items d) c.in-Some.value (c.in-Some.ensures j b) c.in_default-variant_named.ensures in
-    (inl (subst (λ (v : List ℕ). NamesNoVariant F x j v) (sym c.in_ok-name.ensures.ok) u.0), u.1)
+    (inl (subst (λ (v : List ℕ). NamesNoVariant F x j v) (sym c.in_ok-name.ensures.ok) u.0), inl u.1)
 
 pub returns-then-is_empty : goal.returns-then-is_empty
 returns-then-is_empty c x j i d h b =

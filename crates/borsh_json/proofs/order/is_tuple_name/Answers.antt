@@ -1,7 +1,7 @@
 use Rattle.std.proofs.Common.{◌∙◌, map, string_bytes, sym}
 use Rattle.std.specs.Prelude.{codes}
 use Rattle.std.proofs.lemmas.Slice.Eq.{bytes_eq-Decides}
-use Rattle.borsh_json.specs.Ordered.{listed}
+use Rattle.borsh_walks.specs.TupleNames.{following}
 use Rattle.borsh_json.proofs.OrderedLaws.{tuple_named}
 use Rattle.borsh_json.proofs.UnorderedLaws.{empty_decided, tuple_end, tuple_rest}
 use Rattle.borsh_json.proofs.order.is_tuple_name.Goals as goal
@@ -17,7 +17,7 @@ returns-in-Some-behind_parts c =
     let some = sym c.is_empty.ensures ∙ c.if-is_empty.false in (
       (λ t. tuple_named c.args.parts.now c.in-Some.others.now c.in-Some.first.now c.as_str-first.result.now c.args.name.now c.in-Some-behind.rest.now c.in-Some-behind_parts.rest.now c.in-Some.ensures.cases.0 some c.as_str-first.ensures.value c.in-Some-behind.ensures c.in-Some-behind_parts.ensures (d.0 (sym c.eq-in-Some-behind_parts.ensures ∙ t))),
       (λ n. (let r = tuple_rest c.args.parts.now c.in-Some.others.now c.in-Some.first.now c.as_str-first.result.now c.args.name.now c.in-Some-behind.rest.now c.in-Some.ensures.cases.0 some c.as_str-first.ensures.value c.in-Some-behind.ensures n in
-          let e = tuple_end (listed (map (λ p. string_bytes p) c.in-Some.others.now)) c.in-Some-behind_parts.rest.now c.in-Some-behind.rest.now c.in-Some-behind_parts.ensures r in
+          let e = tuple_end (following (map (λ p. string_bytes p) c.in-Some.others.now)) c.in-Some-behind_parts.rest.now c.in-Some-behind.rest.now c.in-Some-behind_parts.ensures r in
           c.eq-in-Some-behind_parts.ensures ∙ d.1 e)),
     )
 

@@ -1,7 +1,8 @@
 use Rattle.std.proofs.Common.{◌≡◌, ◌∙◌, inr, Some, map, length, string_bytes, refl, sym, ap, subst, arith}
 use Rattle.borsh_json.specs.Forms.{form_of}
 use Rattle.borsh_json.specs.Found.{forms_of, names_of}
-use Rattle.borsh_json.specs.Ordered.{list, parts, tuple_name, AreNumbers}
+use Rattle.borsh_walks.specs.TupleNames.{tuple_name}
+use Rattle.borsh_json.specs.Ordered.{list, parts, AreNumbers}
 use Rattle.borsh_json.specs.Table.{primitive_kind}
 use Rattle.borsh_json.proofs.FoundLaws.{not_true, sequence_same}
 use Rattle.borsh_json.proofs.OrderedLaws.{finds_number, same_count}

@@ -1,7 +1,7 @@
 use Rattle.std.proofs.Common.{◌∙◌, sym, ap, subst, Some, None, string_bytes}
 use Rattle.borsh_json.specs.Forms.{form_of, forms_in}
 use Rattle.borsh_json.specs.Places.{lengths_of}
-use Rattle.borsh_json.specs.Rows.{IsText, IsTextOf, IsValueText}
+use Rattle.borsh_json.specs.Rows.{IsRowText, IsTextOf, IsValueText}
 use Rattle.borsh_json.proofs.FoundLaws.{got, got_at, not_true, on_false, on_true}
 use Rattle.std.specs.Option.{option_copied}
 use Rattle.borsh_json.proofs.RowsLaws.{any_lengths, primitive_value, text_value, count_value, variant_value, variant_there, nothing_value, if_same}
@@ -25,7 +25,7 @@ pub returns-else-is_list : goal.returns-else-is_list
 returns-else-is_list c =
     let n = c.args.node.now in
     let F = forms_in c.args.map.now in
-    let no_text : IsText F n.name.now (form_of n.definition.now) (string_bytes c.in-Sequence.elements) → ⊥ = λ t. elim c.else-is_list.branch [
+    let no_text : IsRowText F n.name.now (form_of n.definition.now) (string_bytes c.in-Sequence.elements) → ⊥ = λ t. elim c.else-is_list.branch [
       | else-is_list-via-then-is_list+else-is_text w ↦ not_true w.is_text.result w.is_text.ensures w.if-is_text.false (subst (λ e. IsTextOf F n.name.now e) (sym w.as_str.ensures.value) t.0)
       | else-is_list-via-else-is_list w ↦ (let a = any_lengths n.definition.now _ _ _ c.in-Sequence.is t.1 in on_false _ c.is_list.result w.if-is_list.false c.is_list.ensures a.0 a.1)
     ] in

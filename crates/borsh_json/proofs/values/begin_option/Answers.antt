@@ -5,7 +5,6 @@ use Rattle.borsh_values.specs.Nodes.{IsVariantOf}
 use Rattle.borsh_json.specs.Forms.{form_of}
 use Rattle.borsh_json.proofs.ChoiceLaws.{none_said, none_written, some_begun}
 use Rattle.borsh_json.proofs.FormsLaws.{shape_is}
-use Rattle.borsh_json.proofs.WholeLaws.{leaf_refused}
 use Rattle.borsh_json.proofs.values.begin_option.Goals as goal
 
 pub returns-in_err-write_null : goal.returns-in_err-write_null
@@ -15,7 +14,7 @@ returns-in_err-write_null c F ns at x parts i o k =
     let v = subst (λ (s : Shape). IsVariantOf s own c.variant_of.result) (sym (shape_is d)) c.variant_of.ensures in
     let e = c.in_err-write_null in
     let p = err_from_is_err_and c.from_residual.result c.from_residual.ensures.1 in
-    rw (p.1, p.2) (leaf_refused F x own e.field-0.0 (e.ensures F x own (none_said F ns x (form_of d) own parts o c.args.part k c.variant_of.result v c.unwrap_or-index.result _ c.unwrap_or-index.ensures c.if-index-eq0.true)))
+    rw (p.1, p.2) ((e.ensures F x own (none_said F ns x (form_of d) own parts o c.args.part k c.variant_of.result v c.unwrap_or-index.result _ c.unwrap_or-index.ensures c.if-index-eq0.true)))
 
 pub returns-then-index-eq0 : goal.returns-then-index-eq0
 returns-then-index-eq0 c F ns at x parts i o k =

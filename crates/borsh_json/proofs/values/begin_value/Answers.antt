@@ -7,7 +7,7 @@ use Rattle.borsh_json.specs.Found.{forms_of, names_of}
 use Rattle.borsh_json.specs.Places.{IsKindOf}
 use Rattle.borsh_json.specs.Leaves.{WritesLeaf}
 use Rattle.borsh_json.specs.Writes.{IsWrittenAs, WritesValue}
-use Rattle.borsh_json.proofs.WholeLaws.{leaf_refused, leaf_whole, primitive_found, primitive_no_list}
+use Rattle.borsh_json.proofs.WholeLaws.{leaf_whole, primitive_found, primitive_no_list}
 use Rattle.borsh_json.proofs.values.begin_value.Goals as goal
 
 pub returns-in_err-write_primitive-in-Number : goal.returns-in_err-write_primitive-in-Number
@@ -18,7 +18,7 @@ returns-in_err-write_primitive-in-Number c h x parts i o k =
     let f = form_of c.args.node.now.definition.now in
     let e = c.in_err-write_primitive-in-Number in
     let q = err_from_is_err_and c.from_residual.result c.from_residual.ensures.1 in
-    rw (q.1, q.2) (leaf_refused F x own e.field-0.0 (let p = primitive_found F x own ns f c.args.kind c.in-Number.is k in e.ensures p.1 p.2 F ns x parts o k).1)
+    rw (q.1, q.2) ((let p = primitive_found F x own ns f c.args.kind c.in-Number.is k in e.ensures p.1 p.2 F ns x parts o k).1)
 
 pub returns-in_err-write_text-in-Text : goal.returns-in_err-write_text-in-Text
 returns-in_err-write_text-in-Text c h x parts i o k =
@@ -28,7 +28,7 @@ returns-in_err-write_text-in-Text c h x parts i o k =
     let f = form_of c.args.node.now.definition.now in
     let e = c.in_err-write_text-in-Text in
     let q = err_from_is_err_and c.from_residual-in_err-write_text-in-Text.result c.from_residual-in_err-write_text-in-Text.ensures.1 in
-    rw (q.1, q.2) (leaf_refused F x own e.field-0.0 (e.ensures F ns x parts o (subst (λ (q : Found). IsKindOf F ns x f q) c.in-Text.is k)).1)
+    rw (q.1, q.2) ((e.ensures F ns x parts o (subst (λ (q : Found). IsKindOf F ns x f q) c.in-Text.is k)).1)
 
 pub returns-in_err-write_byte_list-in-ByteList : goal.returns-in_err-write_byte_list-in-ByteList
 returns-in_err-write_byte_list-in-ByteList c h x parts i o k =
@@ -38,7 +38,7 @@ returns-in_err-write_byte_list-in-ByteList c h x parts i o k =
     let f = form_of c.args.node.now.definition.now in
     let e = c.in_err-write_byte_list-in-ByteList in
     let q = err_from_is_err_and c.from_residual-in_err-write_byte_list-in-ByteList.result c.from_residual-in_err-write_byte_list-in-ByteList.ensures.1 in
-    rw (q.1, q.2) (leaf_refused F x own e.field-0.0 (e.ensures F ns x parts o (subst (λ (q : Found). IsKindOf F ns x f q) c.in-ByteList.is k)).1)
+    rw (q.1, q.2) ((e.ensures F ns x parts o (subst (λ (q : Found). IsKindOf F ns x f q) c.in-ByteList.is k)).1)
 
 pub returns-in_ok-write_primitive-in-Number : goal.returns-in_ok-write_primitive-in-Number
 returns-in_ok-write_primitive-in-Number c h x parts i o k =

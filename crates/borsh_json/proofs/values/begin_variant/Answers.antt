@@ -6,7 +6,6 @@ use Rattle.borsh_json.specs.Forms.{form_of}
 use Rattle.borsh_json.specs.Found.{forms_of, names_of}
 use Rattle.borsh_json.proofs.ChoiceLaws.{there, is_chosen, its_part, name_said, name_written, variant_begun}
 use Rattle.borsh_json.proofs.FormsLaws.{shape_is}
-use Rattle.borsh_json.proofs.WholeLaws.{leaf_refused}
 use Rattle.borsh_json.proofs.values.begin_variant.Goals as goal
 
 pub returns-in_default : goal.returns-in_default
@@ -34,7 +33,7 @@ returns-in_err-write_name c w x parts i o k =
     let s = name_said F ns x (form_of d) own parts o w c.args.variants k c.variant_of.result v u h c.as_str.result.now c.as_str.ensures.value (zero.0 c.if-is_zero_size.true) in
     let e = c.in_err-write_name in
     let q = err_from_is_err_and c.from_residual.result c.from_residual.ensures.1 in
-    rw (q.1, q.2) (leaf_refused F x own e.field-0.0 (e.ensures F x own s))
+    rw (q.1, q.2) ((e.ensures F x own s))
 
 pub returns-then-is_zero_size : goal.returns-then-is_zero_size
 returns-then-is_zero_size c w x parts i o k =

@@ -1,6 +1,6 @@
 use Rattle.std.proofs.Common.{[], ◌∷◌, false, length, length-append, sym, ◌∙◌, ap, subst, arith}
 use Rattle.borsh_walks.specs.Definitions.{definitions_in}
-use Rattle.borsh_walks.proofs.RulesGlue.{empty_table}
+use Rattle.borsh_walks.proofs.RulesSteps.{empty_table}
 use Rattle.borsh_plan.specs.Zeros.{ZeroAt}
 use Rattle.borsh_plan.proofs.SizesLaws.{Answered, answered_none, answered_more, answered_all}
 use Rattle.borsh_plan.proofs.zeros.zero_sizes.Goals as goal

@@ -2,7 +2,8 @@ use Rattle.std.proofs.Common.{Some, refl, sym, ◌∙◌, ap}
 use Rattle.std.specs.Prelude.{string_bytes, option_map}
 use Rattle.std.proofs.lemmas.Bool.Decides.{not_from_Decides}
 use Rattle.borsh_definitions.specs.Described.{named_definition}
-use Rattle.borsh_schema.proofs.Adding.{joined_known, not_joined_known, found_at, absent_at, found_once, joined_new}
+use Rattle.borsh_definitions.proofs.Laws.Adding.{found_at, absent_at}
+use Rattle.borsh_schema.proofs.Adding.{joined_known, not_joined_known, found_once, joined_new}
 use Rattle.borsh_schema.proofs.definitions.add_definition.Goals as goal
 
 pub returns-then-says_the_same-clause-outcome : goal.returns-then-says_the_same-clause-outcome

@@ -1,5 +1,5 @@
 use Rattle.std.proofs.lemmas.Bool.Decides.{Decides-at}
-use Rattle.borsh_schema.proofs.Equality.{definition-Decides}
+use Rattle.borsh_definitions.proofs.Laws.Equality.{definition-Decides}
 use Rattle.borsh_schema.proofs.definitions.says_the_same.Goals as goal
 
 pub returns : goal.returns

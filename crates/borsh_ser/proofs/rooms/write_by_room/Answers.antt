@@ -1,4 +1,4 @@
-use Rattle.std.proofs.Common.{◌∙◌, ◌+◌, drop, false, true≢false, refl, sym, ap, subst, arith}
+use Rattle.std.proofs.Common.{◌∙◌, ◌+◌, drop, false, true≢false, sym, ap, subst, arith}
 use Rattle.std.proofs.lemmas.List.{take_rest}
 use Rattle.borsh_codec.specs.Shapes.{append_encodings, concat_encodings}
 use Rattle.borsh_codec.proofs.PutSteps.{all_joined-front, front_within}
@@ -8,7 +8,7 @@ use Rattle.borsh_codec.proofs.WriteSteps.{so_far_none, so_far_more}
 use Rattle.borsh_ser.proofs.rooms.write_by_room.Goals as goal
 
 pub loop-next-init : goal.loop-next-init
-loop-next-init g c = record { long = refl; within = omega arith; so_far = so_far_none g.met.W.Write.lawful _ _ }
+loop-next-init g c = record { within = omega arith; so_far = so_far_none g.met.W.Write.lawful _ _ }
 
 pub returns-then-count-eq0 : goal.returns-then-count-eq0
 returns-then-count-eq0 g c =
@@ -34,7 +34,6 @@ loop-next-preserved g c =
     let more = concat_encodings f (drop (next + n) c.args.items.now) in
     let front = all_joined-front f c.args.items.now next _ n p.some ∙ ap (λ z. append_encodings z more) p.put.put.1 in
     record {
-      long = p.put.same ∙ c.loop-next.invariant.long;
       within = front_within c.args.items.now next _ n c.loop-next.invariant.within p.some;
       so_far = so_far_more g.met.W.Write.lawful c.loop-next.invariant.so_far front c.in_ok-write_bytes.ensures.ok;
     }

@@ -1,5 +1,5 @@
 -- All before the element at hand was written.
-use Rattle.std.proofs.Common.{◌≡◌, ◌≤◌, ◌-◌, drop, length}
+use Rattle.std.proofs.Common.{◌≤◌, ◌-◌, drop, length}
 use Rattle.borsh_codec.specs.Shapes.{concat_encodings}
 use Rattle.borsh_codec.proofs.WriteSteps.{WritesSoFar}
 use Rattle.borsh_ser.proofs.rooms.write_by_room.Given as goal
@@ -8,7 +8,6 @@ abbrev pub invariant-loop-next : goal.invariant-loop-next
 invariant-loop-next g l =
     let f = g.T.BorshType.codec.encoding in
     record {
-      long : length l.room ≡ 1024;
       within : l.next ≤ length l.items;
       so_far : WritesSoFar g.W.Write.writing l.initial.writer l.writer (concat_encodings f l.items) (concat_encodings f (drop l.next l.items));
     }

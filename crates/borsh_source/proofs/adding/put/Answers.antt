@@ -1,6 +1,7 @@
 use Rattle.std.proofs.Common.{Some, ◌∙◌, ap}
 use Rattle.std.specs.Prelude.{string_bytes}
-use Rattle.borsh_source.proofs.Added.{added_known, added_new, found_at, absent_at}
+use Rattle.borsh_definitions.proofs.Laws.Adding.{found_at, absent_at}
+use Rattle.borsh_source.proofs.Added.{added_known, added_new}
 use Rattle.borsh_source.proofs.adding.put.Goals as goal
 
 pub returns-then-says_the_same : goal.returns-then-says_the_same

@@ -1,5 +1,5 @@
-use Rattle.borsh_source.proofs.Appending.{appends_as, appends_then}
+use Rattle.borsh_source.proofs.Appending.{appends_then}
 use Rattle.borsh_source.proofs.forms.push_socket.Goals as goal
 
 pub returns : goal.returns
-returns c = appends_then c.args.entries.now.items c.push.new.entries.items c.push_socket_v6.new.entries.items _ _ (appends_as c.args.entries.now.items c.push.new.entries.items _ c.in_ok-push.ensures c.in_ok-either.ensures) (appends_then c.push.new.entries.items c.push-2.new.entries.items c.push_socket_v6.new.entries.items _ _ (appends_as c.push.new.entries.items c.push-2.new.entries.items _ c.in_ok-push-2.ensures c.in_ok-one_unnamed.ensures) (appends_then c.push-2.new.entries.items c.push-3.new.entries.items c.push_socket_v6.new.entries.items _ _ (appends_as c.push-2.new.entries.items c.push-3.new.entries.items _ c.in_ok-push-3.ensures c.in_ok-one_unnamed-2.ensures) (appends_then c.push-3.new.entries.items c.push_socket_v4.new.entries.items c.push_socket_v6.new.entries.items _ _ c.in_ok-push_socket_v4.ensures (c.in_ok-push_socket_v6.ensures))))
+returns c = appends_then c.args.entries.now.items c.push_either.new.entries.items c.push_with_port-2.new.entries.items _ _ c.in_ok-push_either.ensures (appends_then c.push_either.new.entries.items c.push_with_port.new.entries.items c.push_with_port-2.new.entries.items _ _ c.in_ok-push_with_port.ensures c.in_ok-push_with_port-2.ensures)

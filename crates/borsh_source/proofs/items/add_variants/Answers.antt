@@ -1,7 +1,7 @@
 use Rattle.std.proofs.Common.{◌∷◌, [], ◌++◌, ◌+◌, map, sym, ◌∙◌, ap, subst}
 use Rattle.std.specs.Prelude.{string_bytes}
 use Rattle.borsh_definitions.specs.Described.{variant_bytes}
-use Rattle.borsh_source.specs.Container.{Brought, definitions_in, uses_in}
+use Rattle.borsh_source.specs.Container.{Brought, definitions_so_far, uses_in}
 use Rattle.borsh_source.specs.Meaning.{VariantsBring, of_none, IsNewTag}
 use Rattle.borsh_source.specs.Views.{source_of, parameters_of, given_in}
 use Rattle.borsh_source.proofs.Defining.{variants_more, row}
@@ -10,7 +10,7 @@ use Rattle.borsh_source.proofs.Steps.{brought_none}
 use Rattle.borsh_source.proofs.items.add_variants.Goals as goal
 
 pub loop-variant-init : goal.loop-variant-init
-loop-variant-init c = subst (λ l. Brought (VariantsBring (source_of c.args.context.now) (parameters_of c.args.scope) (given_in c.args.scope) c.args.item.now c.args.explicit [] l 0) (definitions_in c.args.output.now) (definitions_in c.args.output.now) (uses_in c.args.output.now) (uses_in c.args.output.now)) (sym (ap (map variant_bytes) c.new-rows.ensures.items)) (brought_none _ _ of_none)
+loop-variant-init c = subst (λ l. Brought (VariantsBring (source_of c.args.context.now) (parameters_of c.args.scope) (given_in c.args.scope) c.args.item.now c.args.explicit [] l 0) (definitions_so_far c.args.output.now) (definitions_so_far c.args.output.now) (uses_in c.args.output.now) (uses_in c.args.output.now)) (sym (ap (map variant_bytes) c.new-rows.ensures.items)) (brought_none _ _ of_none)
 
 pub loop-variant-preserved : goal.loop-variant-preserved
 loop-variant-preserved c =

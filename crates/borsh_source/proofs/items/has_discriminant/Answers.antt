@@ -1,6 +1,6 @@
 use Rattle.std.proofs.Common.{sym, subst, None, false, Option}
 use Rattle.borsh_source.specs.Meaning.{HaveNone}
-use Rattle.borsh_source.proofs.Kept.{none_at, none_more}
+use Rattle.borsh_source.proofs.FieldLists.{none_at, none_more}
 use Rattle.borsh_source.proofs.Lists.{item_at, take_next}
 use Rattle.borsh_source.proofs.items.has_discriminant.Goals as goal
 use Rattle.std.proofs.Common.{◌≡◌, Bool, true, Some, refl}

@@ -1,5 +1,5 @@
 use Rattle.borsh_source.specs.Meaning.{kept_names}
-use Rattle.borsh_source.proofs.Kept.{kept_names-append}
+use Rattle.borsh_source.proofs.FieldLists.{kept_names-append}
 use Rattle.borsh_source.proofs.Lists.{grow, item_at}
 use Rattle.borsh_source.proofs.items.kept_names.Goals as goal
 

@@ -1,5 +1,5 @@
 use Rattle.borsh_source.specs.Meaning.{kept_types}
-use Rattle.borsh_source.proofs.Kept.{kept_types-append}
+use Rattle.borsh_source.proofs.FieldLists.{kept_types-append}
 use Rattle.borsh_source.proofs.Lists.{grow, item_at}
 use Rattle.borsh_source.proofs.items.kept_types.Goals as goal
 

@@ -1,6 +1,6 @@
 use Rattle.std.proofs.Common.{◌≡◌, ◌<◌, [], length, map, Some, sym, ◌∙◌, ap, subst, arith}
 use Rattle.std.specs.Prelude.{slice_get, string_bytes}
-use Rattle.borsh_source.specs.Container.{Brought, definitions_in, uses_in}
+use Rattle.borsh_source.specs.Container.{Brought, definitions_so_far, uses_in}
 use Rattle.borsh_source.specs.Meaning.{MeansAll, Gives, means_none, gives_none, gives_number, gives_type, gives_nothing, IsOwn}
 use Rattle.borsh_source.specs.Reading.{reads}
 use Rattle.borsh_source.specs.Heads.{IsHead}
@@ -12,13 +12,13 @@ use Rattle.borsh_source.proofs.Results.{ok_map}
 use Rattle.borsh_source.proofs.types.+types.Goals as goal
 
 pub all_named-names-init : goal.all_named-names-init
-all_named-names-init t c = subst (λ l. Brought (MeansAll (source_of c.args.context.now) (parameters_of c.args.scope) (given_in c.args.scope) [] l) (definitions_in c.args.output.now) (definitions_in c.args.output.now) (uses_in c.args.output.now) (uses_in c.args.output.now)) (sym (ap texts_of c.new-names.ensures.items)) (brought_none _ _ means_none)
+all_named-names-init t c = subst (λ l. Brought (MeansAll (source_of c.args.context.now) (parameters_of c.args.scope) (given_in c.args.scope) [] l) (definitions_so_far c.args.output.now) (definitions_so_far c.args.output.now) (uses_in c.args.output.now) (uses_in c.args.output.now)) (sym (ap texts_of c.new-names.ensures.items)) (brought_none _ _ means_none)
 
 pub all_named-names-preserved : goal.all_named-names-preserved
 all_named-names-preserved t c = all_more (source_of c.args.context.now) (parameters_of c.args.scope) (given_in c.args.scope) c.args.types.now c.names.at-index _ (texts_of c.names.names.items) _ (string_bytes c.in_ok-name.name) (get_some c.args.types.now c.names.at-index 0 c.names-test.true) (ap texts_of c.in_ok-push.ensures.items ∙ map_snoc (λ d. string_bytes d) c.names.names.items c.in_ok-name.name) c.names.invariant c.in_ok-name.ensures
 
 pub all_given-arguments-init : goal.all_given-arguments-init
-all_given-arguments-init t c = subst (λ l. Brought (Gives (source_of c.args.context.now) (parameters_of c.args.scope) (given_in c.args.scope) c.args.item.now.kind [] [] l) (definitions_in c.args.output.now) (definitions_in c.args.output.now) (uses_in c.args.output.now) (uses_in c.args.output.now)) (sym (ap (map stands) c.new-given.ensures.items)) (brought_none _ _ gives_none)
+all_given-arguments-init t c = subst (λ l. Brought (Gives (source_of c.args.context.now) (parameters_of c.args.scope) (given_in c.args.scope) c.args.item.now.kind [] [] l) (definitions_so_far c.args.output.now) (definitions_so_far c.args.output.now) (uses_in c.args.output.now) (uses_in c.args.output.now)) (sym (ap (map stands) c.new-given.ensures.items)) (brought_none _ _ gives_none)
 
 pub all_given-arguments-preserved : goal.all_given-arguments-preserved
 all_given-arguments-preserved t c =
@@ -40,7 +40,7 @@ pub item_named-returns-in-Enum : goal.item_named-returns-in-Enum
 item_named-returns-in-Enum t c = ok_map _ c.used_named-in-Enum.result (λ n h. named_own (source_of c.args.context.now) c.args.at c.args.item.now (map stands c.args.given.items) (string_bytes n) (subst (λ k. IsOwn k) (sym c.in-Enum.is) tt) h.0 h.1) c.used_named-in-Enum.ensures
 
 pub named-returns-in-Given : goal.named-returns-in-Given
-named-returns-in-Given t c = ok_map _ c.given_name.result (λ n e. named_given (source_of c.args.context.now) (parameters_of c.args.scope) (given_in c.args.scope) c.args.at c.in-Some.written.now (sym c.in-Some.ensures) c.in-Given.given (string_bytes n) (definitions_in c.args.output.now) (uses_in c.args.output.now) (subst (λ z. IsHead (source_of c.args.context.now) (parameters_of c.args.scope) (given_in c.args.scope) c.in-Some.written.now.kind z) c.in-Given.is c.in_ok-given.ensures) e) c.given_name.ensures
+named-returns-in-Given t c = ok_map _ c.given_name.result (λ n e. named_given (source_of c.args.context.now) (parameters_of c.args.scope) (given_in c.args.scope) c.args.at c.in-Some.written.now (sym c.in-Some.ensures) c.in-Given.given (string_bytes n) (definitions_so_far c.args.output.now) (uses_in c.args.output.now) (subst (λ z. IsHead (source_of c.args.context.now) (parameters_of c.args.scope) (given_in c.args.scope) c.in-Some.written.now.kind z) c.in-Given.is c.in_ok-given.ensures) e) c.given_name.ensures
 
 pub named-returns-in_ok-names-in-Format : goal.named-returns-in_ok-names-in-Format
 named-returns-in_ok-names-in-Format t c = ok_map _ c.add_form.result (λ n f. named_form (source_of c.args.context.now) (parameters_of c.args.scope) (given_in c.args.scope) c.args.at c.in-Some.written.now (sym c.in-Some.ensures) c.in-Format.stem c.in-Format.kind c.in-Format.parts c.as_slice.result.now (texts_of c.in_ok-names-in-Format.names.items) (texts_of c.as_slice-in-Format.result.now) (string_bytes n) (subst (λ z. IsHead (source_of c.args.context.now) (parameters_of c.args.scope) (given_in c.args.scope) c.in-Some.written.now.kind z) c.in-Format.is c.in_ok-given.ensures) c.as_slice.ensures.value (ap texts_of c.as_slice-in-Format.ensures.value) c.in_ok-names-in-Format.ensures f) c.add_form.ensures

@@ -7,7 +7,7 @@ use Rattle.borsh_tool_commands.specs.declared.colors.ColoredText.{ColoredText}
 use Rattle.borsh_tool_commands.specs.declared.failure.Failure.TheVariants.{OutOfMemory}
 use Rattle.borsh_tool_commands.specs.Colored.{IsShowFailure, Paints, has_colors, printed_colors}
 use Rattle.borsh_tool_commands.specs.Colors.{IsPainted}
-use Rattle.borsh_tool_commands.specs.Many.{Flushes}
+use Rattle.borsh_tool_commands.specs.Many.{WritesMade}
 use Rattle.borsh_tool_commands.proofs.Painting.{PaintedSoFar, painted_last, painted_on, painted_start, painted_stop, unwritten_shown}
 use Rattle.borsh_tool_commands.proofs.columns.write_rows.Goals as goal
 use Rattle.borsh_tool_commands.proofs.columns.write_rows.Goals.{then-as_bytes-ge-ROOM+in_ok-write_made-in-Ok-Some, else-as_bytes-ge-ROOM}
@@ -44,7 +44,7 @@ returns-in_err-write_made-in-Ok-Some-clause-painted g c =
     let e : c.from_residual-in_err-write_made-in-Ok-Some.result ≡ Err x = search rules in
     let made = c.push_row.new.out in
     let m = subst (λ b. IsPainted b (printed_colors made)) (c.in_ok-push_row-in-Ok-Some.ensures ∙ c.loop.invariant.colors) made.painted in
-    let f = subst (λ l. Flushes wr c.loop.out c.write_made.new.out (printed_colors made) l (Err x)) c.write_made.ensures.none c.in_err-write_made-in-Ok-Some.ensures.flushes in
+    let f = subst (λ l. WritesMade wr c.loop.out c.write_made.new.out (printed_colors made) l (Err x)) c.write_made.ensures.none c.in_err-write_made-in-Ok-Some.ensures.flushes in
     subst (λ r. Paints wr c.args.is_colored c.args.out.now c.write_made.new.out r) (sym e) (painted_last g.met.W.Write.lawful (Err x) (Err x) c.loop.invariant.so_far m f (λ u. u))
 
 pub returns-in_err-write_made-in-Ok-Some-clause-err : goal.returns-in_err-write_made-in-Ok-Some-clause-err
@@ -59,7 +59,7 @@ returns-in-Ok-None-clause-painted g c =
     let made = c.loop.made in
     let r = c.write_made-in-Ok-None.result in
     let m = subst (λ b. IsPainted b (printed_colors made)) c.loop.invariant.colors made.painted in
-    let f = subst (λ l. Flushes g.W.Write.writing c.loop.out c.write_made-in-Ok-None.new.out (printed_colors made) l r) c.write_made-in-Ok-None.ensures.none c.write_made-in-Ok-None.ensures.flushes in
+    let f = subst (λ l. WritesMade g.W.Write.writing c.loop.out c.write_made-in-Ok-None.new.out (printed_colors made) l r) c.write_made-in-Ok-None.ensures.none c.write_made-in-Ok-None.ensures.flushes in
     painted_last g.met.W.Write.lawful r r c.loop.invariant.so_far m f (λ u. u)
 
 pub returns-in-Ok-None-clause-err : goal.returns-in-Ok-None-clause-err
@@ -78,9 +78,12 @@ loop-preserved g c =
     let kept : PaintedSoFar wr colored c.args.out.now c.if-as_bytes-ge-ROOM.out × (has_colors c.if-as_bytes-ge-ROOM.made ≡ colored) = elim c.if-as_bytes-ge-ROOM.branch [
       | then-as_bytes-ge-ROOM+in_ok-write_made-in-Ok-Some w ↦
           let v = w.in_ok-write_made-in-Ok-Some.field-0 in
-          let f = subst (λ l. Flushes wr c.loop.out w.write_made.new.out (printed_colors made) l (Ok v)) w.write_made.ensures.none w.in_ok-write_made-in-Ok-Some.ensures.flushes in
+          let f = subst (λ l. WritesMade wr c.loop.out w.write_made.new.out (printed_colors made) l (Ok v)) w.write_made.ensures.none w.in_ok-write_made-in-Ok-Some.ensures.flushes in
           (subst (λ o. PaintedSoFar wr colored c.args.out.now o) (sym w.out-is) (painted_on g.met.W.Write.lawful v so_far m f), ap (λ (t : ColoredText). has_colors t) w.made-is ∙ w.write_made.ensures.colored ∙ colors)
       | else-as_bytes-ge-ROOM w ↦
           (subst (λ o. PaintedSoFar wr colored c.args.out.now o) (sym w.out-is) so_far, ap (λ (t : ColoredText). has_colors t) w.made-is ∙ colors)
     ] in
     record { rows = search rules; plan = search rules; colors = kept.1; so_far = kept.0 }
+
+pub returns-clause-painted : goal.returns-clause-painted
+returns-clause-painted g c = painted_stop (Err _) _ refl c.loop.invariant.so_far

@@ -1,7 +1,7 @@
 use Rattle.std.proofs.Common.{ℕ, List, ◌++◌, subst}
 use Rattle.borsh_walks.specs.Container.{Member}
 use Rattle.borsh_plan.specs.Plan.{definitions_of, root_of}
-use Rattle.borsh_values.specs.Records.{held, reader_of}
+use Rattle.borsh_io.specs.Buffered.{held, reader_of}
 use Rattle.borsh_tool_commands.proofs.FrontLaws.{read-front}
 use Rattle.borsh_tool_commands.proofs.fronts.read_value.Goals as goal
 

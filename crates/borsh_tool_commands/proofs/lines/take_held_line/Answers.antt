@@ -1,6 +1,6 @@
 use Rattle.std.proofs.Common.{arith, ◌≡◌, ◌≢◌, ℕ, ◌-◌, ◌<◌, List, get_or, length, take, drop, refl, ap, ◌∙◌, subst}
 use Rattle.std.proofs.lemmas.List.{take_rest}
-use Rattle.borsh_values.specs.Records.{held}
+use Rattle.borsh_io.specs.Buffered.{held}
 use Rattle.borsh_tool_commands.proofs.LineLaws.{line-at, no-feed}
 use Rattle.borsh_tool_commands.proofs.lines.take_held_line.Goals as goal
 

@@ -1,6 +1,6 @@
 use Rattle.std.proofs.Common.{rules, arith, length, Ok, ap, ◌∙◌, subst}
 use Rattle.std.proofs.lemmas.Bool.Decides.{nat_tests}
-use Rattle.borsh_values.specs.Records.{ReadsMore, held}
+use Rattle.borsh_io.specs.Buffered.{ReadsMore, held}
 use Rattle.borsh_tool_commands.proofs.LineLaws.{line-found, reading-begins, reading-ends, reading-on}
 use Rattle.borsh_tool_commands.proofs.lines.take_line.Goals as goal
 

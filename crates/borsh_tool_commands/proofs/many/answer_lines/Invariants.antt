@@ -1,5 +1,5 @@
 -- The first lines are answered.
-use Rattle.borsh_values.specs.Records.{held, reader_of}
+use Rattle.borsh_io.specs.Buffered.{held, reader_of}
 use Rattle.borsh_tool_commands.specs.Lines.{IsFirstLine}
 use Rattle.borsh_tool_commands.specs.Many.{AnswersLine}
 use Rattle.borsh_tool_commands.proofs.ManyLaws.{SoFar}

@@ -6,8 +6,8 @@ use Rattle.borsh_tool_commands.specs.declared.failure.Failure.{Failure}
 use Rattle.borsh_tool_commands.specs.declared.failure.Failure.TheVariants.{OutOfMemory}
 use Rattle.borsh_json.specs.declared.output.Layout.TheVariants.{Compact}
 use Rattle.borsh_tool_commands.specs.Json.{IsJsonLine}
-use Rattle.borsh_tool_commands.specs.Many.{AnswersEach, FailsBy, Flushes, StopsAtValue, StopsNext, Writes, rest_of}
-use Rattle.borsh_tool_commands.specs.Failures.{IsNoJson}
+use Rattle.borsh_tool_commands.specs.Many.{AnswersEach, FailsBy, WritesMade, StopsAtValue, StopsNext, WritesAnswers, rest_of}
+use Rattle.borsh_tool_commands.specs.Failures.{IsJsonFailure}
 use Rattle.borsh_tool_commands.proofs.ManyLaws.{answered, begins-at, ends, goes_on, stops, stops-anyhow, stops-first, value-stops}
 use Rattle.borsh_tool_commands.proofs.StopLaws.{placed-stops, stop-led}
 use Rattle.borsh_tool_commands.proofs.many.decode_records.Goals as goal
@@ -21,7 +21,7 @@ returns-in_err-records g c =
     let bytes = (g.R.Read.stream c.args.input).bytes in
     let x = c.in_err-records.field-0.0 in
     let e : c.from_residual.result ≡ Err x = search rules in
-    subst (λ r. Writes (AnswersEach F P S bytes) g.W.Write.writing c.args.out.now c.args.out.now c.args.made.now.items r) (sym e)
+    subst (λ r. WritesAnswers (AnswersEach F P S bytes) g.W.Write.writing c.args.out.now c.args.out.now c.args.made.now.items r) (sym e)
     (stops-first g.met.W.Write.lawful F P S bytes c.args.out.now c.args.made.now.items x c.requires (λ left. stop-led c.args.many.now.path.now (λ y u. absurd u) (λ n. inr (inl (inr n))) (λ u. u) x c.in_err-records.ensures.err))
 
 pub loop-records-init : goal.loop-records-init
@@ -45,7 +45,7 @@ returns-in_err-next_record g c =
     let bytes = (g.R.Read.stream c.args.input).bytes in
     let x = c.in_err-next_record.field-0.0 in
     let e : c.from_residual-in_err-next_record.result ≡ Err x = search rules in
-    subst (λ r. Writes (AnswersEach F P S bytes) g.W.Write.writing c.args.out.now c.next_record.new.out c.next_record.new.made.items r) (sym e)
+    subst (λ r. WritesAnswers (AnswersEach F P S bytes) g.W.Write.writing c.args.out.now c.next_record.new.out c.next_record.new.made.items r) (sym e)
     (value-stops g.met.W.Write.lawful P (FailsBy g.R.Read.stream) c.args.many.now.path.now l bytes (g.R.Read.stream (source_of c.loop-records.records)) (g.R.Read.stream (source_of c.next_record.new.records)) (Err x) x c.loop-records.invariant.so_far
     (subst (λ k. StopsNext g.R.Read.stream c.args.many.now.path.now k.now c.loop-records.records c.next_record.new.records x) c.loop-records.invariant.plan c.in_err-next_record.ensures.stops) c.in_err-next_record.ensures.flushes (λ u. u))
 
@@ -58,8 +58,8 @@ returns-in_err-extend_from_slice-in-Ok g c =
     let bytes = (g.R.Read.stream c.args.input).bytes in
     let e : c.from_residual-in_err-extend_from_slice-in-Ok.result ≡ Err OutOfMemory = search rules in
     let same : c.extend_from_slice.new.self.items ≡ c.next_record.new.made.items = search rules in
-    let f = subst (λ m. Flushes g.W.Write.writing c.loop-records.out c.next_record.new.out c.loop-records.made.items m (Ok c.in_ok-next_record.field-0)) (sym same) c.in_ok-next_record.ensures.flushes in
-    subst (λ r. Writes (AnswersEach F P S bytes) g.W.Write.writing c.args.out.now c.next_record.new.out c.extend_from_slice.new.self.items r) (sym e)
+    let f = subst (λ m. WritesMade g.W.Write.writing c.loop-records.out c.next_record.new.out c.loop-records.made.items m (Ok c.in_ok-next_record.field-0)) (sym same) c.in_ok-next_record.ensures.flushes in
+    subst (λ r. WritesAnswers (AnswersEach F P S bytes) g.W.Write.writing c.args.out.now c.next_record.new.out c.extend_from_slice.new.self.items r) (sym e)
     (stops-anyhow g.met.W.Write.lawful F P S bytes (Ok c.in_ok-next_record.field-0) OutOfMemory c.loop-records.invariant.so_far f (λ u. absurd u) (λ left. tt))
 
 pub loop-records-smaller : goal.loop-records-smaller
@@ -77,7 +77,7 @@ loop-records-preserved g c =
     let new = c.next_record.new.records in
     let a = subst (λ b. Advances (definitions_of old.plan.now) (root_of old.plan.now) g.R.Read.stream old new (Ok b)) c.if-branch.true c.in_ok-next_record.ensures.advances in
     let b = subst (λ k. Advances (definitions_of k.now) (root_of k.now) g.R.Read.stream old new (Ok true)) c.loop-records.invariant.plan a in
-    let f = subst (λ b. Flushes g.W.Write.writing c.loop-records.out c.next_record.new.out c.loop-records.made.items c.next_record.new.made.items (Ok b)) c.if-branch.true c.in_ok-next_record.ensures.flushes in
+    let f = subst (λ b. WritesMade g.W.Write.writing c.loop-records.out c.next_record.new.out c.loop-records.made.items c.next_record.new.made.items (Ok b)) c.if-branch.true c.in_ok-next_record.ensures.flushes in
     let j = subst (λ v. IsJsonLine (map_of l) (root_of l) Compact v c.in-Ok.line.items) c.value.ensures c.in-Ok.ensures.ok in
     let e : c.extend_from_slice.new.self.items ≡ c.next_record.new.made.items ++ c.in-Ok.line.items = search rules in
     record {
@@ -94,7 +94,7 @@ returns-in-Err g c =
     let a = subst (λ b. Advances (definitions_of old.plan.now) (root_of old.plan.now) g.R.Read.stream old new (Ok b)) c.if-branch.true c.in_ok-next_record.ensures.advances in
     let b = subst (λ k. Advances (definitions_of k.now) (root_of k.now) g.R.Read.stream old new (Ok true)) c.loop-records.invariant.plan a in
     let rest = rest_of (g.R.Read.stream (source_of new)).bytes in
-    let no : IsNoJson (map_of l) (root_of l) c.args.many.now.path.now (value_of new) c.in-Err.failure = subst (λ v. IsNoJson (map_of l) (root_of l) c.args.many.now.path.now v c.in-Err.failure) c.value.ensures c.in-Err.ensures.err in
+    let no : IsJsonFailure (map_of l) (root_of l) c.args.many.now.path.now (value_of new) c.in-Err.failure = subst (λ v. IsJsonFailure (map_of l) (root_of l) c.args.many.now.path.now v c.in-Err.failure) c.value.ensures c.in-Err.ensures.err in
     stops g.met.W.Write.lawful (IsFirst (definitions_of l) (root_of l)) (IsJsonLine (map_of l) (root_of l) Compact) (StopsAtValue (FailsBy g.R.Read.stream) c.args.many.now.path.now l) (g.R.Read.stream c.args.input).bytes (Ok c.in_ok-next_record.field-0) c.placed.result (g.R.Read.stream (source_of new)).bytes b.read
     c.loop-records.invariant.so_far b.lost.bytes c.in_ok-next_record.ensures.flushes (λ u. absurd u)
     (stop-led c.args.many.now.path.now (λ y u. absurd u) (λ n. inr (inr (value_of new, ahead new ++ rest, b.goes.found refl rest, n))) (λ u. absurd u) c.placed.result (placed-stops c.args.many.now.path.now (λ _. ⊥) _ ⊥ c.in-Err.failure c.placed.result c.placed.ensures no))
@@ -106,6 +106,6 @@ returns g c =
     let new = c.next_record.new.records in
     let a = subst (λ b. Advances (definitions_of old.plan.now) (root_of old.plan.now) g.R.Read.stream old new (Ok b)) c.if-branch.false c.in_ok-next_record.ensures.advances in
     let b = subst (λ k. Advances (definitions_of k.now) (root_of k.now) g.R.Read.stream old new (Ok false)) c.loop-records.invariant.plan a in
-    let f = subst (λ b. Flushes g.W.Write.writing c.loop-records.out c.next_record.new.out c.loop-records.made.items c.next_record.new.made.items (Ok b)) c.if-branch.false c.in_ok-next_record.ensures.flushes in
+    let f = subst (λ b. WritesMade g.W.Write.writing c.loop-records.out c.next_record.new.out c.loop-records.made.items c.next_record.new.made.items (Ok b)) c.if-branch.false c.in_ok-next_record.ensures.flushes in
     let none = b.goes.none refl in
     ends g.met.W.Write.lawful (IsFirst (definitions_of l) (root_of l)) (IsJsonLine (map_of l) (root_of l) Compact) (StopsAtValue (FailsBy g.R.Read.stream) c.args.many.now.path.now l) (g.R.Read.stream c.args.input).bytes false (g.R.Read.stream (source_of new)).bytes b.read c.loop-records.invariant.so_far b.lost.bytes none.0 none.1 f

@@ -4,7 +4,7 @@ use Rattle.borsh_tool_commands.specs.declared.command.Form.TheVariants.{Records}
 use Rattle.borsh_tool_commands.specs.declared.failure.Failure.{Failure}
 use Rattle.borsh_tool_commands.specs.declared.many.Wanted.TheVariants.{Bytes}
 use Rattle.borsh_tool_commands.specs.Lines.{IsFirstLine}
-use Rattle.borsh_tool_commands.specs.Many.{AnswersLine, AnswersMany, FailsBy, IsNoRoot, StopsAtLine, Writes}
+use Rattle.borsh_tool_commands.specs.Many.{AnswersLine, AnswersMany, FailsBy, IsNoRoot, StopsAtLine, WritesAnswers}
 use Rattle.borsh_plan.specs.Plan.{definitions_of, root_of}
 use Rattle.borsh_tool_commands.proofs.ManyLaws.{held, other-root, stops-first, writes-as}
 use Rattle.borsh_tool_commands.proofs.StopLaws.{stop-led}
@@ -17,7 +17,7 @@ returns-in_err-_none g c =
     let M : List ℕ → Result Bool Failure → Type 0 = AnswersMany Encode Records c.args.many.now.is_strict (FailsBy g.R.Read.stream) c.args.many.now.path.now l bytes in
     let x = c.in_err-_none.field-0.0 in
     let e : c.from_residual.result ≡ Err x = search rules in
-    subst (λ r. Writes M g.W.Write.writing c.args.out.now c.args.out.now c.args.made.now.items r) (sym e)
+    subst (λ r. WritesAnswers M g.W.Write.writing c.args.out.now c.args.out.now c.args.made.now.items r) (sym e)
     (writes-as (stops-first g.met.W.Write.lawful IsFirstLine (AnswersLine l Bytes false) (StopsAtLine (FailsBy g.R.Read.stream) c.args.many.now.path.now l Bytes false (IsNoRoot (definitions_of l) (root_of l)) bytes) bytes c.args.out.now c.args.made.now.items x c.requires (λ left. stop-led c.args.many.now.path.now (λ y u. absurd u) inl (λ u. absurd u) x c.in_err-_none.ensures.err)) (λ out p. (p, tt)))
 
 pub returns : goal.returns

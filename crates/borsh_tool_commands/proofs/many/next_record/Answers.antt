@@ -2,7 +2,8 @@ use Rattle.std.proofs.Common.{rules, ◌++◌, refl, Ok, Err, true, false, subst
 use Rattle.std.specs.Prelude.{⊤}
 use Rattle.borsh_plan.specs.Plan.{definitions_of, root_of}
 use Rattle.std.specs.Io.KnownBytes.{IsAtEnd}
-use Rattle.borsh_values.specs.Records.{Advances, AdvancesHeld, IsRecordError, IsUnread, ahead, plan_of, source_of}
+use Rattle.borsh_io.specs.Buffered.{IsUnread}
+use Rattle.borsh_values.specs.Records.{Advances, AdvancesHeld, IsRecordError, ahead, plan_of, source_of}
 use Rattle.borsh_values.proofs.RecordLaws.{at_hand}
 use Rattle.borsh_tool_commands.proofs.ManyLaws.{not-flushed}
 use Rattle.borsh_tool_commands.proofs.StopLaws.{none-after, none-held, stop-led}

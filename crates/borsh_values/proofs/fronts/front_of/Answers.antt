@@ -1,5 +1,7 @@
 use Rattle.std.proofs.Common.{Ok, refl, subst}
-use Rattle.borsh_values.specs.Words.{definitions_of, root_of, Bor, Plan}
+use Rattle.borsh_plan.specs.Plan.{definitions_of, root_of}
+use Rattle.std.specs.Borrow.{Bor}
+use Rattle.borsh_plan.specs.declared.plan.Plan.{Plan}
 use Rattle.borsh_values.specs.Cursor.{IsAnswerOf, Moves}
 use Rattle.borsh_values.specs.Membership.{IsFrontAnswer}
 use Rattle.borsh_values.proofs.Stepping.{last_is, moves_on}

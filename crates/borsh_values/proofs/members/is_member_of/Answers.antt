@@ -1,5 +1,5 @@
 use Rattle.std.proofs.Common.{Ok}
-use Rattle.borsh_values.specs.Words.{definitions_of}
+use Rattle.borsh_plan.specs.Plan.{definitions_of}
 use Rattle.borsh_values.proofs.Answers.{answers}
 use Rattle.borsh_values.proofs.members.is_member_of.Goals as goal
 

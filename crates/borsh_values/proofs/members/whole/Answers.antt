@@ -1,5 +1,5 @@
 use Rattle.std.proofs.Common.{refl, subst}
-use Rattle.borsh_values.specs.Words.{definitions_of, root_of}
+use Rattle.borsh_plan.specs.Plan.{definitions_of, root_of}
 use Rattle.borsh_values.specs.Membership.{IsFrontAnswer}
 use Rattle.borsh_values.proofs.Answers.{all_taken, some_left, stopped, stopped_for_good}
 use Rattle.borsh_values.proofs.members.whole.Goals as goal

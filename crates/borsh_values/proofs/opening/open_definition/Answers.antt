@@ -1,11 +1,16 @@
 use Rattle.std.proofs.Common.{arith, subst, ◌∙◌, ap, sym, inl, inr, Some}
-use Rattle.std.proofs.lemmas.Result.{on_ok_weaker}
-use Rattle.borsh_values.specs.Words.{shape_of, IsPlaceOf, definitions_of, names_of}
+use Rattle.borsh_walks.specs.Definitions.{shape_of}
+use Rattle.borsh_plan.specs.{Names.IsPlaceOf, Plan.definitions_of, Plan.names_of}
 use Rattle.borsh_plan.proofs.Laws.{defined_at}
 use Rattle.borsh_values.proofs.Bytes.{small_bytes}
-use Rattle.borsh_values.proofs.TakesLaws.{opens_primitive, opens_product, opens_sequence, no_element}
+use Rattle.borsh_values.proofs.TakesLaws.{opens_primitive, opens_product, opens_sequence, no_element, refuses_primitive}
 use Rattle.borsh_values.proofs.TagLaws.{tables_kept}
 use Rattle.borsh_values.proofs.opening.open_definition.Goals as goal
+
+pub returns-then-bytes-size-clause-opened : goal.returns-then-bytes-size-clause-opened
+returns-then-bytes-size-clause-opened c =
+    let l = c.args.plan.now in
+    refuses_primitive (definitions_of l) (names_of l) c.args.at c.requires.within _ c.from-size.result (shape_of c.args.definition.now) c.args.bytes.now (ap (λ d. shape_of d) c.in-Primitive.is) c.from-size.ensures c.if-bytes-size.true
 
 pub returns-else-bytes-size-clause-opened : goal.returns-else-bytes-size-clause-opened
 returns-else-bytes-size-clause-opened c =
@@ -57,4 +62,4 @@ returns-in-Enum-clause-tables c =
     let l = c.args.plan.now in
     let d = defined_at l c.args.at c.requires.within in
     let e = ap (λ x. definitions_of l x) (sym c.requires.name) ∙ d ∙ c.requires.shape ∙ ap (λ d. Some (shape_of d)) c.in-Enum.is in
-    on_ok_weaker c.open_enum.result (λ k. tables_kept (definitions_of l) c.args.name.now _ _ c.args.tables.now c.open_enum.new.tables e c.requires.tables k) c.open_enum.ensures.kept
+    tables_kept (definitions_of l) c.args.name.now _ _ c.args.tables.now c.open_enum.new.tables e c.requires.tables c.open_enum.ensures.kept

@@ -1,7 +1,8 @@
-use Rattle.std.specs.Prelude.{Option, unwrap_or}
+use Rattle.std.specs.Prelude.{Option, unwrap_or, []}
 use Rattle.std.specs.Option.{SomeIff}
-use Rattle.std.proofs.Common.{None, Some, ℕ, ◌≡◌, ◌*◌, ◌<◌, ◌+◌, ◌∷◌, [], replicate, append-nil, subst, sym, ap, ◌∙◌, arith}
-use Rattle.borsh_values.specs.Words.{definitions_of, names_of, Parts, Passed, name_at}
+use Rattle.std.proofs.Common.{None, Some, ℕ, ◌≡◌, ◌*◌, ◌<◌, ◌+◌, ◌∷◌, replicate, append-nil, subst, sym, ap, ◌∙◌, arith}
+use Rattle.borsh_plan.specs.{Plan.definitions_of, Plan.names_of, Names.name_at}
+use Rattle.borsh_values.specs.declared.{frames.Rest.TheVariants.Parts, runs.Passed.Passed}
 use Rattle.borsh_values.specs.Cursor.{remaining}
 use Rattle.borsh_values.specs.Free.{FreeSize, FreeSizes, IsFreeFront}
 use Rattle.borsh_values.proofs.Walk.{some_step, parts_on, fits_parts, fits_copies}

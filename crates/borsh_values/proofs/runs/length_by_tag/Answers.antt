@@ -1,7 +1,8 @@
 use Rattle.std.proofs.Common.{◌+◌, ◌∙◌, ap, subst, sym, arith}
 use Rattle.std.specs.Prelude.{slice_get}
 use Rattle.borsh_plan.proofs.Laws.{defined_at}
-use Rattle.borsh_values.specs.Words.{definitions_of, names_of, One, name_at, parts_in}
+use Rattle.borsh_plan.specs.{Plan.definitions_of, Plan.names_of, Names.name_at, Names.parts_in}
+use Rattle.borsh_values.specs.declared.tags.Found.TheVariants.{One}
 use Rattle.borsh_values.specs.Tags.{FoundAs}
 use Rattle.borsh_values.specs.Free.{IsTagLength}
 use Rattle.borsh_values.proofs.TagLaws.{unnamed}

@@ -1,7 +1,8 @@
-use Rattle.std.proofs.Common.{◌+◌, ◌∷◌, [], subst, sym, arith}
+use Rattle.std.proofs.Common.{◌+◌, ◌∷◌, subst, sym, arith, []}
 use Rattle.std.proofs.lemmas.Option.{slice_get_within}
 use Rattle.borsh_walks.proofs.Spots.{take_more, take_whole}
-use Rattle.borsh_values.specs.Words.{name_at, parts_in, shape_at, definitions_of, names_of}
+use Rattle.borsh_plan.specs.Names.{name_at, parts_in, shape_at}
+use Rattle.borsh_plan.specs.Plan.{definitions_of, names_of}
 use Rattle.borsh_values.specs.Free.{AreFirst}
 use Rattle.borsh_values.proofs.FreeLaws.{first_no_parts, first_more}
 use Rattle.borsh_values.proofs.runs.parts_length.Goals as goal

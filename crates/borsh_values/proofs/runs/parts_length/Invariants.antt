@@ -1,5 +1,5 @@
 use Rattle.std.proofs.Common.{◌-◌, length, take}
-use Rattle.borsh_values.specs.Words.{parts_in, shape_at, definitions_of, names_of}
+use Rattle.borsh_plan.specs.{Names.parts_in, Names.shape_at, Plan.definitions_of, Plan.names_of}
 use Rattle.borsh_values.specs.Free.{AreFirst}
 use Rattle.borsh_values.proofs.runs.parts_length.Given as goal
 

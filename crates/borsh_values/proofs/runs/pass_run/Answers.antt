@@ -1,4 +1,4 @@
-use Rattle.borsh_values.specs.Words.{definitions_of, names_of}
+use Rattle.borsh_plan.specs.Plan.{definitions_of, names_of}
 use Rattle.borsh_values.proofs.FreeLaws.{run_passes}
 use Rattle.borsh_values.proofs.runs.pass_run.Goals as goal
 

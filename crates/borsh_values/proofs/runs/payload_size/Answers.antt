@@ -1,5 +1,6 @@
 use Rattle.std.proofs.Common.{◌∙◌, ap, subst, sym}
-use Rattle.borsh_values.specs.Words.{shape_of, parts_in, shape_at, definitions_of, names_of}
+use Rattle.borsh_walks.specs.Definitions.{shape_of}
+use Rattle.borsh_plan.specs.{Names.parts_in, Names.shape_at, Plan.definitions_of, Plan.names_of}
 use Rattle.borsh_plan.proofs.Laws.{defined_at}
 use Rattle.borsh_values.specs.Free.{FreeSizes}
 use Rattle.borsh_values.proofs.FreeLaws.{free_none, free_named, free_parts, size_free, no_first}

@@ -1,8 +1,8 @@
-use Rattle.std.proofs.Common.{◌≡◌, ◌<◌, ◌∷◌, [], subst, sym, arith, Some, inl, inr}
+use Rattle.std.proofs.Common.{◌≡◌, ◌<◌, ◌∷◌, subst, sym, arith, Some, inl, inr, []}
 use Rattle.std.specs.Prelude.{All, IfSome, slice_get}
 use Rattle.std.proofs.lemmas.List.Elements.{All-drop}
-use Rattle.borsh_values.specs.Words.{name_at, definitions_of, names_of}
-use Rattle.borsh_values.specs.Free.{AreFirst, IsRight, IsTagLength}
+use Rattle.borsh_plan.specs.{Names.name_at, Plan.definitions_of, Plan.names_of}
+use Rattle.borsh_values.specs.Free.{AreFirst, IsRightLength, IsTagLength}
 use Rattle.borsh_values.proofs.Bytes.{small_bytes}
 use Rattle.borsh_values.proofs.FreeLaws.{first_none, first_by_tag, first_copy}
 use Rattle.borsh_values.proofs.runs.run_of_enums.Goals as goal
@@ -27,5 +27,5 @@ loop-values-preserved c =
       few = omega arith;
       first = first_copy C x c.args.left.now c.loop-values.values c.loop-values.taken n i.first (subst (λ b. AreFirst C (x ∷ []) b n) c.after-next.ensures first);
       last = right;
-      other = elim c.kept-other.ensures [ inl e ↦ subst (λ t. IsRight C x t) (sym e) i.last | inr e ↦ subst (λ t. IsRight C x t) (sym e) i.other ];
+      other = elim c.kept-other.ensures [ inl e ↦ subst (λ t. IsRightLength C x t) (sym e) i.last | inr e ↦ subst (λ t. IsRightLength C x t) (sym e) i.other ];
     }

@@ -1,14 +1,14 @@
 use Rattle.std.proofs.Common.{◌-◌, ◌≤◌, replicate}
-use Rattle.borsh_values.specs.Words.{name_at, definitions_of, names_of}
-use Rattle.borsh_values.specs.Free.{AreFirst, IsRight}
+use Rattle.borsh_plan.specs.{Names.name_at, Plan.definitions_of, Plan.names_of}
+use Rattle.borsh_values.specs.Free.{AreFirst, IsRightLength}
 use Rattle.borsh_values.proofs.runs.run_of_enums.Given as goal
 
 abbrev pub invariant-loop-values : goal.invariant-loop-values
 invariant-loop-values l = record {
   few : l.values ≤ l.count;
   first : AreFirst (definitions_of l.plan) (replicate l.values (name_at (names_of l.plan) l.at)) l.left l.taken;
-  last : IsRight (definitions_of l.plan) (name_at (names_of l.plan) l.at) l.last;
-  other : IsRight (definitions_of l.plan) (name_at (names_of l.plan) l.at) l.other;
+  last : IsRightLength (definitions_of l.plan) (name_at (names_of l.plan) l.at) l.last;
+  other : IsRightLength (definitions_of l.plan) (name_at (names_of l.plan) l.at) l.other;
 }
 
 abbrev pub decreases-loop-values : goal.decreases-loop-values

@@ -1,5 +1,6 @@
-use Rattle.std.proofs.Common.{◌∷◌, [], ◌∙◌, subst, arith}
-use Rattle.borsh_values.specs.Words.{name_at, parts_in, shape_at, definitions_of, names_of}
+use Rattle.std.proofs.Common.{◌∷◌, ◌∙◌, subst, arith, []}
+use Rattle.borsh_plan.specs.Names.{name_at, parts_in, shape_at}
+use Rattle.borsh_plan.specs.Plan.{definitions_of, names_of}
 use Rattle.borsh_plan.proofs.Laws.{defined_at}
 use Rattle.borsh_values.specs.Free.{AreFirst}
 use Rattle.borsh_values.proofs.FreeLaws.{first_none, first_product, first_copy}

@@ -1,5 +1,5 @@
 use Rattle.std.proofs.Common.{◌-◌, ◌≤◌, replicate}
-use Rattle.borsh_values.specs.Words.{name_at, definitions_of, names_of}
+use Rattle.borsh_plan.specs.{Names.name_at, Plan.definitions_of, Plan.names_of}
 use Rattle.borsh_values.specs.Free.{AreFirst}
 use Rattle.borsh_values.proofs.runs.run_of_products.Given as goal
 

@@ -1,5 +1,7 @@
 use Rattle.std.proofs.Common.{◌∙◌, ap, sym, subst, arith}
-use Rattle.borsh_values.specs.Words.{shape_of, name_at, definitions_of, names_of, Copies}
+use Rattle.borsh_walks.specs.Definitions.{shape_of}
+use Rattle.borsh_plan.specs.{Names.name_at, Plan.definitions_of, Plan.names_of}
+use Rattle.borsh_values.specs.declared.frames.Rest.TheVariants.{Copies}
 use Rattle.borsh_plan.proofs.Laws.{defined_at}
 use Rattle.borsh_values.specs.Free.{FreeSize}
 use Rattle.borsh_values.specs.Cursor.{OpensAs, Takes, remaining}

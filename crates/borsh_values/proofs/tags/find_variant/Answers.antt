@@ -1,7 +1,7 @@
-use Rattle.std.proofs.Common.{◌≡◌, ◌+◌, ℕ, ℤ, List, length, length-take-le, take, refl, sym, ◌∙◌, subst, arith, ◌∷◌, [], ◌++◌, true, false}
+use Rattle.std.proofs.Common.{◌≡◌, ◌+◌, ℕ, ℤ, List, [], length, length-take-le, take, refl, sym, ◌∙◌, subst, arith, ◌∷◌, ◌++◌, true, false}
 use Rattle.std.specs.Prelude.{string_bytes}
 use Rattle.std.proofs.lemmas.List.{length-map}
-use Rattle.borsh_values.specs.Words.{tag}
+use Rattle.borsh_walks.specs.Container.{tag}
 use Rattle.borsh_values.specs.Tags.{FoundAs}
 use Rattle.borsh_values.proofs.TagLaws.{unnamed, got, got_none, found_more, found_same}
 use Rattle.borsh_values.proofs.tags.find_variant.Goals as goal

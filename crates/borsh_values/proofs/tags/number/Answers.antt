@@ -1,6 +1,6 @@
 use Rattle.std.proofs.Common.{◌≡◌, ℕ, suc, zero, ◌^◌, ◌<◌, ◌≤◌, length, drop, List, refl, sym, ◌∙◌, ap, subst, arith, length-drop}
-use Rattle.borsh_values.specs.Words.{low_bytes}
-use Rattle.borsh_values.specs.Tags.{value_of}
+use Rattle.borsh_walks.specs.Container.{little_endian}
+use Rattle.borsh_values.specs.Tags.{number_of}
 use Rattle.borsh_values.proofs.TagLaws.{value_written, value_small, value_under, drop_bytes}
 use Rattle.borsh_values.proofs.tags.number.Goals as goal
 
@@ -25,10 +25,10 @@ all_of (suc n) bs h = absurd (omega arith)
 
 pub returns-clause-written : goal.returns-clause-written
 returns-clause-written c =
-    let e = c.loop-place.invariant.value ∙ ap (λ l. value_of l) (all_of c.loop-place.place c.args.bytes.now (omega arith)) in
-    ap (λ n. low_bytes (length c.args.bytes.now) n) e ∙ value_written c.args.bytes.now (λ i h. let b = c.type_inv.bytes i in omega (arith, b))
+    let e = c.loop-place.invariant.value ∙ ap (λ l. number_of l) (all_of c.loop-place.place c.args.bytes.now (omega arith)) in
+    ap (λ n. little_endian (length c.args.bytes.now) n) e ∙ value_written c.args.bytes.now (λ i h. let b = c.type_inv.bytes i in omega (arith, b))
 
 pub returns-clause-small : goal.returns-clause-small
 returns-clause-small c =
-    let e = c.loop-place.invariant.value ∙ ap (λ l. value_of l) (all_of c.loop-place.place c.args.bytes.now (omega arith)) in
+    let e = c.loop-place.invariant.value ∙ ap (λ l. number_of l) (all_of c.loop-place.place c.args.bytes.now (omega arith)) in
     subst (λ n. n < 256 ^ length c.args.bytes.now) (sym e) (value_small c.args.bytes.now (λ i h. let b = c.type_inv.bytes i in omega (arith, b)))

@@ -1,6 +1,7 @@
-use Rattle.std.proofs.Common.{◌≡◌, ◌∙◌, ℕ, length, take, List, sym, ap, subst, arith, [], length-take-le, false, ℤ}
+use Rattle.std.proofs.Common.{◌≡◌, ◌∙◌, ℕ, length, take, List, [], sym, ap, subst, arith, length-take-le, false, ℤ}
 use Rattle.std.specs.Prelude.{string_bytes, unwrap_or}
-use Rattle.borsh_values.specs.Words.{nat_cmp, is_eq, lookup, BTreeMap, is_at, Found, Nothing}
+use Rattle.std.specs.{Ordering.nat_cmp, Ordering.is_eq, Map.lookup, BTreeMap.BTreeMap, BTreeMap.is_at}
+use Rattle.borsh_values.specs.declared.{tags.Found.Found, tags.Found.TheVariants.Nothing}
 use Rattle.std.proofs.lemmas.Bool.Decides.{nat_tests}
 use Rattle.std.proofs.lemmas.List.{length-map}
 use Rattle.borsh_values.specs.Tags.{IsTagTable, at_key, more_found}

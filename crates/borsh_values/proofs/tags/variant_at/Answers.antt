@@ -1,6 +1,6 @@
-use Rattle.std.proofs.Common.{◌≡◌, ℕ, length, take, List, refl, sym, subst, arith, ◌∷◌, [], ℤ, true, false, inl, inr}
+use Rattle.std.proofs.Common.{◌≡◌, length, take, refl, sym, subst, arith, ◌∷◌, true, false, inl, inr, []}
 use Rattle.std.specs.Prelude.{string_bytes}
-use Rattle.borsh_values.specs.Words.{IsListedVariant, tag}
+use Rattle.borsh_walks.specs.Container.{IsListedVariant, tag}
 use Rattle.borsh_values.proofs.TagLaws.{unnamed, got, got_none, listed_append, listed_one}
 use Rattle.borsh_values.proofs.tags.variant_at.Goals as goal
 

@@ -1,6 +1,6 @@
 use Rattle.std.proofs.Common.{◌≡◌, ℕ, ◌-◌, ◌≤◌, List, length, take, map, ℤ}
 use Rattle.std.specs.Prelude.{string_bytes}
-use Rattle.borsh_values.specs.Words.{IsListedVariant, tag}
+use Rattle.borsh_walks.specs.Container.{IsListedVariant, tag}
 use Rattle.borsh_values.proofs.tags.variant_at.Given as goal
 
 abbrev pub invariant-loop-discriminant : goal.invariant-loop-discriminant

@@ -1,5 +1,7 @@
 use Rattle.std.proofs.Common.{◌∙◌, ◌<◌, length, sym, subst, arith}
-use Rattle.borsh_values.specs.Words.{shape_of, name_at, definitions_of, names_of, root_of}
+use Rattle.borsh_walks.specs.Definitions.{shape_of}
+use Rattle.borsh_plan.specs.Plan.{definitions_of, names_of, root_of}
+use Rattle.borsh_plan.specs.Names.{name_at}
 use Rattle.borsh_plan.proofs.Laws.{defined, defined_at, has_place, of_plan, reached}
 use Rattle.borsh_plan.proofs.Places.{name_is, name_there}
 use Rattle.borsh_values.specs.Membership.{IsAmbiguousName}

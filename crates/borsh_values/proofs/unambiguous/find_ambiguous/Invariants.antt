@@ -1,5 +1,6 @@
 use Rattle.std.proofs.Common.{◌≡◌, ◌<◌, ◌-◌, ℕ, length, Some}
-use Rattle.borsh_values.specs.Words.{Shape, shape_at, names_of}
+use Rattle.borsh_walks.specs.Container.{Shape}
+use Rattle.borsh_plan.specs.{Names.shape_at, Plan.names_of}
 use Rattle.borsh_values.specs.Unambiguous.{UnambiguousShape}
 use Rattle.borsh_values.proofs.unambiguous.find_ambiguous.Given as goal
 

@@ -1,6 +1,10 @@
-use Rattle.std.proofs.Common.{◌≡◌, ◌∙◌, ◌+◌, ℕ, length, length-take-le, take, drop, List, Some, refl, sym, ap, subst, arith, ◌∷◌, [], ◌++◌, ℤ, true, false, inl, inr, take-append-drop}
+use Rattle.std.proofs.Common.{◌≡◌, ◌∙◌, ◌+◌, ℕ, length, length-take-le, take, drop, List, [], Some, refl, sym, ap, subst, arith, ◌∷◌, ◌++◌, ℤ, true, false, inl, inr, take-append-drop}
 use Rattle.std.specs.Prelude.{None, Option, is_some, string_bytes, unwrap_or}
-use Rattle.borsh_values.specs.Words.{BTreeMap, get, is_at, lookup, nat_cmp, is_eq, tag, Found, Nothing, One, Several}
+use Rattle.std.specs.BTreeMap.{BTreeMap, get, is_at}
+use Rattle.std.specs.{Map.lookup, Ordering.nat_cmp, Ordering.is_eq}
+use Rattle.borsh_walks.specs.Container.{tag}
+use Rattle.borsh_values.specs.declared.tags.Found.TheVariants.{Nothing, One, Several}
+use Rattle.borsh_values.specs.declared.tags.Found.{Found}
 use Rattle.std.proofs.lemmas.Bool.Decides.{nat_tests}
 use Rattle.std.proofs.lemmas.Bool.{cases_eq}
 use Rattle.std.proofs.lemmas.List.{length-map}

@@ -1,5 +1,6 @@
 use Rattle.std.proofs.Common.{◌≡◌, ◌-◌, ◌≤◌, ℕ, Some, length, take, map}
-use Rattle.borsh_values.specs.Words.{get, nat_cmp, Nothing}
+use Rattle.std.specs.{BTreeMap.get, Ordering.nat_cmp}
+use Rattle.borsh_values.specs.declared.tags.Found.TheVariants.{Nothing}
 use Rattle.std.specs.Prelude.{string_bytes}
 use Rattle.borsh_values.specs.Tags.{IsTagTable, at_key}
 use Rattle.borsh_values.specs.Unambiguous.{DistinctTags}

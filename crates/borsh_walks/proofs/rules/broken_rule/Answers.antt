@@ -4,7 +4,7 @@ use Rattle.borsh_walks.specs.Container.{IsZeroSize}
 use Rattle.borsh_walks.specs.Definitions.{shape_of}
 use Rattle.borsh_walks.proofs.RulesLaws.{breaks, breaks_zero, keeps_all}
 use Rattle.borsh_walks.proofs.Counting.{on_err}
-use Rattle.borsh_walks.proofs.ZeroGlue.{counted_same, counted_by}
+use Rattle.borsh_walks.proofs.ZeroExits.{counted_same, counted_by}
 use Rattle.borsh_walks.proofs.rules.broken_rule.Goals as goal
 
 pub returns-in-Some-clause-answer : goal.returns-in-Some-clause-answer

@@ -1,20 +1,20 @@
-use Rattle.std.proofs.Common.{◌≡◌, ℕ, suc, List, ◌∷◌, length, reverse, Some, None, refl, sym, ◌∙◌, ap, subst, arith, ◌⊎◌, true}
-use Rattle.std.specs.Prelude.{Option, MatchOption}
+use Rattle.std.proofs.Common.{◌≡◌, ℕ, suc, List, ◌∷◌, length, reverse, Some, None, refl, sym, ◌∙◌, ap, subst, arith, ◌⊎◌, inl, inr, true, false, Bool}
+use Rattle.std.specs.Prelude.{Option, MatchOption, is_some}
 use Rattle.std.specs.BTreeMap.{btree_map_len}
 use Rattle.borsh_walks.specs.Container.{IsIn, IsDefined, is_missing, missing_definition}
 use Rattle.borsh_walks.specs.Counts.{counts_of, definitions_of, add_to}
 use Rattle.borsh_walks.specs.Definitions.{definitions_in, shape_of}
 use Rattle.borsh_walks.specs.declared.counted.Question.TheVariants.{Rules, Zero}
 use Rattle.borsh_walks.specs.ZeroAnswer.{ZeroTable}
-use Rattle.borsh_walks.specs.Tables.{IsMarked}
+use Rattle.borsh_walks.specs.Tables.{IsMarked, mark_at}
 use Rattle.borsh_walks.specs.RulesAnswer.{RuleAnswer, ElementMarked, ElementReaches, rule_of}
 use Rattle.borsh_walks.specs.declared.stack.Spot.{Spot}
 use Rattle.borsh_walks.proofs.RulesLaws.{rules_fault}
-use Rattle.borsh_walks.proofs.Names.{found_shape, found_none, also_known}
-use Rattle.borsh_walks.proofs.Tables.{updated_by, still, grown, more_names}
+use Rattle.borsh_walks.proofs.Names.{found_shape, found_none, also_known, name_cases}
+use Rattle.borsh_walks.proofs.Tables.{updated_at, found_at, still, grown, kept, more_names}
 use Rattle.borsh_walks.proofs.Spots.{last_first}
 use Rattle.borsh_walks.proofs.Counting.{on_err}
-use Rattle.borsh_walks.proofs.RulesGlue.{both_more, rules_visit, zeros_known}
+use Rattle.borsh_walks.proofs.RulesSteps.{both_more, rules_visit, zeros_known}
 use Rattle.borsh_walks.proofs.rules.visit.Goals as goal
 
 pub returns-in_default-clause-visited : goal.returns-in_default-clause-visited
@@ -39,7 +39,7 @@ returns-in_err-broken-clause-counts c = λ root s r n base h.
     let zeros = zeros_known C root c.args.table.now c.args.name.now (shape_of c.in-Some.definition.now) r e s.zeros_reached (subst (λ m. (x : List ℕ) → IsIn x z.names → IsDefined (definitions_in m.now) x × (IsMarked c.args.table.now x ⊎ ElementReaches (definitions_in m.now) (shape_of c.in-Some.definition.now) x)) c.in-Some.ensures.same.0 z.known) in
     let k = z.counts (add_to Rules (suc (btree_map_len c.args.seen.now)) base) (both_more (btree_map_len c.args.seen.now) (btree_map_len c.args.table.now) (counts_of c.args.counted.now) (counts_of c.look.new.self) base h c.in-Some.ensures.counts) in
     let same = ap (λ i. add_to Rules (suc i) (add_to Zero (length z.names) base)) s.len in
-    (c.args.name.now ∷ s.names, z.names, (more.0, known), (z.once, zeros), k ∙ same, on_err _ c.from_residual.result c.from_residual.ensures.0)
+    (c.args.name.now ∷ s.names, z.names, (more.0, known), (z.once, zeros), k ∙ same, on_err _ c.from_residual-in_err-broken.result c.from_residual-in_err-broken.ensures.0)
 
 pub returns-in-Some-2-clause-visited : goal.returns-in-Some-2-clause-visited
 returns-in-Some-2-clause-visited c = λ root s r n.
@@ -63,15 +63,39 @@ returns-in-Some-2-clause-counts c = λ root s r n base h.
 
 pub returns-in_err-insert-clause-counts : goal.returns-in_err-insert-clause-counts
 returns-in_err-insert-clause-counts c = λ root s r n base h.
-    let C = definitions_of c.args.counted.now in
-    let e = found_shape c.args.counted.now.map c.args.counted.now.map c.args.name.now c.in-Some.definition.now refl c.in-Some.ensures.found in
-    let more = more_names (definitions_of c.args.counted.now) (λ x k. k.2) s.marks n e in
-    let known = also_known (r, (_, e)) (λ x a. (let k = (s.marks.looked x a).1 in (k.0, k.2))) in
-    let z = c.in_ok-broken.ensures.counts in
-    let zeros = zeros_known C root c.args.table.now c.args.name.now (shape_of c.in-Some.definition.now) r e s.zeros_reached (subst (λ m. (x : List ℕ) → IsIn x z.names → IsDefined (definitions_in m.now) x × (IsMarked c.args.table.now x ⊎ ElementReaches (definitions_in m.now) (shape_of c.in-Some.definition.now) x)) c.in-Some.ensures.same.0 z.known) in
-    let k = z.counts (add_to Rules (suc (btree_map_len c.args.seen.now)) base) (both_more (btree_map_len c.args.seen.now) (btree_map_len c.args.table.now) (counts_of c.args.counted.now) (counts_of c.look.new.self) base h c.in-Some.ensures.counts) in
-    let same = ap (λ i. add_to Rules (suc i) (add_to Zero (length z.names) base)) s.len in
-    (c.args.name.now ∷ s.names, z.names, (more.0, known), (z.once, zeros), k ∙ same, on_err _ c.from_residual-in_err-insert.result c.from_residual-in_err-insert.ensures.0)
+    let same = ap (λ i. add_to Rules i (add_to Zero (btree_map_len c.args.table.now) base)) s.len ∙ ap (λ i. add_to Rules (length s.names) (add_to Zero i base)) s.zero.len in
+    (s.names, s.zero.names, (s.marks.distinct, λ x a. (let k = (s.marks.looked x a).1 in (k.0, k.2))), (s.zero.marks.distinct, λ x a. (let k = s.zero.marks.looked x a in (s.zeros_reached x k.0, k.1))), h ∙ same, on_err _ c.from_residual.result c.from_residual.ensures.0)
+
+pub returns-in_err-insert-clause-again : goal.returns-in_err-insert-clause-again
+returns-in_err-insert-clause-again c = λ f.
+    absurd (f (sym (found_at c.args.name c.key_of.result c.args.seen.now c.key_of.ensures (sym c.in_err-insert.ensures.absent))))
+
+was_none : {X : Type 0} (o : Option X) (b : Bool) → b ≡ is_some o → b ≡ false → o ≡ None
+was_none None b e f = refl
+was_none (Some x) b e f = cc
+
+was_some : {X : Type 0} (o : Option X) (b : Bool) → b ≡ is_some o → b ≡ true → o ≡ None → ⊥
+was_some None b e f h = cc
+was_some (Some x) b e f h = cc
+
+pub returns-then-is_some-clause-visited : goal.returns-then-is_some-clause-visited
+returns-then-is_some-clause-visited c = λ root s r n.
+    absurd (was_some c.in_ok-insert.field-0 c.is_some.result c.is_some.ensures c.if-is_some.true (found_at c.args.name c.key_of.result c.args.seen.now c.key_of.ensures c.in_ok-insert.ensures.old ∙ n))
+
+pub returns-then-is_some-clause-again : goal.returns-then-is_some-clause-again
+returns-then-is_some-clause-again c = λ f.
+    let u = updated_at c.args.name c.key_of.result c.args.seen.now c.insert.new.self true c.key_of.ensures c.in_ok-insert.ensures.updates in
+    record {
+      seen = record {
+        kept = still u;
+        known = λ x g h. elim (name_cases x c.args.name.now) [ inl q ↦ f (subst (λ y. mark_at c.args.seen.now y ≡ None) q h) | inr q ↦ g (u.others x q ∙ h) ];
+        len = kept c.in_ok-insert.field-0 c.in_ok-insert.ensures.len (was_some c.in_ok-insert.field-0 c.is_some.result c.is_some.ensures c.if-is_some.true);
+      };
+      waiting = refl;
+      zeros = refl;
+      counts = refl;
+      ok = refl;
+    }
 
 pub returns-in_err-push-clause-counts : goal.returns-in_err-push-clause-counts
 returns-in_err-push-clause-counts c = λ root s r n base h.
@@ -100,8 +124,8 @@ returns-clause-visited c = λ root s r n.
     let t = subst (λ m. ZeroTable (definitions_in m.now) c.broken_rule.new.table) c.in-Some.ensures.same.0 c.in_ok-broken.ensures.table in
     let k = subst (λ m. MatchOption c.in_ok-broken.field-0 (ElementMarked (definitions_in m.now) d c.args.table.now c.broken_rule.new.table) (λ _. Unit {0})) c.in-Some.ensures.same.0 c.in_ok-broken.ensures.marked in
     let marks = subst (λ o. MatchOption o (ElementMarked C d c.args.table.now c.broken_rule.new.table) (λ _. Unit {0})) none k in
-    let u = updated_by c.args.name.now c.args.seen.now c.insert.new.self true c.in_ok-insert.ensures.updates in
-    let len = grown c.in_ok-insert.field-0 c.in_ok-insert.ensures.len (c.in_ok-insert.ensures.old ∙ n) in
+    let u = updated_at c.args.name c.key_of.result c.args.seen.now c.insert.new.self true c.key_of.ensures c.in_ok-insert.ensures.updates in
+    let len = grown c.in_ok-insert.field-0 c.in_ok-insert.ensures.len (found_at c.args.name c.key_of.result c.args.seen.now c.key_of.ensures c.in_ok-insert.ensures.old ∙ n) in
     let g : Spot = record { name = c.args.name; definition = c.in-Some.definition; next = 0 } in
     let z = c.in_ok-broken.ensures.counts in
     let zeros = zeros_known C root c.args.table.now c.args.name.now d r e s.zeros_reached (subst (λ m. (x : List ℕ) → IsIn x z.names → IsDefined (definitions_in m.now) x × (IsMarked c.args.table.now x ⊎ ElementReaches (definitions_in m.now) d x)) c.in-Some.ensures.same.0 z.known) in
@@ -120,6 +144,26 @@ returns-clause-counts c = λ root s r n base h.
     let z = c.in_ok-broken.ensures.counts in
     let zeros = zeros_known C root c.args.table.now c.args.name.now (shape_of c.in-Some.definition.now) r e s.zeros_reached (subst (λ m. (x : List ℕ) → IsIn x z.names → IsDefined (definitions_in m.now) x × (IsMarked c.args.table.now x ⊎ ElementReaches (definitions_in m.now) (shape_of c.in-Some.definition.now) x)) c.in-Some.ensures.same.0 z.known) in
     let k = z.counts (add_to Rules (suc (btree_map_len c.args.seen.now)) base) (both_more (btree_map_len c.args.seen.now) (btree_map_len c.args.table.now) (counts_of c.args.counted.now) (counts_of c.look.new.self) base h c.in-Some.ensures.counts) in
-    let len = grown c.in_ok-insert.field-0 c.in_ok-insert.ensures.len (c.in_ok-insert.ensures.old ∙ n) in
+    let len = grown c.in_ok-insert.field-0 c.in_ok-insert.ensures.len (found_at c.args.name c.key_of.result c.args.seen.now c.key_of.ensures c.in_ok-insert.ensures.old ∙ n) in
     let same = ap (λ i. add_to Rules (suc i) (add_to Zero (length z.names) base)) s.len in
     (c.args.name.now ∷ s.names, z.names, (more.0, known), (z.once, zeros), k ∙ same, (ap suc (sym s.len) ∙ sym len, z.all.0))
+
+pub returns-in_default-clause-again : goal.returns-in_default-clause-again
+returns-in_default-clause-again c = λ f.
+    absurd (f (sym (found_at c.args.name c.key_of.result c.args.seen.now c.key_of.ensures c.in_ok-insert.ensures.old) ∙ was_none c.in_ok-insert.field-0 c.is_some.result c.is_some.ensures c.if-is_some.false))
+
+pub returns-in_err-broken-clause-again : goal.returns-in_err-broken-clause-again
+returns-in_err-broken-clause-again c = λ f.
+    absurd (f (sym (found_at c.args.name c.key_of.result c.args.seen.now c.key_of.ensures c.in_ok-insert.ensures.old) ∙ was_none c.in_ok-insert.field-0 c.is_some.result c.is_some.ensures c.if-is_some.false))
+
+pub returns-in-Some-2-clause-again : goal.returns-in-Some-2-clause-again
+returns-in-Some-2-clause-again c = λ f.
+    absurd (f (sym (found_at c.args.name c.key_of.result c.args.seen.now c.key_of.ensures c.in_ok-insert.ensures.old) ∙ was_none c.in_ok-insert.field-0 c.is_some.result c.is_some.ensures c.if-is_some.false))
+
+pub returns-in_err-push-clause-again : goal.returns-in_err-push-clause-again
+returns-in_err-push-clause-again c = λ f.
+    absurd (f (sym (found_at c.args.name c.key_of.result c.args.seen.now c.key_of.ensures c.in_ok-insert.ensures.old) ∙ was_none c.in_ok-insert.field-0 c.is_some.result c.is_some.ensures c.if-is_some.false))
+
+pub returns-clause-again : goal.returns-clause-again
+returns-clause-again c = λ f.
+    absurd (f (sym (found_at c.args.name c.key_of.result c.args.seen.now c.key_of.ensures c.in_ok-insert.ensures.old) ∙ was_none c.in_ok-insert.field-0 c.is_some.result c.is_some.ensures c.if-is_some.false))

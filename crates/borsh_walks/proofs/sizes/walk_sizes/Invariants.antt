@@ -3,18 +3,19 @@ use Rattle.std.specs.BTreeMap.{btree_map_len}
 use Rattle.borsh_walks.specs.Counts.{counts_of, definitions_of, LooksOn, add_to}
 use Rattle.borsh_walks.specs.declared.counted.Question.TheVariants.{Size}
 use Rattle.borsh_walks.specs.Container.{size_references}
-use Rattle.borsh_walks.specs.Tables.{mark_of}
+use Rattle.borsh_walks.specs.Tables.{mark_at}
 use Rattle.borsh_walks.proofs.Measure.{left}
-use Rattle.borsh_walks.proofs.SizeWalk.{spots_of, State}
+use Rattle.borsh_walks.proofs.SizeWalk.{AllSmall, spots_of, State}
 use Rattle.borsh_walks.proofs.sizes.walk_sizes.Given as goal
 
 abbrev pub invariant-loop-part : goal.invariant-loop-part
 invariant-loop-part l = record {
   names : List (List ℕ);
-  state : State (definitions_of l.fn.counted) l.root (mark_of l.table) (reverse l.stack.items) l.frame names;
+  state : State (definitions_of l.fn.counted) l.root (mark_at l.table) (reverse l.stack.items) l.frame names;
   looks : counts_of l.counted ≡ add_to Size (length names) (counts_of l.fn.counted);
   same : LooksOn l.fn.counted l.counted;
   table_len : btree_map_len l.table ≡ length names;
+  small : AllSmall (reverse l.stack.items);
 }
 
 abbrev pub decreases-loop-part : goal.decreases-loop-part

@@ -12,7 +12,7 @@ use Rattle.borsh_walks.proofs.Measure.{rests, rests_moved, left_popped, left_pus
 use Rattle.borsh_walks.proofs.Spots.{last_first}
 use Rattle.borsh_walks.proofs.Counting.{raised_once_more, on_err}
 use Rattle.borsh_walks.proofs.ZeroWalk.{ZeroState, zero_start, zero_moved, zero_push, zero_pop, zero_end, zero_never, zero_part_false, zero_part_missing, zero_last, zero_next}
-use Rattle.borsh_walks.proofs.ZeroGlue.{none_is, some_is, table_false, answer_false, in_names, counted_names, counted_more, counted_same}
+use Rattle.borsh_walks.proofs.ZeroExits.{none_is, some_is, table_false, answer_false, in_names, counted_names, counted_more, counted_same}
 use Rattle.borsh_walks.proofs.zero.is_zero.Goals as goal
 
 pub returns-in-Some-clause-counts : goal.returns-in-Some-clause-counts

@@ -4,10 +4,10 @@ use Rattle.json.specs.Json.{Json}
 use Rattle.borsh_walks.specs.Container.{Member}
 use Rattle.borsh_plan.specs.Plan.{definitions_of, map_of, root_of}
 use Rattle.borsh_values.specs.Membership.{IsAnswer}
-use Rattle.borsh_json.specs.Forms.{forms_in}
+use Rattle.borsh_json.specs.Forms.{forms_in, shapes}
 use Rattle.borsh_json.specs.InOrder.{InOrder}
 use Rattle.borsh_json.specs.Represents.{HaveBytes}
-use Rattle.borsh_json.proofs.FormsLaws.{text_member}
+use Rattle.borsh_json.proofs.FormsLaws.{shapes_are}
 use Rattle.borsh_json.proofs.InOrderLaws.{given_up}
 use Rattle.borsh_json.proofs.PlanLaws.{said_by}
 use Rattle.borsh_json.proofs.RepresentsLaws.{bytes_one, text_one}
@@ -28,17 +28,16 @@ returns-in-Member-clause-determined c bytes s =
     text_one (forms_in (map_of y)) (root_of y) c.args.text.now (said_by c.args.self.now c.args.text.now read read c.in_ok-bytes.ensures.says refl (subst (λ b. Member (definitions_of y) (root_of y) b) c.as_slice.ensures.value m)) s
 
 pub returns-in-NoMember-clause-denies : goal.returns-in-NoMember-clause-denies
-returns-in-NoMember-clause-denies c bytes s =
+returns-in-NoMember-clause-denies c j e =
     let y = c.args.self.now.plan.now in
     let F = forms_in (map_of y) in
-    let C = definitions_of y in
     let root = root_of y in
-    let m = subst (IsAnswer C root c.as_slice.result.now) c.in-NoMember.is c.in_ok-membership.ensures in
+    let read = c.in_ok-bytes.bytes.items in
+    let m = subst (IsAnswer (definitions_of y) root c.as_slice.result.now) c.in-NoMember.is c.in_ok-membership.ensures in
     let r = c.in_ok-bytes.ensures.says in
-    let e : Some r.0 ≡ Some s.0 = sym r.1 ∙ s.1 in
-    let q : r.0 ≡ s.0 = cc in
-    let one = bytes_one F (subst (λ (j : Json). HaveBytes F ((root, j) ∷ []) c.in_ok-bytes.bytes.items) q r.2) s.2 in
-    m.0 (subst (λ b. Member C root b) (sym (c.as_slice.ensures.value ∙ one)) (text_member (map_of y) root c.args.text.now bytes s))
+    let f : Some r.0 ≡ Some j = sym r.1 ∙ e in
+    let q : r.0 ≡ j = cc in
+    (read, subst (λ (j : Json). HaveBytes F ((root, j) ∷ []) read) q r.2, λ s. m.0 (subst (λ b. Member (definitions_of y) root b) (sym c.as_slice.ensures.value) (subst (λ C. Member C root read) (shapes_are (map_of y)) s)))
 
 pub returns-in-Member-clause-in_order : goal.returns-in-Member-clause-in_order
 returns-in-Member-clause-in_order c j e =
@@ -59,4 +58,8 @@ pub returns-in-Member-clause-answers : goal.returns-in-Member-clause-answers
 returns-in-Member-clause-answers c bytes t = returns-in-Member-clause-determined c bytes (t.0, t.1, t.2, t.3)
 
 pub returns-in-NoMember-clause-answers : goal.returns-in-NoMember-clause-answers
-returns-in-NoMember-clause-answers c bytes t = returns-in-NoMember-clause-denies c bytes (t.0, t.1, t.2, t.3)
+returns-in-NoMember-clause-answers c bytes t =
+    let y = c.args.self.now.plan.now in
+    let F = forms_in (map_of y) in
+    let n = returns-in-NoMember-clause-denies c t.0 t.1 in
+    n.2 (subst (λ b. Member (shapes F) (root_of y) b) (bytes_one F t.2 n.1) t.3)

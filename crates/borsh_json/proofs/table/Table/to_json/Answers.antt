@@ -1,23 +1,40 @@
-use Rattle.std.proofs.Common.{sym, subst}
-use Rattle.std.proofs.lemmas.Result.{err_from_is_err_and}
-use Rattle.borsh_walks.specs.Container.{Member}
-use Rattle.borsh_plan.specs.Plan.{definitions_of, map_of, root_of}
-use Rattle.borsh_values.specs.Membership.{IsAnswer}
-use Rattle.borsh_values.specs.declared.members.Membership.{Membership}
-use Rattle.borsh_json.proofs.FormsLaws.{shapes_are}
-use Rattle.borsh_json.proofs.StopLaws.{stop_reason}
+use Rattle.std.proofs.Common.{◌≡◌, ◌∙◌, All, Some, ap, string_bytes, subst, sym}
+use Rattle.json.specs.Json.{document}
+use Rattle.json.specs.Lex.{tokens}
+use Rattle.json.specs.Tree.{json_tokens}
+use Rattle.borsh_plan.specs.Plan.{map_of, root_of}
+use Rattle.borsh_json.specs.Ascii.{IsInLine}
+use Rattle.borsh_json.specs.Printed.{laid_out}
+use Rattle.borsh_json.proofs.LineLaws.{compact_line}
+use Rattle.borsh_json.proofs.WritingLaws.{json_read, short_numbers, text_represents}
 use Rattle.borsh_json.proofs.table.Table.to_json.Goals as goal
 
-pub write_value-requires : goal.write_value-requires
-write_value-requires c =
-    let l = c.args.self.now.plan.now in
-    let m = subst (λ (a : Membership). IsAnswer (definitions_of l) (root_of l) c.args.bytes.now a) c.in-Member.is c.in_ok-membership.ensures in
-    subst (λ C. Member C (root_of l) c.args.bytes.now) (sym (shapes_are (map_of l))) m
+pub text_of-requires : goal.text_of-requires
+text_of-requires c = let w = c.in_ok-out.ensures.written in c.in-Some.ensures.utf8 (json_tokens w.0) w.1
 
-pub returns-in_err-write_value-in-Member-clause-reason : goal.returns-in_err-write_value-in-Member-clause-reason
-returns-in_err-write_value-in-Member-clause-reason c =
+pub returns-clause-says : goal.returns-clause-says
+returns-clause-says c =
     let l = c.args.self.now.plan.now in
-    let m = subst (λ (a : Membership). IsAnswer (definitions_of l) (root_of l) c.args.bytes.now a) c.in-Member.is c.in_ok-membership.ensures in
-    let e = c.in_err-write_value-in-Member in
-    let p = err_from_is_err_and c.from_residual-in_err-write_value-in-Member.result c.from_residual-in_err-write_value-in-Member.ensures.1 in
-    rw (p.1, p.2) (stop_reason (map_of l) (root_of l) c.args.bytes.now e.field-0.0 m e.ensures.stops)
+    let w = c.in_ok-out.ensures.written in
+    let t = text_represents (map_of l) (root_of l) c.args.bytes.now c.in_ok-out.out w c.in_ok-out.ensures.member c.in-Some.text.items (c.in-Some.ensures.tokens (json_tokens w.0) w.1) in
+    (t.0, c.in_ok-in_characters.ensures.same t.0 (subst (λ s. document s ≡ Some t.0) (sym c.text_of.ensures) t.1), t.2, t.3, t.4)
+
+pub returns-clause-line : goal.returns-clause-line
+returns-clause-line c = λ e.
+    let w = c.in_ok-out.ensures.written in
+    let p = c.in-Some.ensures.layout (json_tokens w.0) w.1 ∙ ap (λ l. laid_out l (json_tokens w.0)) e in
+    c.in_ok-in_characters.ensures.line (subst (λ s. All IsInLine s) (sym (c.text_of.ensures ∙ p)) (compact_line w.0 w.2))
+
+pub returns-clause-printed : goal.returns-clause-printed
+returns-clause-printed c = λ e.
+    let w = c.in_ok-out.ensures.written in
+    let same = c.in_ok-in_characters.ensures.kept e ∙ c.text_of.ensures in
+    let p = c.in-Some.ensures.layout (json_tokens w.0) w.1 ∙ ap (λ ts. laid_out c.args.style.layout ts) (sym (c.in-Some.ensures.tokens (json_tokens w.0) w.1)) in
+    same ∙ p ∙ ap (λ b. laid_out c.args.style.layout (tokens b)) (sym same)
+
+pub returns-clause-short : goal.returns-clause-short
+returns-clause-short c = λ e.
+    let w = c.in_ok-out.ensures.written in
+    let read = json_read c.in-Some.text.items w.0 (c.in-Some.ensures.tokens (json_tokens w.0) w.1) w.2 w.3 in
+    let same = c.in_ok-in_characters.ensures.same w.0 (subst (λ s. document s ≡ Some w.0) (sym c.text_of.ensures) read) in
+    short_numbers c.args.style.long_numbers w.0 (string_bytes c.in_ok-in_characters.field-0) same (c.in-Some.ensures.long (json_tokens w.0) w.1) e

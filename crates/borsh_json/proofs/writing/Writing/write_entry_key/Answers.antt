@@ -33,7 +33,7 @@ returns-then-not-is_next-clause-key c p part a r e b =
     let o = c.in_ok-node.field-0 in
     let f = c.in_ok-node.ensures.finds in
     let t = entry_of d w.walk.offset p q part b es a.state.inner e a.state.here in
-    let new : Writing = record { walk = c.open.new.self; position = w.position; out = w.out; bytes = w.bytes; long_numbers = w.long_numbers } in
+    let new : Writing = record { walk = c.open.new.self; position = w.position; out = w.out; bytes = w.bytes } in
     let h = node_is d w c.open.new.self es.key t.key a.writer.plan t.key_named o n c.in-Some.is f in
     let op = entry_opened d w new p part es a b.1 t o n c.in-Some.is f in
     let ks = entry_keys d w new p part es a b.1 t o n c.in-Some.is f in
@@ -52,14 +52,14 @@ returns-else-not-is_next-clause-key c p part a r e b =
     let o = c.in_ok-node.field-0 in
     let f = c.in_ok-node.ensures.finds in
     let t = entry_of d w.walk.offset p q part b es a.state.inner e a.state.here in
-    let new : Writing = record { walk = c.open.new.self; position = record { alloc = w.position.alloc; root = w.position.root; outer = w.position.outer; place = record { parts = q.parts; begun = q.begun; ascent = q.ascent; last = Some c.in-Ok.key } }; out = c.write_key.new.out; bytes = w.bytes; long_numbers = w.long_numbers } in
+    let new : Writing = record { walk = c.open.new.self; position = record { alloc = w.position.alloc; root = w.position.root; outer = w.position.outer; place = record { parts = q.parts; begun = q.begun; ascent = q.ascent; last = Some c.in-Ok.key } }; out = c.write_key.new.out; bytes = w.bytes } in
     let h = node_is d w c.open.new.self es.key t.key a.writer.plan t.key_named o n c.in-Some.is f in
     let op = entry_opened d w new p part es a b.1 t o n c.in-Some.is f in
     let ks = entry_keys d w new p part es a b.1 t o n c.in-Some.is f in
     let u = c.in-Ok.ensures (forms_of d) (names_of d) t.key t.keys h.parts op ks in
     let v = u.1 in
     let above = (c.is_next.ensures (forms_of d) (names_of d) t.key (form_of n.definition.now) es.key_kind t.keys t.before v.0 ks (subst (λ (l : Option EntryKey). IsLast es.key_kind l t.before) (sym b.2) t.is_last) v.1).0 c.if-not-is_next.false in
-    entry_awaits d w new p part es a b.1 t o n c.in-Some.is f c.in-Ok.key h.parts v.0 b r e refl (ap (λ l. l.now) c.in_ok-node.ensures.plan ∙ a.writer.plan) c.in_ok-node.ensures.walk refl refl refl op.1 u.0 v.1 v.2 v.3 above
+    entry_awaits d w new p part es a b.1 t o n c.in-Some.is f c.in-Ok.key h.parts v.0 b r e refl (ap (λ l. l.now) c.in_ok-node.ensures.plan ∙ a.writer.plan) refl refl refl op.1 u.0 v.1 v.2 v.3 above
 
 pub returns-in-Err-clause-key : goal.returns-in-Err-clause-key
 returns-in-Err-clause-key c p part a r e b =
@@ -70,7 +70,7 @@ returns-in-Err-clause-key c p part a r e b =
     let o = c.in_ok-node.field-0 in
     let f = c.in_ok-node.ensures.finds in
     let t = entry_of d w.walk.offset p w.position.place part b es a.state.inner e a.state.here in
-    let new : Writing = record { walk = c.open.new.self; position = w.position; out = w.out; bytes = w.bytes; long_numbers = w.long_numbers } in
+    let new : Writing = record { walk = c.open.new.self; position = w.position; out = w.out; bytes = w.bytes } in
     let h = node_is d w c.open.new.self es.key t.key a.writer.plan t.key_named o n c.in-Some.is f in
     let op = entry_opened d w new p part es a b.1 t o n c.in-Some.is f in
     let ks = entry_keys d w new p part es a b.1 t o n c.in-Some.is f in

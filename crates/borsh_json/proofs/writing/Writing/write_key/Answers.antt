@@ -4,7 +4,8 @@ use Rattle.borsh_json.specs.declared.position.Key.TheVariants.{None as NoKey, Na
 use Rattle.borsh_json.specs.declared.writing.Writing.{Writing}
 use Rattle.borsh_json.specs.Leaves.{Adds}
 use Rattle.borsh_json.proofs.WritingPlaces.{key_tokens}
-use Rattle.borsh_json.proofs.WriterLaws.{key_begun, none_added}
+use Rattle.borsh_json.proofs.ListLaws.{none_added}
+use Rattle.borsh_json.proofs.WriterLaws.{key_begun}
 use Rattle.borsh_json.proofs.writing.Writing.write_key.Goals as goal
 
 pub returns-in-None-clause-key : goal.returns-in-None-clause-key
@@ -15,7 +16,7 @@ returns-in-None-clause-key c p a r b =
 pub returns-in_ok-put-in-Name-clause-key : goal.returns-in_ok-put-in-Name-clause-key
 returns-in_ok-put-in-Name-clause-key c p a r b =
     let w = c.args.self.now in
-    let new : Writing = record { walk = w.walk; position = w.position; out = c.put.new.self; bytes = w.bytes; long_numbers = w.long_numbers } in
+    let new : Writing = record { walk = w.walk; position = w.position; out = c.put.new.self; bytes = w.bytes } in
     key_begun c.args.json.now w new p c.args.part a b (λ es e. let q : Name c.in-Name.name ≡ EntryOf es = sym c.in-Name.is ∙ e in cc) r (subst (λ (k : Key). Adds (key_tokens k) w.out c.put.new.self) (sym c.in-Name.is) c.in_ok-put-in-Name.ensures) refl refl refl
 
 pub returns-in-Entry-clause-key : goal.returns-in-Entry-clause-key

@@ -11,13 +11,13 @@ use Rattle.borsh_json.specs.Forms.{form_of, shape_of_form}
 use Rattle.borsh_json.specs.Found.{forms_of, names_of}
 use Rattle.borsh_json.specs.Writes.{Rest, names_of_rest, names_of_all, HasNode, IsRest, IsNewPlace, WritesFront, Stops, IsAwaitingAt}
 use Rattle.borsh_json.proofs.FoundLaws.{not_true}
-use Rattle.borsh_json.proofs.WriterLaws.{stops_value, stops_full, no_json_part, is_deep, undefined_next, zero_begun, struct_begun}
+use Rattle.borsh_json.proofs.WriterLaws.{stops_value, stops_full, is_deep, undefined_next, zero_begun, struct_begun}
 use Rattle.borsh_json.proofs.writing.Writing.write_part.Goals as goal
 
 pub returns-then-is_zero_size-clause-part : goal.returns-then-is_zero_size-clause-part
 returns-then-is_zero_size-clause-part c x i a =
     let w = c.args.self.now in
-    let new : Writing = record { walk = w.walk; position = w.position; out = c.put.new.self; bytes = w.bytes; long_numbers = w.long_numbers } in
+    let new : Writing = record { walk = w.walk; position = w.position; out = c.put.new.self; bytes = w.bytes } in
     zero_begun c.args.json.now w new x a refl refl ((c.is_zero_size.ensures x i).0 c.if-is_zero_size.true) c.in_ok-put.ensures refl refl
 
 pub returns-in_default-clause-part : goal.returns-in_default-clause-part
@@ -42,7 +42,7 @@ returns-in_ok-enter-in-Ok-Some-clause-part c x i a =
     let kind = c.in-Some.ensures.kind x i (not_true c.is_zero_size.result (c.is_zero_size.ensures x i) c.if-is_zero_size.false) in
     let f = form_of c.in-Some.field-0-0.now in
     let h = subst (λ (o : Option Place). MatchOption o (HasNode c.in-Some.kind × (c.begin_struct.new.out ≡ w.out)) (λ p. (r : Rest) × IsRest F ns p r × WritesFront F x [] r w.out c.begin_struct.new.out × (shape_of_form f ≡ product (names_of_rest r)) × IsNewPlace c.in-Some.kind p)) c.in-Ok-Some.field-0-is (c.in-Ok-Some.ensures F ns x f i kind.0 kind.1) in
-    let new : Writing = record { walk = w.walk; position = c.enter.new.self; out = c.begin_struct.new.out; bytes = w.bytes; long_numbers = w.long_numbers } in
+    let new : Writing = record { walk = w.walk; position = c.enter.new.self; out = c.begin_struct.new.out; bytes = w.bytes } in
     let z = c.in_ok-enter-in-Ok-Some.ensures in
     struct_begun d w new x a f kind.0 c.in-Ok-Some.place (not_true c.is_zero_size.result (c.is_zero_size.ensures x i) c.if-is_zero_size.false) refl refl z.room c.in-Some.kind kind.1 (c.in-Some.ensures.order x i) h.0 h.1 h.2 h.3 h.4 z.place z.outer
 
@@ -55,7 +55,7 @@ returns-in-Ok-None-clause-part c x i a =
     let kind = c.in-Some.ensures.kind x i (not_true c.is_zero_size.result (c.is_zero_size.ensures x i) c.if-is_zero_size.false) in
     let f = form_of c.in-Some.field-0-0.now in
     let h = subst (λ (o : Option Place). MatchOption o (HasNode c.in-Some.kind × (c.begin_struct.new.out ≡ w.out)) (λ p. (r : Rest) × IsRest F ns p r × WritesFront F x [] r w.out c.begin_struct.new.out × (shape_of_form f ≡ product (names_of_rest r)) × IsNewPlace c.in-Some.kind p)) c.in-Ok-None.field-0-is (c.in-Ok-None.ensures F ns x f i kind.0 kind.1) in
-    c.write_node.ensures.part x f i kind.0 kind.1 (c.in-Some.ensures.order x i) (c.in-Some.ensures.telling x i) (not_true c.is_zero_size.result (c.is_zero_size.ensures x i) c.if-is_zero_size.false) h.0 (subst (λ (o : Output). IsAwaitingAt d (record { walk = w.walk; position = w.position; out = o; bytes = w.bytes; long_numbers = w.long_numbers }) x) (sym h.1) a)
+    c.write_node.ensures.part x f i kind.0 kind.1 (c.in-Some.ensures.order x i) (c.in-Some.ensures.telling x i) (not_true c.is_zero_size.result (c.is_zero_size.ensures x i) c.if-is_zero_size.false) h.0 (subst (λ (o : Output). IsAwaitingAt d (record { walk = w.walk; position = w.position; out = o; bytes = w.bytes }) x) (sym h.1) a)
 
 pub returns-in-Err-clause-part : goal.returns-in-Err-clause-part
 returns-in-Err-clause-part c x i a =
@@ -67,4 +67,4 @@ returns-in-Err-clause-part c x i a =
     let s = a.state in
     let kind = c.in-Some.ensures.kind x i (not_true c.is_zero_size.result (c.is_zero_size.ensures x i) c.if-is_zero_size.false) in
     let f = form_of c.in-Some.field-0-0.now in
-    subst (λ (e : JsonError). Stops F root w.bytes.now e) (sym c.into.ensures) (stops_value F root w.bytes.now x [] c.in-Err.error c.refused_value.result c.refused_value.ensures (no_json_part F root w.bytes.now (length w.position.outer.items) s.done [] w.walk.left.now w.walk.left.now x refl (is_deep d w x a)) (c.in-Err.ensures F ns x f i kind.0 kind.1))
+    subst (λ (e : JsonError). Stops F root w.bytes.now e) (sym c.into.ensures) (stops_value F root w.bytes.now (length w.position.outer.items) s.done [] w.walk.left.now w.walk.left.now x refl (is_deep d w x a) c.in-Err.error c.refused_value.result c.refused_value.ensures (c.in-Err.ensures F ns x f i kind.0 kind.1))

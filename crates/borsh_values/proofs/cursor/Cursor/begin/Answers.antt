@@ -1,5 +1,7 @@
 use Rattle.std.proofs.Common.{refl, sym, ◌∙◌, subst}
-use Rattle.borsh_values.specs.Words.{shape_of, MissingDefinition, definitions_of, names_of}
+use Rattle.borsh_walks.specs.Definitions.{shape_of}
+use Rattle.borsh_values.specs.declared.faults.Reason.TheVariants.{MissingDefinition}
+use Rattle.borsh_plan.specs.Plan.{definitions_of, names_of}
 use Rattle.borsh_values.specs.Cursor.{name_in, OpensAs}
 use Rattle.borsh_values.proofs.Answers.{refused_why}
 use Rattle.borsh_values.proofs.Walk.{going_missing, going_reached}

@@ -1,7 +1,7 @@
 use Rattle.std.proofs.Common.{refl, sym, ◌∙◌, ap, ◌++◌, arith, subst, reverse}
 use Rattle.borsh_walks.proofs.Spots.{last_first}
 use Rattle.borsh_walks.proofs.Tables.{no_items}
-use Rattle.borsh_values.specs.Words.{names_of}
+use Rattle.borsh_plan.specs.Plan.{names_of}
 use Rattle.borsh_values.specs.Cursor.{IsCursor, pending}
 use Rattle.borsh_values.proofs.Stepping.{cursor_up, cursor_up_empty}
 use Rattle.borsh_values.proofs.cursor.Cursor.close.Goals as goal

@@ -1,7 +1,7 @@
 use Rattle.std.proofs.Common.{◌≡◌, None, Some, false}
 use Rattle.std.specs.Prelude.{MatchOption, Option, is_some}
 use Rattle.borsh_walks.proofs.Spots.{last_first}
-use Rattle.borsh_values.specs.Words.{Step}
+use Rattle.borsh_values.specs.declared.frames.Step.{Step}
 use Rattle.borsh_values.proofs.Stepping.{cursor_on, cursor_past}
 use Rattle.borsh_values.proofs.Walk.{with_rest}
 use Rattle.borsh_values.proofs.cursor.Cursor.open.Goals as goal

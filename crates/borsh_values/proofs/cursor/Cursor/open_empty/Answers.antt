@@ -1,5 +1,5 @@
 use Rattle.std.proofs.Common.{None, Some, refl, ◌∙◌, ap, arith, get_or, length, subst}
-use Rattle.borsh_values.specs.Words.{btree_map_len}
+use Rattle.std.specs.BTreeMap.{btree_map_len}
 use Rattle.borsh_values.specs.Cursor.{KnownAs}
 use Rattle.borsh_walks.proofs.Spots.{last_first}
 use Rattle.borsh_values.proofs.Stepping.{cursor_skip, marked_empty, skips, stopped_again, few_idle, cursor_new, new_begun}

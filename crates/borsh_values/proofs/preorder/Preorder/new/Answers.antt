@@ -1,5 +1,8 @@
-use Rattle.std.proofs.Common.{◌∷◌, ◌∙◌, [], sym, subst, ap, arith, length}
-use Rattle.borsh_values.specs.Words.{Bor, Member, definitions_of, root_of, Plan}
+use Rattle.std.proofs.Common.{◌∷◌, ◌∙◌, sym, subst, ap, arith, length, []}
+use Rattle.std.specs.Borrow.{Bor}
+use Rattle.borsh_walks.specs.Container.{Member}
+use Rattle.borsh_plan.specs.Plan.{definitions_of, root_of}
+use Rattle.borsh_plan.specs.declared.plan.Plan.{Plan}
 use Rattle.borsh_values.proofs.preorder.Preorder.new.Goals as goal
 
 pub returns-clause-inside : goal.returns-clause-inside

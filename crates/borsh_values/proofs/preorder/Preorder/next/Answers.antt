@@ -1,5 +1,5 @@
 use Rattle.std.proofs.Common.{◌∙◌, ap, subst}
-use Rattle.borsh_values.specs.Words.{name_at, names_of}
+use Rattle.borsh_plan.specs.{Names.name_at, Plan.names_of}
 use Rattle.borsh_values.specs.Cursor.{Happens}
 use Rattle.borsh_values.proofs.Stepping.{given, goes_on, none_left, undecided}
 use Rattle.borsh_values.proofs.preorder.Preorder.next.Goals as goal

@@ -1,5 +1,6 @@
-use Rattle.std.proofs.Common.{rules, ◌≡◌, [], Err, Ok, subst, sym, refl, true}
-use Rattle.borsh_values.specs.Words.{definitions_of, root_of, Records, Reader}
+use Rattle.std.proofs.Common.{rules, ◌≡◌, Err, Ok, subst, sym, refl, true, []}
+use Rattle.borsh_plan.specs.Plan.{definitions_of, root_of}
+use Rattle.borsh_values.specs.declared.{records.Records.Records, records.RecordError.TheVariants.Reader}
 use Rattle.borsh_values.specs.Records.{Advances, AdvancesHeld, ahead}
 use Rattle.borsh_values.proofs.RecordLaws.{falls-on, reading-ends, reading-fails}
 use Rattle.borsh_values.proofs.records.Records.advance.Goals as goal

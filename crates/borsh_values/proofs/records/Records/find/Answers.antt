@@ -1,5 +1,5 @@
 use Rattle.std.proofs.Common.{rules}
-use Rattle.borsh_values.specs.Words.{definitions_of, root_of}
+use Rattle.borsh_plan.specs.Plan.{definitions_of, root_of}
 use Rattle.borsh_values.proofs.RecordLaws.{value-taken}
 use Rattle.borsh_values.proofs.records.Records.find.Goals as goal
 

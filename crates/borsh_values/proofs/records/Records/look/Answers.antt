@@ -1,5 +1,5 @@
 use Rattle.std.proofs.Common.{rules, take, subst}
-use Rattle.borsh_values.specs.Words.{definitions_of, root_of}
+use Rattle.borsh_plan.specs.Plan.{definitions_of, root_of}
 use Rattle.borsh_values.specs.Membership.{IsFrontAnswer}
 use Rattle.borsh_values.specs.Records.{ahead, limit_of}
 use Rattle.borsh_values.proofs.RecordLaws.{first-of, within-limit, none-whatever}

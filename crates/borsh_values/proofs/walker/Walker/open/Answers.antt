@@ -1,5 +1,6 @@
-use Rattle.std.proofs.Common.{◌≡◌, ◌+◌, [], ◌++◌, length, drop, Some, refl, sym, ◌∙◌, ap, subst, inl, inr, append-nil, take-append-drop, length-take-le}
-use Rattle.borsh_values.specs.Words.{shape_of, definitions_of, names_of}
+use Rattle.std.proofs.Common.{◌≡◌, ◌+◌, ◌++◌, length, drop, Some, refl, sym, ◌∙◌, ap, subst, inl, inr, append-nil, take-append-drop, length-take-le, []}
+use Rattle.borsh_walks.specs.Definitions.{shape_of}
+use Rattle.borsh_plan.specs.Plan.{definitions_of, names_of}
 use Rattle.borsh_plan.proofs.Laws.{defined, looked_up, reached}
 use Rattle.borsh_plan.proofs.Places.{name_is}
 use Rattle.borsh_values.specs.Nodes.{Opens}

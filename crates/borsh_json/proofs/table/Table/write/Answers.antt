@@ -1,0 +1,27 @@
+use Rattle.std.proofs.Common.{sym, subst}
+use Rattle.std.proofs.lemmas.Result.{IfErr-weaker, IfOk-weaker}
+use Rattle.borsh_walks.specs.Container.{Member}
+use Rattle.borsh_plan.specs.Plan.{definitions_of, map_of, root_of}
+use Rattle.borsh_values.specs.Membership.{IsAnswer}
+use Rattle.borsh_values.specs.declared.members.Membership.{Membership}
+use Rattle.borsh_json.proofs.FormsLaws.{shapes_are}
+use Rattle.borsh_json.proofs.StopLaws.{stop_reason}
+use Rattle.borsh_json.proofs.table.Table.write.Goals as goal
+
+pub write_value-requires : goal.write_value-requires
+write_value-requires c =
+    let l = c.args.self.now.plan.now in
+    let m = subst (λ (a : Membership). IsAnswer (definitions_of l) (root_of l) c.args.bytes.now a) c.in-Member.is c.in_ok-membership.ensures in
+    record { member = subst (λ C. Member C (root_of l) c.args.bytes.now) (sym (shapes_are (map_of l))) m; empty = c.requires }
+
+pub returns-in-Member-clause-member : goal.returns-in-Member-clause-member
+returns-in-Member-clause-member c =
+    let l = c.args.self.now.plan.now in
+    let m = subst (λ (a : Membership). IsAnswer (definitions_of l) (root_of l) c.args.bytes.now a) c.in-Member.is c.in_ok-membership.ensures in
+    IfOk-weaker c.write_value.result _ _ (λ out w. m) c.write_value.ensures.written
+
+pub returns-in-Member-clause-reason : goal.returns-in-Member-clause-reason
+returns-in-Member-clause-reason c =
+    let l = c.args.self.now.plan.now in
+    let m = subst (λ (a : Membership). IsAnswer (definitions_of l) (root_of l) c.args.bytes.now a) c.in-Member.is c.in_ok-membership.ensures in
+    IfErr-weaker c.write_value.result _ _ (λ e s. stop_reason (map_of l) (root_of l) c.args.bytes.now e m s) c.write_value.ensures.stops
