@@ -88,7 +88,7 @@ module _ {K V : Type 0} {R : K → K → Ordering} (o : IsTotalOrder R) where
       by h Equal i = absurd (let n : is_eq (R k e.0) ≡ true = ap is_eq i in let m : is_eq (R k e.0) ≡ false = a.0 in cc)
       by h Greater i = IsPermutation-trans ((k, v) ∷ e ∷ es) (e ∷ (k, v) ∷ es) (e ∷ insert_entry R es k v) (IsPermutation-middle ((k, v) ∷ []) e es) (IsPermutation-cons e ((k, v) ∷ es) (insert_entry R es k v) h)
 
-  all_by_key : (P : K → Type 0) (es : List (K × V)) → AllByRecursion P (keys_of es) → AllByRecursion P (keys_of (sorted_by_key R es))
+  pub all_by_key : (P : K → Type 0) (es : List (K × V)) → AllByRecursion P (keys_of es) → AllByRecursion P (keys_of (sorted_by_key R es))
   all_by_key P [] a = tt
   all_by_key P (e ∷ es) a = all_inserted R P (sorted_by_key R es) e.0 e.1 (all_by_key P es a.1) a.0
 

@@ -11,7 +11,8 @@ use Rattle.borsh_io.specs.Errors.{error_kind}
 use Rattle.borsh_io.specs.Sink.{WriterModel, WriterLaws}
 use Rattle.borsh_codec.specs.Codec.{Codec}
 use Rattle.borsh_codec.specs.Shapes.{append_encodings, concat_encodings, unsigned_encoding, length_prefixed, refused_if}
-use Rattle.borsh_codec.specs.Writing.{Puts, Written, NotWritten, WritesEncoding, Writes}
+use Rattle.borsh_codec.specs.Writing.{Puts, Written, NotWritten, WritesEncoding, Writes, TellsLength}
+use Rattle.borsh_codec.proofs.LengthSteps.{tells_is}
 use Rattle.borsh_codec.proofs.WriteOutcomes.{writes_is, writes_exit, writes_refused_if}
 use Rattle.borsh_codec.proofs.PutSteps.{HeldSoFar, held_none, held_put, held_kept, held_written, held_exit, held_more, held_more_exit, held_last}
 
@@ -25,12 +26,12 @@ module _ {I A W : Type 0} (steps : I → Option A → I → Type 0) (encoding : 
 
 module _ {I A : Type 0} (steps : I → Option A → I → Type 0) (encoding : A → Option (List ℕ)) where
   -- what is left begins with the item that came
-  next_of : {now next : I} {x : A} (fs : Encodings) → AlwaysYields steps encoding now fs → steps now (Some x) next → (gs : Encodings) × AlwaysYields steps encoding next gs × (concat_encodings (λ e. e) fs ≡ append_encodings (encoding x) (concat_encodings (λ e. e) gs))
+  pub next_of : {now next : I} {x : A} (fs : Encodings) → AlwaysYields steps encoding now fs → steps now (Some x) next → (gs : Encodings) × AlwaysYields steps encoding next gs × (concat_encodings (λ e. e) fs ≡ append_encodings (encoding x) (concat_encodings (λ e. e) gs))
   next_of {next = next} {x = x} [] y s = absurd (y x next s)
   next_of {next = next} {x = x} (e ∷ fs) y s = let p = y.1 x next s in (fs, p.1, ap (λ o. append_encodings o (concat_encodings (λ e. e) fs)) (sym p.0))
 
   -- nothing is left where no item came
-  end_of : {now next : I} (fs : Encodings) → AlwaysYields steps encoding now fs → steps now None next → concat_encodings (λ e. e) fs ≡ Some []
+  pub end_of : {now next : I} (fs : Encodings) → AlwaysYields steps encoding now fs → steps now None next → concat_encodings (λ e. e) fs ≡ Some []
   end_of [] y s = refl
   end_of {next = next} (e ∷ fs) y s = absurd (y.0 next s)
 
@@ -79,13 +80,24 @@ module _ {S A X : Type 0} (steps : S → Option A → S → Type 0) (shows : A �
     (λ x j e. (let h : rest s ≡ shows x ∷ rest j = some s j x e in let y : shows x ≡ y = cc in let t : rest j ≡ ys = cc in (ap f y, always_shown f ys j t))),
   )
 
+  -- the count and what is left are the encoding of the list
+  pub shown_is : {n : ℕ} (c : Codec X) (xs : List X) → n ≡ length xs → append_encodings (unsigned_encoding 4 n) (concat_encodings (λ e. e) (map c.encoding xs)) ≡ (length_prefixed c).encoding xs
+  shown_is c xs n = ap (λ m. append_encodings (unsigned_encoding 4 m) (concat_encodings (λ e. e) (map c.encoding xs))) n ∙ ap (append_encodings (unsigned_encoding 4 (length xs))) (concat_map c.encoding xs)
+
   -- what is written of it, after the count, is the list
   pub writes_shown : {W : Type 0} {w : WriterModel W} {old new : W} {n : ℕ} {r : Result (Unit {0}) Error} (c : Codec X) (xs : List X) (s : S) → rest s ≡ xs → n ≡ length xs → ((es : Encodings) → AlwaysYields steps (λ a. c.encoding (shows a)) s es → WritesEncoding w old new c.encoding_allocates false (append_encodings (unsigned_encoding 4 n) (concat_encodings (λ e. e) es)) r) → Writes (length_prefixed c) xs w old new r
-  writes_shown c xs s e n h = writes_is (ap (λ m. append_encodings (unsigned_encoding 4 m) (concat_encodings (λ e. e) (map c.encoding xs))) n ∙ ap (append_encodings (unsigned_encoding 4 (length xs))) (concat_map c.encoding xs)) (h (map c.encoding xs) (always_shown c.encoding xs s e))
+  writes_shown c xs s e n h = writes_is (shown_is c xs n) (h (map c.encoding xs) (always_shown c.encoding xs s e))
+
+  -- how many bytes these are is the list's length
+  pub tells_shown : {n : ℕ} (r : Option ℕ) (c : Codec X) (xs : List X) (s : S) → rest s ≡ xs → n ≡ length xs → ((es : Encodings) → AlwaysYields steps (λ a. c.encoding (shows a)) s es → TellsLength (append_encodings (unsigned_encoding 4 n) (concat_encodings (λ e. e) es)) r) → TellsLength ((length_prefixed c).encoding xs) r
+  tells_shown r c xs s e n h = tells_is r (shown_is c xs n) (h (map c.encoding xs) (always_shown c.encoding xs s e))
 
 -- the same where the state is the list
 pub writes_first : {A X W : Type 0} {w : WriterModel W} {old new : W} {n : ℕ} {r : Result (Unit {0}) Error} (shows : A → X) (c : Codec X) (s xs : List X) → s ≡ xs → n ≡ length xs → ((es : Encodings) → AlwaysYields (TakesFirst shows) (λ a. c.encoding (shows a)) s es → WritesEncoding w old new c.encoding_allocates false (append_encodings (unsigned_encoding 4 n) (concat_encodings (λ e. e) es)) r) → Writes (length_prefixed c) xs w old new r
 writes_first shows c s xs = writes_shown (TakesFirst shows) shows (λ t. t) (λ t u e. ap length e.0) (λ t u a e. e) c xs s
+
+pub tells_first : {A X : Type 0} {n : ℕ} (r : Option ℕ) (shows : A → X) (c : Codec X) (s xs : List X) → s ≡ xs → n ≡ length xs → ((es : Encodings) → AlwaysYields (TakesFirst shows) (λ a. c.encoding (shows a)) s es → TellsLength (append_encodings (unsigned_encoding 4 n) (concat_encodings (λ e. e) es)) r) → TellsLength ((length_prefixed c).encoding xs) r
+tells_first r shows c s xs = tells_shown (TakesFirst shows) shows (λ t. t) (λ t u e. ap length e.0) (λ t u a e. e) r c xs s
 
 -- keys or elements whose encodings are empty were refused
 pub refused_exit : {A W : Type 0} {w : WriterModel W} (laws : WriterLaws W w) (refused : Bool) (c : Codec A) (v : A) (a : W) (e : Error) {r : Result (Unit {0}) Error} → IsErrAnd r (λ y. y ≡ e) → (refused ≡ true) × (error_kind e ≡ InvalidData) → Writes (refused_if refused c) v w a a r

@@ -1,12 +1,11 @@
 // Hashed maps and sets: references to the entries are collected, sorted by key and written, so
 // that the bytes depend on the entries alone.
 ghost use Rattle.borsh_codec.specs.Maps.{unit_entries, sorted_by_key};
-ghost use Rattle.std.specs.HashMap.{IsUnique};
-ghost use Rattle.std.specs.List.{IsDistinct};
 ghost use Rattle.std.specs.Map.Iter.{deref_pair};
 ghost use Rattle.std.specs.Prelude.{◌≡◌, IfOk, map};
 
 use super::each::write_items;
+use super::lengths::keyed_length;
 use super::lists::write_counted;
 use super::serialize::BorshSerialize;
 use borsh_io::{Result, Write};
@@ -16,18 +15,6 @@ use std::collections::{HashMap, HashSet};
 use std::hash::{BuildHasher, Hash};
 use std::result;
 
-/// References to the entries of the map, in the order of its walk.
-#[inline]
-fn entry_refs<'a, K: Eq + Hash, V, S: BuildHasher>(
-    alloc: Global,
-    table: &'a HashMap<K, V, S>,
-) -> result::Result<Vec<(&'a K, &'a V)>, AllocError>
-    ensures refs { IfOk result (λ v. map deref_pair v.items ≡ table.now.entries) }
-    ensures unique { IsUnique K.eq table.now }
-{
-    table.iter().collect(alloc)
-}
-
 /// References to the entries of the map, by ascending key.
 #[inline]
 fn sorted_entries<'a, K: Ord + Hash, V, S: BuildHasher>(
@@ -36,21 +23,9 @@ fn sorted_entries<'a, K: Ord + Hash, V, S: BuildHasher>(
 ) -> result::Result<Vec<(&'a K, &'a V)>, AllocError>
     ensures { IfOk result (λ v. map deref_pair v.items ≡ sorted_by_key K.cmp table.now.entries) }
 {
-    let mut all = entry_refs(alloc, table)?;
+    let mut all: Vec<(&'a K, &'a V)> = table.iter().collect(alloc)?;
     all.sort_unstable_by(|a, b| a.0.cmp(b.0));
     Ok(all)
-}
-
-/// References to the keys of the set, in the order of its walk.
-#[inline]
-fn key_refs<'a, K: Eq + Hash, S: BuildHasher>(
-    alloc: Global,
-    set: &'a HashSet<K, S>,
-) -> result::Result<Vec<&'a K>, AllocError>
-    ensures refs { IfOk result (λ v. map (λ r. r.now) v.items ≡ set.now.keys) }
-    ensures unique { IsDistinct K.eq set.now.keys }
-{
-    set.iter().collect(alloc)
 }
 
 /// References to the keys of the set, ascending.
@@ -62,7 +37,7 @@ fn sorted_keys<'a, K: Ord + Hash, S: BuildHasher>(
     ensures { IfOk result (λ v.
         map (λ r. (r.now, tt)) v.items ≡ sorted_by_key K.cmp (unit_entries set.now.keys)) }
 {
-    let mut all = key_refs(alloc, set)?;
+    let mut all: Vec<&'a K> = set.iter().collect(alloc)?;
     all.sort_unstable();
     Ok(all)
 }
@@ -110,6 +85,11 @@ impl<K: BorshKey + BorshSerialize + Ord + Hash, V: BorshSerialize, S: BuildHashe
             writer,
         )
     }
+
+    #[inline]
+    fn encoded_length(&self) -> Option<u32> {
+        keyed_length::<K, _>(self.len(), self.iter())
+    }
 }
 
 impl<K: BorshKey + BorshSerialize + Ord + Hash, S: BuildHasher> BorshSerialize for HashSet<K, S> {
@@ -118,5 +98,10 @@ impl<K: BorshKey + BorshSerialize + Ord + Hash, S: BuildHasher> BorshSerialize f
         refuse_empty::<K>()?;
         let keys = sorted_keys(alloc, self)?;
         write_counted(keys.as_slice(), alloc, writer)
+    }
+
+    #[inline]
+    fn encoded_length(&self) -> Option<u32> {
+        keyed_length::<K, _>(self.len(), self.iter())
     }
 }

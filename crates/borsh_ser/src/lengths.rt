@@ -1,5 +1,6 @@
 // How many bytes encodings have, without writing them. Left open of each call: as of [`BorshSerialize::encoded_length`].
-ghost use Rattle.std.specs.Prelude.{List, Option, Some, ℕ};
+ghost use Rattle.std.specs.Iterator.{AlwaysYields, IsFinite};
+ghost use Rattle.std.specs.Prelude.{◌≡◌, false, List, Option, IfSome, Some, ℕ};
 ghost use Rattle.borsh_codec.specs.Shapes.{
   append_encodings,
   concat_encodings,
@@ -12,6 +13,7 @@ ghost use Rattle.borsh_codec.specs.Writing.{TellsLength};
 
 use super::numbers::bytes_of_u32;
 use super::serialize::BorshSerialize;
+use borsh_types::BorshType;
 
 /// The number of bytes that are an encoding.
 #[inline]
@@ -80,4 +82,27 @@ pub(crate) fn list_length<T: BorshSerialize>(items: &[T]) -> Option<u32>
         return None;
     }
     counted_length(items)
+}
+
+/// The length of the count, four bytes, and the items that the iterator gives, unless the encodings of the keys `K` are empty.
+#[inline]
+pub(crate) fn keyed_length<K: BorshType, I: Iterator>(count: usize, mut items: I) -> Option<u32>
+where
+    I::Item: BorshSerialize + Drop,
+    I: Drop,
+    requires ready { I.can_next items }
+    requires finite { IsFinite (I.remaining items) }
+    ensures keys { IfSome result (λ n. K.codec.is_zero_width ≡ false) }
+    ensures items { (es : List (Option (List ℕ)))
+        → AlwaysYields I.next_gives I.Item.codec.encoding items es
+        → TellsLength (append_encodings (unsigned_encoding 4 count) (concat_encodings (λ e. e) es)) result }
+{
+    if K::encodes_empty() {
+        return None;
+    }
+    let mut sum = count_length(count)?;
+    while let Some(item) = items.next() {
+        sum = sum.checked_add(item.encoded_length()?)?;
+    }
+    Some(sum)
 }

@@ -1,6 +1,7 @@
 // Maps and sets that hold their entries in the order in which they are written: a count of four
 // bytes and the entries.
 use super::each::write_items;
+use super::lengths::keyed_length;
 use super::serialize::BorshSerialize;
 use borsh_io::{Result, Write};
 use borsh_types::{BorshKey, refuse_empty};
@@ -15,6 +16,11 @@ impl<K: BorshKey + BorshSerialize + Ord, V: BorshSerialize> BorshSerialize for B
         refuse_empty::<K>()?;
         write_items(self.len(), self.iter(), alloc, writer)
     }
+
+    #[inline]
+    fn encoded_length(&self) -> Option<u32> {
+        keyed_length::<K, _>(self.len(), self.iter())
+    }
 }
 
 impl<K: BorshKey + BorshSerialize + Ord> BorshSerialize for BTreeSet<K> {
@@ -22,6 +28,11 @@ impl<K: BorshKey + BorshSerialize + Ord> BorshSerialize for BTreeSet<K> {
     fn serialize<W: Write>(&self, alloc: Global, writer: &mut W) -> Result<()> {
         refuse_empty::<K>()?;
         write_items(self.len(), self.iter(), alloc, writer)
+    }
+
+    #[inline]
+    fn encoded_length(&self) -> Option<u32> {
+        keyed_length::<K, _>(self.len(), self.iter())
     }
 }
 
@@ -32,6 +43,11 @@ impl<K: BorshKey + BorshSerialize + Hash, V: BorshSerialize, S: BuildHasher> Bor
         refuse_empty::<K>()?;
         write_items(self.len(), self.iter(), alloc, writer)
     }
+
+    #[inline]
+    fn encoded_length(&self) -> Option<u32> {
+        keyed_length::<K, _>(self.len(), self.iter())
+    }
 }
 
 impl<K: BorshKey + BorshSerialize + Hash, S: BuildHasher> BorshSerialize for IndexSet<K, S> {
@@ -39,5 +55,10 @@ impl<K: BorshKey + BorshSerialize + Hash, S: BuildHasher> BorshSerialize for Ind
     fn serialize<W: Write>(&self, alloc: Global, writer: &mut W) -> Result<()> {
         refuse_empty::<K>()?;
         write_items(self.len(), self.iter(), alloc, writer)
+    }
+
+    #[inline]
+    fn encoded_length(&self) -> Option<u32> {
+        keyed_length::<K, _>(self.len(), self.iter())
     }
 }
