@@ -55,7 +55,7 @@ pub fn to_writer<T: BorshSerialize, W: Write>(
 /// How many bytes a value's encoding has.
 ///
 /// Returns `InvalidData` if the value has no encoding, and `OutOfMemory` if the number doesn't fit in a
-/// `usize`, or if an allocation fails (only hashed maps and sets allocate here). Left open: memory.
+/// `usize`, or if an allocation fails (only of hashed maps and sets whose length isn't told). Left open: memory.
 ///
 /// ```
 /// assert_eq!(rt; object_length(alloc, &(5u8, 7u16))?, 3);
