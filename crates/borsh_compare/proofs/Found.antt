@@ -1,6 +1,6 @@
 -- Names whose kinds the code found, and that are written alike.
-use Rattle.std.proofs.Common.{◌≡◌, ◌⊎◌, inl, inr, ℕ, suc, zero, ◌<◌, List, [], ◌∷◌, ◌++◌, map, length, Bool, true, false, true≢false, Option, Some, None, refl, sym, ◌∙◌, ap, subst, arith, string_bytes}
-use Rattle.std.specs.Prelude.{ℤ, String, Decides, MatchOption, slice_get, option_map}
+use Rattle.std.proofs.Common.{◌≡◌, inl, inr, ℕ, zero, ◌<◌, List, [], ◌∷◌, ◌++◌, map, length, Bool, true, false, true≢false, Option, Some, None, refl, sym, ◌∙◌, ap, subst, arith, string_bytes}
+use Rattle.std.specs.Prelude.{ℤ, String, Decides, slice_get, option_map}
 use Rattle.std.specs.Borrow.{Bor}
 use Rattle.std.specs.Float.{Format, binary32, binary64}
 use Rattle.std.specs.Global.{Global}
@@ -33,7 +33,8 @@ use Rattle.borsh_compare.specs.Walks.{HasPair, Paired, PartGoes}
 use Rattle.borsh_compare.specs.Alike.{AlikeAt, AreKeysAlike, AreAlike, alike, FoundAlike, GoAlike, GoAlikeAt, SaysAlso, IsBehind, itself, within, unsaid, KindsAlike, of_nothing, of_whole, of_float, of_byte_list, of_list, of_row, of_fields, of_variants, of_entries, HasVariantParts, LieIn, VariantAlike, VariantsAlike, field_names, forms_of, variants_of}
 use Rattle.borsh_compare.specs.declared.pairs.Pair.{Pair}
 use Rattle.borsh_compare.proofs.Saying.{says_all, tail_go}
-use Rattle.borsh_compare.proofs.Parts.{defined_of, same_some, variant_part}
+use Rattle.borsh_walks.proofs.Propositions.{same_some}
+use Rattle.borsh_compare.proofs.Parts.{defined_of, variant_part}
 
 abbrev Listed : Type 0
 Listed = ℤ × String Global × String Global

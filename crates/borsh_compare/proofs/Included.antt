@@ -10,7 +10,7 @@ use Rattle.borsh_plan.proofs.NameLaws.{get_within}
 use Rattle.borsh_compare.specs.Together.{Goes}
 use Rattle.borsh_compare.specs.Walks.{Keeps, HasPair, Paired, GoAt, Includes}
 use Rattle.borsh_compare.specs.declared.pairs.Pair.{Pair}
-use Rattle.borsh_compare.proofs.Parts.{same_some}
+use Rattle.borsh_walks.proofs.Propositions.{same_some}
 use Rattle.borsh_compare.proofs.Keeping.{go_at_kept}
 use Rattle.borsh_compare.proofs.Soundness.{members_go}
 

@@ -10,7 +10,7 @@ use Rattle.borsh_plan.specs.Plan.{names_of}
 use Rattle.borsh_compare.specs.Together.{NamesGo, VariantGoes, VariantsGo, ShapesGo, DefinitionsGo, GoUntil, begins, onward, Goes, without_definition, without_members, of_one_size, by_definition, by_parts}
 use Rattle.borsh_compare.specs.Walks.{Keeps, HasPair, IsPaired, PartGoes, GoAt}
 use Rattle.borsh_compare.specs.declared.pairs.Pair.{Pair}
-use Rattle.borsh_compare.proofs.Parts.{same_some}
+use Rattle.borsh_walks.proofs.Propositions.{same_some}
 
 pub keeps_same : (l : List Pair) → Keeps l l
 keeps_same l i p e = e

@@ -7,15 +7,13 @@ use Rattle.borsh_walks.specs.Container.{Shape, variant_names}
 use Rattle.borsh_plan.specs.declared.plan.Plan.{Plan}
 use Rattle.borsh_plan.specs.declared.named.Named.{Named}
 use Rattle.borsh_plan.specs.Names.{AreParts, name_at, name_of, named_shape, parts_in, shape_at}
+use Rattle.borsh_walks.proofs.Propositions.{same_some}
 use Rattle.borsh_plan.specs.Plan.{definitions_of, names_of, map_of, root_of, parts_of, planned}
 use Rattle.borsh_plan.proofs.Places.{defined}
 use Rattle.borsh_values.proofs.TagLaws.{listed_at}
 use Rattle.borsh_compare.specs.Together.{NamesGo, VariantGoes, DefinitionsGo, by_definition}
 use Rattle.borsh_compare.specs.Walks.{Paired, PartGoes, DefinitionsGoAt, GoAt}
 use Rattle.borsh_compare.specs.declared.pairs.Pair.{Pair}
-
-pub same_some : {A : Type 0} {a b : A} {o : Option A} → o ≡ Some a → o ≡ Some b → a ≡ b
-same_some {a = a} {b = b} e f = (let h : Some a ≡ Some b = sym e ∙ f in cc)
 
 -- as many places as names
 pub parts_length : (ns : List Named) (is : List ℕ) (xs : List (List ℕ)) → AreParts ns is xs → length is ≡ length xs

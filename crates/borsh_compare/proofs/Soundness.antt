@@ -1,20 +1,17 @@
 -- Where each pair of names goes together, members of the one are members of the other.
-use Rattle.std.proofs.Common.{◌≡◌, ℕ, suc, zero, ◌<◌, ◌≤◌, List, [], ◌∷◌, ◌++◌, length, replicate, take, drop, Some, refl, sym, ◌∙◌, ap, subst, arith, append_assoc, append-nil, length-append, length-drop, take-append-drop, length-take-le}
-use Rattle.std.specs.Prelude.{Option, All, ℤ, pos, slice_get}
+use Rattle.std.proofs.Common.{◌≡◌, ℕ, suc, zero, ◌<◌, ◌≤◌, List, [], ◌∷◌, ◌++◌, length, replicate, take, drop, refl, sym, ◌∙◌, ap, subst, arith, append_assoc, append-nil, length-append, length-drop, take-append-drop, length-take-le}
+use Rattle.std.specs.Prelude.{Option, All, ℤ, pos}
 use Rattle.std.proofs.lemmas.Option.{slice_get_within}
 use Rattle.std.proofs.lemmas.List.Elements.{All-take, All-drop}
-use Rattle.borsh_walks.specs.Container.{Shape, primitive, sequence, product, choice, IsListedVariant, first_variant, later_variant, tag, Member, of_parts, Members, no_members, more_members}
+use Rattle.std.proofs.lemmas.List.{nil_from_length}
+use Rattle.borsh_walks.specs.Container.{Shape, primitive, sequence, product, choice, IsListedVariant, tag, Member, of_parts, Members, no_members, more_members}
 use Rattle.borsh_walks.proofs.Laws.{one_definition}
 use Rattle.borsh_values.proofs.MemberLaws.{parted, unwhole}
+use Rattle.borsh_values.proofs.TagLaws.{listed_index}
 use Rattle.borsh_compare.specs.Together.{HasNone, NamesGo, ShapesGo, PassesTo, stops, passes, opens, DefinitionsGo, GoUntil, begins, onward, GoThrough, Goes, without_definition, without_members, of_one_size, by_definition, by_parts}
 use Rattle.borsh_compare.proofs.Heights.{AllOf, all_none, all_more, all_joined, ValueOf, Within, find_height, within_member, within_parts, member_value, member_small}
 
 -- ---- definitions that go together
-listed_index : {j : ℤ} {q : List ℕ} (vs : List (ℤ × List ℕ)) → IsListedVariant j q vs → (i : ℕ) × (slice_get vs i ≡ Some (j, q))
-listed_index [] l = elim l [ ]
-listed_index (v ∷ vs) first_variant = (zero, refl)
-listed_index (v ∷ vs) (later_variant l) = let r = listed_index vs l in (suc r.0, r.1)
-
 module _ (R P Q : List ℕ → List ℕ → Type 0) (f : (x y bs : List ℕ) → R x y → P x bs → Q y bs) where
   copies_go : (k : ℕ) (e g bs : List ℕ) → (0 < k → R e g) → AllOf P (replicate k e) bs → AllOf Q (replicate k g) bs
   copies_go zero e g bs r all_none = all_none
@@ -66,10 +63,6 @@ All-middle ps bs cs a = subst (λ z. All (λ b. b < 256) z) (front bs cs) (All-t
     front [] ys = refl
     front (x ∷ xs) ys = ap (λ l. x ∷ l) (front xs ys)
 
-no_bytes : (bs : List ℕ) → length bs ≡ 0 → bs ≡ []
-no_bytes [] e = refl
-no_bytes (b ∷ bs) e = absurd (omega arith)
-
 module _ (C : List ℕ → Option Shape) where
   -- what a value of such names begins with
   pub leads_forth : (h : ℕ) {xs ys : List (List ℕ)} {n : ℕ} (bs : List ℕ) → PassesTo C xs n ys → AllOf (Within C h) xs bs → (us : List ℕ) × (vs : List ℕ) × (length us ≡ n) × AllOf (Within C h) ys vs × (bs ≡ us ++ vs)
@@ -82,7 +75,7 @@ module _ (C : List ℕ → Option Shape) where
 
   -- and how one is made
   pub leads_back : {xs ys : List (List ℕ)} {n : ℕ} (us vs : List ℕ) → PassesTo C xs n ys → length us ≡ n → All (λ b. b < 256) us → Members C ys vs → Members C xs (us ++ vs)
-  leads_back {xs} us vs stops l small m = subst (λ z. Members C xs (z ++ vs)) (sym (no_bytes us l)) m
+  leads_back {xs} us vs stops l small m = subst (λ z. Members C xs (z ++ vs)) (sym (nil_from_length us l)) m
   leads_back us vs (passes {x = x} {xs = xs} {n = n} k free t) l small m =
       let low : k ≤ length us = omega (arith, l) in
       let d = length-drop k us in

@@ -1,12 +1,11 @@
 -- Of schemas that correspond part by part only pairs are met that are in the correspondence.
-use Rattle.std.proofs.Common.{◌≡◌, ℕ, suc, zero, ◌<◌, ◌≤◌, List, [], ◌∷◌, ◌++◌, map, length, Some, refl, sym, ◌∙◌, ap, subst, arith, inl, inr}
-use Rattle.std.specs.Prelude.{Option, ℤ, slice_get, option_map, unwrap_or, Bool, false, Result, Ok, Err, IfOk, OnOk}
+use Rattle.std.proofs.Common.{◌≡◌, ◌≢◌, ℕ, suc, zero, ◌<◌, ◌≤◌, List, [], ◌∷◌, ◌++◌, map, length, Some, refl, sym, ◌∙◌, ap, subst, arith, inl, inr}
+use Rattle.std.specs.Prelude.{AllPairs, Option, ℤ, slice_get, option_map, unwrap_or, Bool, false, Result, Ok, Err, IfOk, OnOk}
 use Rattle.std.specs.BTreeMap.{BTreeMap}
 use Rattle.std.proofs.lemmas.List.{length-map}
 use Rattle.std.proofs.lemmas.Option.{slice_get_within, slice_get-map}
 use Rattle.borsh_walks.specs.Container.{Shape, sequence, product, IsIn, first, later, variant_names}
-use Rattle.borsh_walks.specs.SizeAnswer.{Distinct, distinct_none, distinct_more}
-use Rattle.borsh_walks.proofs.Names.{among_get, distinct_within}
+use Rattle.borsh_walks.proofs.Names.{among_get, distinct_none, distinct_more, distinct_within}
 use Rattle.borsh_plan.specs.declared.plan.Plan.{Plan}
 use Rattle.borsh_plan.specs.declared.named.Named.{Named}
 use Rattle.borsh_plan.specs.Names.{name_at, name_of, parts_in, shape_at}
@@ -19,7 +18,8 @@ use Rattle.borsh_compare.specs.Corresponding.{Listing, Lists, VariantCorresponds
 use Rattle.borsh_compare.specs.declared.pairs.Pair.{Pair}
 use Rattle.borsh_plan.specs.Zeros.{IsProduct}
 use Rattle.borsh_compare.proofs.Reading.{is_product_shape}
-use Rattle.borsh_compare.proofs.Parts.{same_some, defined_of, variant_part}
+use Rattle.borsh_walks.proofs.Propositions.{same_some}
+use Rattle.borsh_compare.proofs.Parts.{defined_of, variant_part}
 
 -- a list that keeps what it has is no shorter
 pub full_kept : (a b : List Pair) → Keeps a b → (n : ℕ) → n ≤ length a → n ≤ length b
@@ -141,7 +141,7 @@ module _ {A : Type 0} (f : A → List ℕ) where
   in_map (x ∷ xs) first = (zero, x, refl, refl)
   in_map (x ∷ xs) (later a) = let t = in_map xs a in (suc t.0, t.1, t.2, t.3)
 
-  distinct_map : (xs : List A) → ((i j : ℕ) (a b : A) → slice_get xs i ≡ Some a → slice_get xs j ≡ Some b → f a ≡ f b → i ≡ j) → Distinct (map f xs)
+  distinct_map : (xs : List A) → ((i j : ℕ) (a b : A) → slice_get xs i ≡ Some a → slice_get xs j ≡ Some b → f a ≡ f b → i ≡ j) → AllPairs ◌≢◌ (map f xs)
   distinct_map [] h = distinct_none
   distinct_map (x ∷ xs) h = distinct_more apart (distinct_map xs (λ i j a b p q e. (let z = h (suc i) (suc j) a b p q e in omega (arith, z))))
     where

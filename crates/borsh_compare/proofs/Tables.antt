@@ -9,7 +9,7 @@ use Rattle.borsh_compare.specs.Walks.{Keeps, HasPair}
 use Rattle.borsh_compare.specs.Indexed.{AddsOnly, HasIndices, LacksPair, pair_cmp, index_in}
 use Rattle.borsh_compare.specs.declared.pairs.Pair.{Pair}
 use Rattle.borsh_compare.proofs.Keeping.{keeps_more}
-use Rattle.borsh_compare.proofs.Parts.{same_some}
+use Rattle.borsh_walks.proofs.Propositions.{same_some}
 
 at_end : (a : List Pair) (p : Pair) → slice_get (a ++ p ∷ []) (length a) ≡ Some p
 at_end [] p = refl

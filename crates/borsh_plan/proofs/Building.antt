@@ -1,19 +1,14 @@
 -- The names of a root, as they are found.
-use Rattle.std.proofs.Common.{◌≡◌, ℕ, suc, zero, ◌+◌, ◌-◌, ◌*◌, ◌<◌, ◌≤◌, List, [], ◌∷◌, ◌++◌, length, Bool, true, false, Some, None, refl, sym, ◌∙◌, ap, subst, arith, add-one, length-append, ◌⊎◌, inl, inr}
-use Rattle.std.specs.Prelude.{Option, option_map, slice_get, String, Vec, string_bytes, cond}
+use Rattle.std.proofs.Common.{◌≡◌, ◌≢◌, ℕ, suc, zero, ◌+◌, ◌-◌, ◌*◌, ◌<◌, ◌≤◌, List, [], ◌∷◌, ◌++◌, length, Some, None, refl, sym, ◌∙◌, ap, subst, arith, add-one, length-append, ◌⊎◌, inl, inr}
+use Rattle.std.specs.Prelude.{AllPairs, Option, option_map, slice_get, String, Vec}
 use Rattle.std.specs.Global.{Global}
 use Rattle.std.specs.Borrow.{Bor}
-use Rattle.std.specs.Map.{lookup}
-use Rattle.std.specs.Cmp.Lexicographic.{slice_cmp}
-use Rattle.std.specs.Ordering.{nat_cmp, is_eq}
 use Rattle.std.proofs.lemmas.Bool.{cases_lt}
-use Rattle.std.specs.BTreeMap.{BTreeMap, btree_map_len, get_by_text}
+use Rattle.std.specs.BTreeMap.{BTreeMap, btree_map_len}
 use Rattle.borsh_walks.specs.declared.definition.Definition.{Definition}
 use Rattle.borsh_walks.specs.Container.{Shape, IsIn, first, later, references}
 use Rattle.borsh_walks.specs.Definitions.{definitions_in, shape_of}
-use Rattle.borsh_walks.specs.SizeAnswer.{Distinct, distinct_none, distinct_more}
-use Rattle.borsh_walks.proofs.Names.{names_within, next_below, also_defined, shape_some}
-use Rattle.borsh_walks.proofs.Measure.{work}
+use Rattle.borsh_walks.proofs.Names.{distinct_none, distinct_more, names_within, next_below, also_defined}
 use Rattle.borsh_plan.specs.Names.{name_of, named_shape, shape_at, parts_in, places_in, AreParts, IsIndex, IsPlanned, IsLed, Grows, IsAdded, IsPartOf}
 use Rattle.borsh_plan.specs.declared.named.Named.{Named}
 use Rattle.borsh_plan.proofs.NameLaws.{get_last, get_within, some_named, named_is, shape_is, shape_found, name_kept, shape_kept, parts_kept}
@@ -24,7 +19,7 @@ AreLed ns = (i : ℕ) (n : Named) → slice_get ns i ≡ Some n → 0 < i → Is
 -- each name has the places of its parts as far as ps goes; of those names so many have definitions
 pub record Building {A : Type 0} (m : BTreeMap (String A) Definition) (x0 : List ℕ) (ns : List Named) (T : List ℕ → Option ℕ) (ps : List (Vec ℕ Global)) (known : ℕ) : Type 0 where
   pub names : List (List ℕ)
-  pub distinct : Distinct names
+  pub distinct : AllPairs ◌≢◌ names
   pub count : length names ≡ known
   pub defined : (x : List ℕ) → IsIn x names → (d : Shape) × (definitions_in m x ≡ Some d)
   pub placed : (x : List ℕ) → IsIn x names → (i : ℕ) × (i < length ps) × (name_of ns i ≡ Some x)
@@ -123,7 +118,7 @@ module _ {A : Type 0} (m : BTreeMap (String A) Definition) (x0 : List ℕ) where
     pub defined_here : definitions_in m n.name.now ≡ Some (shape_of d.now)
     defined_here = shape_found m ns n.name.now (length ps) (b.index.looked_up n.name.now (length ps) name_here) ∙ shaped
 
-    once : Distinct (n.name.now ∷ b.names)
+    once : AllPairs ◌≢◌ (n.name.now ∷ b.names)
     once = distinct_more (λ a. again (b.placed n.name.now a)) b.distinct
       where
         again : (i : ℕ) × (i < length ps) × (name_of ns i ≡ Some n.name.now) → ⊥
@@ -227,24 +222,6 @@ fewer_defined D W known a b c e w room h g low l =
     let p : D - known ≡ suc (D - (known + 1)) = omega (arith, room) in
     let q = ap (λ i. i * (1 + W)) p in
     omega (arith, q, h, g, low, l)
-
-one_of : (w : ℕ) (e d : Definition) (others : Option Definition) (b : Bool) → cond b (Some e) others ≡ Some d → (others ≡ Some d → length (references (shape_of d)) ≤ w) → length (references (shape_of d)) ≤ length (references (shape_of e)) + w
-one_of w e d others true h f = let q : e ≡ d = cc in let r = ap (λ c. length (references (shape_of c))) q in omega (arith, r)
-one_of w e d others false h f = let r = f h in omega (arith, r)
-
-work_found : {A : Type 0} (x : List ℕ) (es : List (String A × Definition)) (d : Definition) → lookup (λ k. is_eq (slice_cmp nat_cmp x (string_bytes k))) es ≡ Some d → length (references (shape_of d)) ≤ work references es
-unfolding work
-work_found x [] d h = cc
-work_found x (e ∷ es) d h = one_of (work references es) e.1 d (lookup (λ k. is_eq (slice_cmp nat_cmp x (string_bytes k))) es) (is_eq (slice_cmp nat_cmp x (string_bytes e.0))) h (λ k. work_found x es d k)
-
--- the parts of a definition are not more than those of all
-pub work_within : {A : Type 0} (m : BTreeMap (String A) Definition) (x : List ℕ) (s : Shape) → definitions_in m x ≡ Some s → length (references s) ≤ work references m.entries
-work_within m x s e =
-    let d = shape_some (get_by_text m x) s e in
-    let w = work_found x m.entries d.0 d.1 in
-    let q : shape_of d.0 ≡ s = (let f = ap (λ o. option_map shape_of o) (sym d.1) ∙ e in cc) in
-    let r = ap (λ s. length (references s)) q in
-    omega (arith, w, r)
 
 pub longer : {X : Type 0} (xs : List X) (x : X) → length (xs ++ x ∷ []) ≡ length xs + 1
 longer xs x = length-append xs (x ∷ [])

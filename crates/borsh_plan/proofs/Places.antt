@@ -1,6 +1,6 @@
 -- What a table of names says of a place.
-use Rattle.std.proofs.Common.{◌≡◌, ℕ, suc, zero, ◌<◌, List, [], ◌∷◌, drop, ◌+◌, add-one, length, map, Some, None, refl, sym, ◌∙◌, ap, subst, arith, ◌⊎◌, inl, inr}
-use Rattle.std.specs.Prelude.{Option, String, Vec, slice_get, option_map, unwrap_or}
+use Rattle.std.proofs.Common.{◌≡◌, ℕ, suc, zero, ◌<◌, List, [], ◌∷◌, length, map, Some, None, refl, sym, ◌∙◌, ap, subst, arith, ◌⊎◌, inl, inr}
+use Rattle.std.specs.Prelude.{Option, String, Vec, slice_get, option_map}
 use Rattle.std.specs.Global.{Global}
 use Rattle.std.specs.BTreeMap.{BTreeMap}
 use Rattle.std.proofs.lemmas.Option.{slice_get-map}
@@ -11,20 +11,6 @@ use Rattle.borsh_walks.proofs.Names.{name_cases, next_below, among_get}
 use Rattle.borsh_plan.specs.declared.named.Named.{Named}
 use Rattle.borsh_plan.specs.Names.{name_of, name_at, shape_at, parts_in, places_in, AreParts, IsPlanned, IsPlaceOf}
 use Rattle.borsh_plan.proofs.NameLaws.{some_named, named_is, shape_found, get_within}
-
-drop_suc : {p : List ℕ} (xs : List (List ℕ)) (i : ℕ) → slice_get xs i ≡ Some p → drop i xs ≡ p ∷ drop (suc i) xs
-drop_suc [] i e = cc
-drop_suc {p} (x ∷ xs) zero e = let q : x ≡ p = cc in ap (λ y. y ∷ xs) q
-drop_suc (x ∷ xs) (suc i) e = drop_suc xs i e
-
-pub drop_next : {p : List ℕ} (xs : List (List ℕ)) (i : ℕ) → slice_get xs i ≡ Some p → drop i xs ≡ p ∷ drop (i + 1) xs
-drop_next {p} xs i e = drop_suc xs i e ∙ ap (λ k. p ∷ drop k xs) (sym (add-one i))
-
-pub drop_end : (xs : List (List ℕ)) (i : ℕ) → slice_get xs i ≡ None → drop i xs ≡ []
-drop_end [] zero e = refl
-drop_end [] (suc i) e = refl
-drop_end (x ∷ xs) zero e = cc
-drop_end (x ∷ xs) (suc i) e = drop_end xs i e
 
 pub name_there : (ns : List Named) (i : ℕ) → i < length ns → name_of ns i ≡ Some (name_at ns i)
 name_there [] i h = absurd (omega arith)

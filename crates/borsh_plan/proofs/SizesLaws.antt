@@ -1,11 +1,11 @@
 -- The sizes that are known.
 use Rattle.std.proofs.Common.{◌≡◌, ℕ, suc, zero, ◌+◌, ◌*◌, ◌^◌, ◌<◌, ◌≤◌, Bool, true, false, cond, eqb, ltb, List, [], ◌∷◌, ◌++◌, length, map, drop, replicate, get_or, Some, None, refl, sym, ◌∙◌, ap, subst, arith, add-one, length-append, inl, inr}
-use Rattle.std.specs.Prelude.{Option, All, slice_get, ℤ}
-use Rattle.std.proofs.Math.Nat.{suc-mul}
-use Rattle.std.proofs.lemmas.Bool.{lt-ltb, le-ltb, eqb-true, cases_lt}
+use Rattle.std.specs.Prelude.{Option, slice_get, sum, ℤ}
+use Rattle.std.proofs.lemmas.List.Sums.{sum_by-cons}
+use Rattle.std.proofs.lemmas.Bool.{lt-ltb, le-ltb, cases_lt}
 use Rattle.std.proofs.Math.ListN.{get_or-append}
 use Rattle.std.proofs.Math.Seq.{get_or-append_seam}
-use Rattle.borsh_walks.specs.Container.{Shape, primitive, sequence, product, choice, sum_of}
+use Rattle.borsh_walks.specs.Container.{Shape, primitive, sequence, product, choice}
 use Rattle.borsh_plan.specs.declared.named.Named.{Named}
 use Rattle.borsh_plan.specs.Names.{name_at, shape_at, parts_in}
 use Rattle.borsh_plan.specs.Sizes.{fitting, are_known, together, known_by, known_within, AreSizes, AreSizesBy}
@@ -39,31 +39,31 @@ cond_zero false = refl
 
 -- what is left to be summed, of all
 abbrev pub Summed : (List ℕ → ℕ) → List (List ℕ) → List (List ℕ) → ℕ → Type 0
-Summed P all left total = (are_known (map P all) ≡ are_known (map P left)) × (sum_of (map P all) ≡ total + sum_of (map P left))
+Summed P all left total = (are_known (map P all) ≡ are_known (map P left)) × (sum (map P all) ≡ total + sum (map P left))
 
 module _ (P : List ℕ → ℕ) (all : List (List ℕ)) where
   pub summed_start : Summed P all all 0
   summed_start = (refl, omega arith)
 
   pub summed_more : (p : List ℕ) (left : List (List ℕ)) (total size : ℕ) → size ≡ P p → (size ≡ 0 → ⊥) → Summed P all (p ∷ left) total → Summed P all left (total + size)
-  summed_more p left total size e some h = (h.0 ∙ known_on (P p) (map P left) (λ z. some (e ∙ z)), h.1 ∙ more (P p) (sum_of (map P left)) e)
+  summed_more p left total size e some h = (h.0 ∙ known_on (P p) (map P left) (λ z. some (e ∙ z)), h.1 ∙ ap (λ n. total + n) (sum_by-cons (λ n. n) (P p) (map P left)) ∙ more (P p) (sum (map P left)) e)
     where
       more : (n rest : ℕ) → size ≡ n → total + (n + rest) ≡ total + size + rest
       more n rest e = omega arith
 
   pub summed_unknown : (p : List ℕ) (left : List (List ℕ)) (total size : ℕ) → size ≡ P p → size ≡ 0 → Summed P all (p ∷ left) total → together (map P all) ≡ 0
-  summed_unknown p left total size e z h = ap (λ b. cond b (fitting (sum_of (map P all))) 0) (h.0 ∙ ap (λ n. are_known (n ∷ map P left)) (sym e ∙ z))
+  summed_unknown p left total size e z h = ap (λ b. cond b (fitting (sum (map P all))) 0) (h.0 ∙ ap (λ n. are_known (n ∷ map P left)) (sym e ∙ z))
 
   pub summed_large : (p : List ℕ) (left : List (List ℕ)) (total size : ℕ) → size ≡ P p → 2 ^ 64 ≤ total + size → Summed P all (p ∷ left) total → together (map P all) ≡ 0
-  summed_large p left total size e large h = ap (λ n. cond (are_known (map P all)) n 0) (fits_large (sum_of (map P all)) (more (P p) (sum_of (map P left)) (sum_of (map P all)) e h.1)) ∙ cond_zero (are_known (map P all))
+  summed_large p left total size e large h = ap (λ n. cond (are_known (map P all)) n 0) (fits_large (sum (map P all)) (more (P p) (sum (map P left)) (sum (map P all)) e (h.1 ∙ ap (λ n. total + n) (sum_by-cons (λ n. n) (P p) (map P left))))) ∙ cond_zero (are_known (map P all))
     where
-      more : (n rest sum : ℕ) → size ≡ n → sum ≡ total + (n + rest) → 2 ^ 64 ≤ sum
-      more n rest sum e s = omega arith
+      more : (n rest whole : ℕ) → size ≡ n → whole ≡ total + (n + rest) → 2 ^ 64 ≤ whole
+      more n rest whole e s = omega arith
 
   pub summed_end : (left : List (List ℕ)) (total : ℕ) → left ≡ [] → total < 2 ^ 64 → Summed P all left total → together (map P all) ≡ total
   summed_end left total e low h =
-      let s : sum_of (map P all) ≡ total = h.1 ∙ ap (λ l. total + sum_of (map P l)) e ∙ omega arith in
-      ap (λ b. cond b (fitting (sum_of (map P all))) 0) (h.0 ∙ ap (λ l. are_known (map P l)) e) ∙ ap (λ n. fitting n) s ∙ fits_small total low
+      let s : sum (map P all) ≡ total = h.1 ∙ ap (λ l. total + sum (map P l)) e ∙ omega arith in
+      ap (λ b. cond b (fitting (sum (map P all))) 0) (h.0 ∙ ap (λ l. are_known (map P l)) e) ∙ ap (λ n. fitting n) s ∙ fits_small total low
 
 -- ---- the size of a definition
 module _ (P : List ℕ → ℕ) (o : Option Shape) (s : Shape) (there : o ≡ Some s) where

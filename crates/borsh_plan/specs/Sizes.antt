@@ -1,7 +1,7 @@
 -- The sizes of names whose members are all bytes of one length, as far as definitions tell them.
-use Rattle.std.specs.Prelude.{◌≡◌, ℕ, suc, zero, ◌*◌, ◌^◌, ◌<◌, Bool, true, false, cond, eqb, ltb, List, [], ◌∷◌, map, length, get_or, Option, Some}
+use Rattle.std.specs.Prelude.{◌≡◌, ℕ, suc, zero, ◌*◌, ◌^◌, ◌<◌, Bool, true, false, cond, eqb, ltb, List, [], ◌∷◌, map, length, sum, get_or, Option, Some}
 use Rattle.std.specs.Coded.{Π_prop, Coded-set, coded_ℕ}
-use Rattle.borsh_walks.specs.Container.{Shape, primitive, sequence, product, sum_of}
+use Rattle.borsh_walks.specs.Container.{Shape, primitive, sequence, product}
 use Rattle.borsh_plan.specs.{declared.named.Named.Named, Names.name_at, Names.shape_at}
 
 -- the number, if it has at most 64 bits; else 0
@@ -16,7 +16,7 @@ are_known (suc n ∷ ns) = are_known ns
 
 -- the size of several parts together; 0 where that of one isn't known
 abbrev pub together : List ℕ → ℕ
-together ns = cond (are_known ns) (fitting (sum_of ns)) 0
+together ns = cond (are_known ns) (fitting (sum ns)) 0
 
 -- the size of a primitive, a struct, a tuple or an array, by the sizes of parts; 0 where it isn't known
 abbrev pub known_by : (List ℕ → ℕ) → Option Shape → ℕ

@@ -91,12 +91,12 @@ impl ColoredText {
         ensures ok { OnOk result (self.new.text.items ≡ self.old.text.items ++ color_code color) }
     {
         self.text
-            .extend_from_slice(&[27, b'[', b'3', digit(color), b'm'])
+            .extend_from_slice(&[27, b'[', b'3', color_digit(color), b'm'])
     }
 }
 
 /// The digit that stands for a colour.
-fn digit(color: Color) -> u8
+fn color_digit(color: Color) -> u8
     ensures { result ≡ color_digit color }
 {
     match color {

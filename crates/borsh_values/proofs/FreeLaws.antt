@@ -1,10 +1,12 @@
 -- Names whose members are all bytes of one length, and bytes that are passed at once.
 use Rattle.std.proofs.Common.{◌≡◌, ℕ, suc, zero, ◌+◌, ◌*◌, ◌<◌, ◌≤◌, Bool, true, false, cond, eqb, List, [], ◌∷◌, length, map, take, drop, replicate, Some, None, refl, sym, ◌∙◌, ap, subst, arith, length-append, length-drop, take-append-drop, length-take-le, ◌-◌, ◌++◌, add-one, append_assoc, append-nil, take-add}
-use Rattle.std.specs.Prelude.{Option, All, IfSome, MatchOption, slice_get, ℤ}
+use Rattle.std.specs.Prelude.{Option, All, IfSome, MatchOption, slice_get, sum, ℤ}
 use Rattle.std.proofs.lemmas.Bool.{eqb-true}
 use Rattle.std.proofs.Math.Nat.{suc-mul}
 use Rattle.std.proofs.lemmas.List.Elements.{All-take, All-drop}
-use Rattle.borsh_walks.specs.Container.{Shape, primitive, sequence, product, choice, sum_of, of_primitive, of_sequence, of_parts, Members, no_members, more_members, variant_names}
+use Rattle.std.proofs.lemmas.List.{nil_from_length}
+use Rattle.std.proofs.lemmas.List.Sums.{sum_by-cons}
+use Rattle.borsh_walks.specs.Container.{Shape, primitive, sequence, product, choice, of_primitive, of_sequence, of_parts, Members, no_members, more_members, variant_names}
 use Rattle.borsh_plan.specs.declared.{plan.Plan.Plan, named.Named.Named}
 use Rattle.borsh_plan.specs.Plan.{SizeAt, definitions_of, names_of}
 use Rattle.borsh_plan.specs.Names.{name_at, parts_in}
@@ -21,14 +23,7 @@ use Rattle.borsh_values.proofs.TakesLaws.{found_choice}
 -- ---- names whose members are all bytes of one length
 module _ (C : List ℕ → Option Shape) where
   pub free_none : FreeSizes C [] 0
-  free_none bs = ((λ m. ap (λ l. length l) (nothing m)), λ l small. subst (λ b. Members C [] b) (sym (no_bytes bs l)) no_members)
-    where
-      nothing : {bs : List ℕ} → Members C [] bs → bs ≡ []
-      nothing no_members = refl
-
-      no_bytes : (bs : List ℕ) → length bs ≡ 0 → bs ≡ []
-      no_bytes [] e = refl
-      no_bytes (b ∷ bs) e = absurd (omega arith)
+  free_none bs = ((λ m. ap (λ l. length l) (no_more m)), λ l small. subst (λ b. Members C [] b) (sym (nil_from_length bs l)) no_members)
 
   pub free_more : {p : List ℕ} {ps : List (List ℕ)} (m n : ℕ) → FreeSize C p m → FreeSizes C ps n → FreeSizes C (p ∷ ps) (m + n)
   free_more {p} {ps} m n f g bs = (
@@ -81,12 +76,12 @@ some_factor a (suc b) h = omega arith
 
 -- ---- names of a known size are free
 module _ (C : List ℕ → Option Shape) (P : List ℕ → ℕ) (sound : (x : List ℕ) → 0 < P x → FreeSize C x (P x)) where
-  all_free : (ps : List (List ℕ)) → are_known (map P ps) ≡ true → FreeSizes C ps (sum_of (map P ps))
+  all_free : (ps : List (List ℕ)) → are_known (map P ps) ≡ true → FreeSizes C ps (sum (map P ps))
   all_free [] h = free_none C
-  all_free (p ∷ ps) h = let k = first_known (P p) (map P ps) h in free_more C (P p) (sum_of (map P ps)) (sound p k.0) (all_free ps k.1)
+  all_free (p ∷ ps) h = let k = first_known (P p) (map P ps) h in subst (λ n. FreeSizes C (p ∷ ps) n) (sym (sum_by-cons (λ n. n) (P p) (map P ps))) (free_more C (P p) (sum (map P ps)) (sound p k.0) (all_free ps k.1))
 
-  together_or : (ps : List (List ℕ)) (b : Bool) → are_known (map P ps) ≡ b → 0 < cond b (fitting (sum_of (map P ps))) 0 → FreeSizes C ps (cond b (fitting (sum_of (map P ps))) 0)
-  together_or ps true e h = subst (λ n. FreeSizes C ps n) (sym (fits (sum_of (map P ps)) h)) (all_free ps e)
+  together_or : (ps : List (List ℕ)) (b : Bool) → are_known (map P ps) ≡ b → 0 < cond b (fitting (sum (map P ps))) 0 → FreeSizes C ps (cond b (fitting (sum (map P ps))) 0)
+  together_or ps true e h = subst (λ n. FreeSizes C ps n) (sym (fits (sum (map P ps)) h)) (all_free ps e)
   together_or ps false e h = absurd (omega arith)
 
   together_free : (ps : List (List ℕ)) → 0 < together (map P ps) → FreeSizes C ps (together (map P ps))

@@ -1,7 +1,7 @@
 -- Members of names: what they are, what their definitions open, and what follows them.
 use Rattle.std.proofs.Common.{◌≡◌, ℕ, suc, zero, ◌+◌, ◌/◌, ◌%◌, ◌^◌, ◌<◌, ◌≤◌, List, [], ◌∷◌, ◌++◌, length, replicate, Some, refl, sym, ◌∙◌, ap, subst, arith, append_assoc, inl, inr, pow-suc, ◌⊎◌, ◌*◌, take, drop, None, take-append-drop, length-take-le, length-append, length-drop, append-nil}
 use Rattle.std.specs.Prelude.{Option, All, ℤ, pos}
-use Rattle.std.proofs.lemmas.List.{append_cancel_left}
+use Rattle.std.proofs.lemmas.List.{append_cancel_left, nil_from_length}
 use Rattle.std.proofs.lemmas.Bool.{cases_lt}
 use Rattle.borsh_walks.specs.Container.{Shape, primitive, sequence, product, choice, IsIn, first, later, IsListedVariant, first_variant, later_variant, little_endian, tag, Member, of_primitive, of_sequence, of_parts, of_choice, Members, no_members, more_members, onward, Reached, Reaches, IsOnCycle}
 use Rattle.borsh_values.specs.Unambiguous.{DistinctTags, no_tags, more_tags, IsUnambiguous, UnambiguousShape}
@@ -197,17 +197,13 @@ packed_is n (Some (sequence w lo hi x)) e = absurd (omega (arith, e))
 packed_is n (Some (product ps)) e = absurd (omega (arith, e))
 packed_is n (Some (choice w vs)) e = absurd (omega (arith, e))
 
-no_bytes : (bs : List ℕ) → length bs ≡ 0 → bs ≡ []
-no_bytes [] e = refl
-no_bytes (b ∷ bs) e = absurd (omega arith)
-
 pub no_more : {C : List ℕ → Option Shape} {bs : List ℕ} → Members C [] bs → bs ≡ []
 no_more no_members = refl
 
 module _ (C : List ℕ → Option Shape) where
   -- as many bytes as k primitives have are k members
   pub copies_of : {e : List ℕ} (n k : ℕ) (cs : List ℕ) → C e ≡ Some (primitive (suc n)) → length cs ≡ k * suc n → All (λ b. b < 256) cs → Members C (replicate k e) cs
-  copies_of n zero cs c l small = subst (λ b. Members C [] b) (sym (no_bytes cs (omega (arith, l)))) no_members
+  copies_of n zero cs c l small = subst (λ b. Members C [] b) (sym (nil_from_length cs (omega (arith, l)))) no_members
   copies_of {e} n (suc k) cs c l small =
       let p = suc-mul k (suc n) in
       let low : suc n ≤ length cs = omega (arith, l, p) in

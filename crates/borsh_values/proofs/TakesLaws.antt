@@ -1,6 +1,6 @@
 -- What an opened definition takes.
 use Rattle.std.proofs.Common.{◌≡◌, ℕ, suc, zero, ◌+◌, ◌-◌, ◌*◌, ◌<◌, ◌≤◌, ◌^◌, List, [], ◌∷◌, ◌++◌, length, take, drop, replicate, Some, refl, sym, ◌∙◌, ap, subst, arith, append_assoc, length-append, length-drop, append-nil, take-add, ◌⊎◌, inl, inr}
-use Rattle.std.specs.Prelude.{Option, None, All, ℤ, pos, negsuc, slice_get}
+use Rattle.std.specs.Prelude.{Option, None, All, ℤ, pos, slice_get}
 use Rattle.borsh_walks.specs.Container.{Shape, primitive, sequence, product, choice, IsIn, first, later, IsListedVariant, little_endian, tag, variant_names, references, Member, of_primitive, of_sequence, of_parts, of_choice, Members, IsZeroSize, zeroed}
 use Rattle.borsh_values.specs.declared.frames.Opened.TheVariants.{Undecided, Refused, Taken}
 use Rattle.borsh_values.specs.declared.{tags.Found.TheVariants.Nothing, tags.Found.TheVariants.One, frames.Rest.TheVariants.Copies, frames.Rest.TheVariants.Parts, frames.Opened.Opened, faults.Reason.TheVariants.TooShort, faults.Reason.TheVariants.Count, faults.Reason.TheVariants.Tag}
@@ -9,7 +9,7 @@ use Rattle.borsh_plan.specs.declared.named.Named.{Named}
 use Rattle.std.proofs.Math.Nat.{suc-mul}
 use Rattle.std.proofs.lemmas.List.Elements.{All-take, All-drop}
 use Rattle.borsh_walks.proofs.Names.{among_one}
-use Rattle.borsh_walks.proofs.Laws.{length-tag, among-replicate, variant-listed}
+use Rattle.borsh_walks.proofs.Laws.{length-tag, tag-zero, among-replicate, variant-listed}
 use Rattle.borsh_values.specs.Unambiguous.{DistinctTags}
 use Rattle.borsh_values.specs.Nodes.{packed_size, OpensElements, Opens}
 use Rattle.borsh_values.specs.Membership.{BeginsWith, Refuses, few_for_elements, few_for_primitive, other_count, other_tag}
@@ -79,10 +79,6 @@ takes_primitive C n bytes low small none = record {
   needs = λ _ p a. elim a [ ];
 }
 
-no_tag : (k : ℤ) → tag zero k ≡ []
-no_tag (pos n) = refl
-no_tag (negsuc n) = refl
-
 -- bytes whose front is the tag k are the tag j and more: the tags are the same, and what follows
 same_tag : (w : ℕ) (k j : ℤ) (bytes cs ys : List ℕ) → tag w k ≡ take w bytes → bytes ≡ (tag w j ++ cs) ++ ys → (tag w k ≡ tag w j) × (drop w bytes ≡ cs ++ ys)
 same_tag w k j bytes cs ys t e = same_front (tag w k) (tag w j) (drop w bytes) (cs ++ ys) (ap (λ l. l ++ drop w bytes) t ∙ take_drop w bytes ∙ e ∙ append_assoc (tag w j) cs ys) (length-tag w k ∙ sym (length-tag w j))
@@ -92,7 +88,7 @@ module _ (C : List ℕ → Option Shape) where
   module _ (w lo hi k : ℕ) (e : List ℕ) (unambiguous : hi < lo + 256 ^ w) (low : lo ≤ k) (high : k ≤ hi) where
     sequence_only_empty : {x : List ℕ} → w ≡ 0 → C x ≡ Some (sequence w lo hi e) → AllOnlyEmpty C (replicate k e) → OnlyEmpty C x
     sequence_only_empty {x} z c a = (
-      subst (λ l. Member C x l) (ap (λ i. tag i (pos k) ++ []) z ∙ ap (λ l. l ++ []) (no_tag (pos k))) (of_sequence k c low high (only_empty_members C a)),
+      subst (λ l. Member C x l) (ap (λ i. tag i (pos k) ++ []) z ∙ ap (λ l. l ++ []) (tag-zero (pos k))) (of_sequence k c low high (only_empty_members C a)),
       sequence_zero C w lo hi k e z unambiguous low high c a,
     )
 
@@ -100,7 +96,7 @@ module _ (C : List ℕ → Option Shape) where
   module _ (w : ℕ) (k : ℤ) (p : List ℕ) (vs : List (ℤ × List ℕ)) (listed : IsListedVariant k p vs) (one : (j : ℤ) (q : List ℕ) → IsListedVariant j q vs → tag w j ≡ tag w k → q ≡ p) where
     choice_only_empty : {x : List ℕ} → (w ≡ 0 → vs ≡ (k, p) ∷ []) → w ≡ 0 → C x ≡ Some (choice w vs) → OnlyEmpty C p → OnlyEmpty C x
     choice_only_empty {x} single z c h = (
-      subst (λ l. Member C x l) (ap (λ i. tag i k ++ []) z ∙ ap (λ l. l ++ []) (no_tag k)) (of_choice c listed h.0),
+      subst (λ l. Member C x l) (ap (λ i. tag i k ++ []) z ∙ ap (λ l. l ++ []) (tag-zero k)) (of_choice c listed h.0),
       choice_zero C w k p vs z (single z) c h.1,
     )
 
@@ -288,7 +284,7 @@ found_there vs t i f none = let n = names_at vs i f.0 f.1 f.2 in cc
 
 -- a variant that is found by no byte is the only one
 single : (vs : List (ℤ × List ℕ)) (t : List ℕ) (i : ℕ) (f : FoundAs vs t (One i)) → t ≡ [] → vs ≡ (f.0, f.1) ∷ []
-single vs t i f z = go vs i f.2 (λ m j q e. f.4 m j q e (ap (λ b. tag (length b) j) z ∙ no_tag j ∙ sym z))
+single vs t i f z = go vs i f.2 (λ m j q e. f.4 m j q e (ap (λ b. tag (length b) j) z ∙ tag-zero j ∙ sym z))
   where
     go : {k : ℤ} {p : List ℕ} (vs : List (ℤ × List ℕ)) (i : ℕ) → slice_get vs i ≡ Some (k, p) → ((m : ℕ) (j : ℤ) (q : List ℕ) → slice_get vs m ≡ Some (j, q) → m ≡ i) → vs ≡ (k, p) ∷ []
     go [] i e f = cc

@@ -1,21 +1,20 @@
 -- A walk over the bytes of a value: its state, and what each step makes of it.
-use Rattle.std.proofs.Common.{◌++◌, replicate, subst, ◌≡◌, ℕ, suc, zero, ◌+◌, ◌<◌, List, [], ◌∷◌, drop, length, Some, None, refl, sym, ◌∙◌, ap, arith, get_or, set, ◌*◌, ◌≤◌, true, false, Bool, take, append_assoc, append-nil, length-drop, ◌⊎◌, inl, inr, add-one}
-use Rattle.std.specs.Prelude.{Option, String, option_map, string_bytes, cond}
+use Rattle.std.proofs.Common.{◌++◌, replicate, subst, ◌≡◌, ℕ, suc, zero, ◌+◌, ◌<◌, List, [], ◌∷◌, drop, length, Some, None, refl, sym, ◌∙◌, ap, arith, get_or, set, ◌*◌, ◌≤◌, take, append_assoc, append-nil, length-drop, ◌⊎◌, inl, inr, add-one}
+use Rattle.std.specs.Prelude.{Option, String}
 use Rattle.std.proofs.lemmas.List.{get_or-set_same, get_or-set_other, length-replicate, length-set}
+use Rattle.std.proofs.lemmas.List.Sums.{sum_by-cons}
 use Rattle.borsh_walks.proofs.Tables.{Updated}
 use Rattle.borsh_plan.specs.Names.{name_at, shape_at, parts_in, IsPlaceOf}
 use Rattle.borsh_plan.specs.Plan.{definitions_of, map_of, names_of, root_of}
 use Rattle.borsh_plan.specs.declared.{named.Named.Named, plan.Plan.Plan}
 use Rattle.borsh_values.specs.declared.{frames.Rest.Rest, frames.Rest.TheVariants.Copies, frames.Rest.TheVariants.Parts, frames.Step.Step, frames.Mark.Mark, frames.Frame.Frame, frames.Mark.TheVariants.Empty, frames.Mark.TheVariants.Open, faults.Reason.Reason, frames.Opened.TheVariants.Taken, runs.Passed.Passed}
-use Rattle.std.specs.BTreeMap.{BTreeMap, btree_map_len, get_by_text}
-use Rattle.std.specs.{Map.lookup, Ordering.nat_cmp, Ordering.is_eq}
+use Rattle.std.specs.BTreeMap.{BTreeMap, btree_map_len}
 use Rattle.borsh_walks.specs.Container.{Shape, references, IsIn, first, later, Member, of_primitive, of_sequence, of_parts, of_choice, Reached, Reaches, IsOnCycle, stays, onward}
-use Rattle.borsh_walks.specs.{Definitions.definitions_in, Definitions.shape_of, SizeAnswer.distinct_none, SizeAnswer.distinct_more}
 use Rattle.borsh_walks.specs.declared.definition.Definition.{Definition}
-use Rattle.borsh_values.specs.Cursor.{opens, parts_of_all, steps_of, Begun, On, Waits, Chain, Walk, Going, remaining, step_count, StepsOn, Fits, past_copies, mark_at, pending, required_by, OnlyEmpty, AllOnlyEmpty, Takes, NoneBegins, OpensAs, KnownAs}
-use Rattle.borsh_plan.proofs.Places.{drop_end, drop_next, name_is, name_there}
-use Rattle.borsh_walks.proofs.Names.{shape_some, name_cases, also_defined, among_one, among_append, among_right, names_within}
-use Rattle.std.specs.Cmp.Lexicographic.{slice_cmp}
+use Rattle.borsh_values.specs.Cursor.{opens, steps_of, Begun, On, Waits, Chain, Walk, Going, remaining, step_count, StepsOn, Fits, past_copies, mark_at, pending, required_by, OnlyEmpty, AllOnlyEmpty, Takes, NoneBegins, OpensAs, KnownAs}
+use Rattle.borsh_plan.proofs.Places.{name_is, name_there}
+use Rattle.borsh_walks.proofs.Measure.{work, work_within}
+use Rattle.borsh_walks.proofs.Names.{distinct_none, distinct_more, drop_end, drop_next, name_cases, also_defined, among_one, among_append, among_right, names_within}
 use Rattle.std.proofs.Math.Nat.{mul-le-mul_left}
 use Rattle.borsh_values.specs.Membership.{BeginsWith, LeadsTo}
 use Rattle.borsh_values.specs.Nodes.{Opens, Reads, reads_none}
@@ -89,16 +88,8 @@ none_marked n None = refl
 none_marked n (Some i) = none_at n i
 
 -- ---- how far the loop has to go
-one_of : (w : ℕ) (e d : Definition) (others : Option Definition) (b : Bool) → cond b (Some e) others ≡ Some d → (others ≡ Some d → length (references (shape_of d)) ≤ w) → length (references (shape_of d)) ≤ length (references (shape_of e)) + w
-one_of w e d others true h f = let q : e ≡ d = cc in let r = ap (λ c. length (references (shape_of c))) q in omega (arith, r)
-one_of w e d others false h f = let r = f h in omega (arith, r)
-
-pub parts_found : {A : Type 0} (x : List ℕ) (es : List (String A × Definition)) (d : Definition) → lookup (λ k. is_eq (slice_cmp nat_cmp x (string_bytes k))) es ≡ Some d → length (references (shape_of d)) ≤ parts_of_all es
-parts_found x [] d h = cc
-parts_found x (e ∷ es) d h = one_of (parts_of_all es) e.1 d (lookup (λ k. is_eq (slice_cmp nat_cmp x (string_bytes k))) es) (is_eq (slice_cmp nat_cmp x (string_bytes e.0))) h (λ k. parts_found x es d k)
-
 abbrev pub left : {A : Type 0} → BTreeMap (String A) Definition → List Named → ℕ → ℕ → List Frame → ℕ
-left m ns len idle fs = (3 + parts_of_all m.entries) * opens (btree_map_len m) len idle + steps_of ns fs
+left m ns len idle fs = (3 + work references m.entries) * opens (btree_map_len m) len idle + steps_of ns fs
 
 less : (w a b s t : ℕ) → a < b → s < w + t → w * a + s < w * b + t
 less w a b s t h k = let g : suc a ≤ b = omega arith in let p = mul-le-mul_left w g in omega (arith, p, k)
@@ -109,36 +100,30 @@ opens_still D len idle h = omega arith
 opens_on : (D a b idle : ℕ) → a < b → opens D a 0 < opens D b idle
 opens_on D a b idle h = let g : suc a ≤ b = omega arith in let p = mul-le-mul_left (suc D) g in omega (arith, p)
 
+more_steps : (ns : List Named) (f : Frame) (fs : List Frame) → steps_of ns (f ∷ fs) ≡ step_count ns f.rest + steps_of ns fs
+more_steps ns = sum_by-cons (λ f. step_count ns f.rest)
+
 -- the last frame goes on
 pub left_moved : {A : Type 0} (m : BTreeMap (String A) Definition) (ns : List Named) (len idle : ℕ) (f g : Frame) (fs : List Frame) → step_count ns g.rest < step_count ns f.rest → left m ns len idle (g ∷ fs) < left m ns len idle (f ∷ fs)
-left_moved m ns len idle f g fs h = omega (arith, h)
+left_moved m ns len idle f g fs h = omega (arith, h, more_steps ns f fs, more_steps ns g fs)
 
 -- a new one comes, without a byte
-pub left_still : {A : Type 0} (m : BTreeMap (String A) Definition) (ns : List Named) (len idle : ℕ) (f h g : Frame) (fs : List Frame) → suc idle ≤ btree_map_len m → step_count ns h.rest ≤ step_count ns f.rest → step_count ns g.rest ≤ 2 + parts_of_all m.entries → left m ns len (suc idle) (g ∷ h ∷ fs) < left m ns len idle (f ∷ fs)
-left_still m ns len idle f h g fs room low small = less (3 + parts_of_all m.entries) _ _ _ _ (opens_still (btree_map_len m) len idle room) (omega (arith, low, small))
+pub left_still : {A : Type 0} (m : BTreeMap (String A) Definition) (ns : List Named) (len idle : ℕ) (f h g : Frame) (fs : List Frame) → suc idle ≤ btree_map_len m → step_count ns h.rest ≤ step_count ns f.rest → step_count ns g.rest ≤ 2 + work references m.entries → left m ns len (suc idle) (g ∷ h ∷ fs) < left m ns len idle (f ∷ fs)
+left_still m ns len idle f h g fs room low small = less (3 + work references m.entries) _ _ _ _ (opens_still (btree_map_len m) len idle room) (omega (arith, low, small, more_steps ns f fs, more_steps ns h fs, more_steps ns g (h ∷ fs)))
 
 -- or with some
-pub left_on : {A : Type 0} (m : BTreeMap (String A) Definition) (ns : List Named) (a b idle : ℕ) (f h g : Frame) (fs : List Frame) → a < b → step_count ns h.rest ≤ step_count ns f.rest → step_count ns g.rest ≤ 2 + parts_of_all m.entries → left m ns a 0 (g ∷ h ∷ fs) < left m ns b idle (f ∷ fs)
-left_on m ns a b idle f h g fs room low small = less (3 + parts_of_all m.entries) _ _ _ _ (opens_on (btree_map_len m) a b idle room) (omega (arith, low, small))
+pub left_on : {A : Type 0} (m : BTreeMap (String A) Definition) (ns : List Named) (a b idle : ℕ) (f h g : Frame) (fs : List Frame) → a < b → step_count ns h.rest ≤ step_count ns f.rest → step_count ns g.rest ≤ 2 + work references m.entries → left m ns a 0 (g ∷ h ∷ fs) < left m ns b idle (f ∷ fs)
+left_on m ns a b idle f h g fs room low small = less (3 + work references m.entries) _ _ _ _ (opens_on (btree_map_len m) a b idle room) (omega (arith, low, small, more_steps ns f fs, more_steps ns h fs, more_steps ns g (h ∷ fs)))
 
 -- or one that has no parts was read with some bytes
 pub left_past : {A : Type 0} (m : BTreeMap (String A) Definition) (ns : List Named) (a b idle : ℕ) (f h : Frame) (fs : List Frame) → a < b → step_count ns h.rest ≤ step_count ns f.rest → left m ns a 0 (h ∷ fs) < left m ns b idle (f ∷ fs)
-left_past m ns a b idle f h fs room low = less (3 + parts_of_all m.entries) _ _ _ _ (opens_on (btree_map_len m) a b idle room) (omega (arith, low))
+left_past m ns a b idle f h fs room low = less (3 + work references m.entries) _ _ _ _ (opens_on (btree_map_len m) a b idle room) (omega (arith, low, more_steps ns f fs, more_steps ns h fs))
 
 -- a frame has a step left
 pub some_step : (ns : List Named) (r : Rest) → 0 < step_count ns r
 some_step ns (Copies at zero) = omega arith
 some_step ns (Copies at (suc k)) = omega arith
 some_step ns (Parts at n) = omega arith
-
--- the parts of a definition are not more than those of all
-pub parts_within : {A : Type 0} (m : BTreeMap (String A) Definition) (x : List ℕ) (s : Shape) → definitions_in m x ≡ Some s → length (references s) ≤ parts_of_all m.entries
-parts_within m x s e =
-    let d = shape_some (get_by_text m x) s e in
-    let w = parts_found x m.entries d.0 d.1 in
-    let q : shape_of d.0 ≡ s = (let f = ap (λ o. option_map shape_of o) (sym d.1) ∙ e in cc) in
-    let r = ap (λ s. length (references s)) q in
-    omega (arith, w, r)
 
 -- ---- what the loop keeps, and each of its steps
 abbrev pub with_rest : Frame → Rest → Frame
@@ -474,8 +459,8 @@ module _ (l : Plan) where
             fits = v.fits.2;
           }
 
-      small_frame : step_count (names_of l) r ≤ 2 + parts_of_all (map_of l).entries
-      small_frame = let k = parts_within (map_of l) (name_at (names_of l) s.at) d name_defined in let i = o.1 in omega (arith, k, i)
+      small_frame : step_count (names_of l) r ≤ 2 + work references (map_of l).entries
+      small_frame = let k = work_within references (map_of l) (name_at (names_of l) s.at) d name_defined in let i = o.1 in omega (arith, k, i)
 
       pub less_new : n ≡ 0 → KnownAs (get_or ms s.at None) (length rest) None → left (map_of l) (names_of l) (length rest) (idle + 1) (record { at = s.at; start = length rest; rest = r } ∷ with_rest f s.others ∷ fs) < left (map_of l) (names_of l) (length rest) idle (f ∷ fs)
       less_new z k = subst (λ i. left (map_of l) (names_of l) (length rest) i (record { at = s.at; start = length rest; rest = r } ∷ with_rest f s.others ∷ fs) < left (map_of l) (names_of l) (length rest) idle (f ∷ fs)) (sym (add-one idle)) (left_still (map_of l) (names_of l) (length rest) idle f (with_rest f s.others) (record { at = s.at; start = length rest; rest = r }) fs (room z k) g.steps small_frame)

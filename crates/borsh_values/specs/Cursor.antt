@@ -1,8 +1,9 @@
 -- Where a walk over the bytes of a value is, and what its steps find.
-use Rattle.std.specs.Prelude.{◌≡◌, ℕ, Bool, true, false, suc, zero, ◌+◌, ◌*◌, ◌≤◌, ◌<◌, ◌^◌, List, [], ◌∷◌, ◌++◌, length, take, drop, map, replicate, Option, Some, None, MatchOption, get_or, ⊤, ◌⊎◌, ◌-◌, reverse, String}
+use Rattle.std.specs.Prelude.{◌≡◌, ◌≢◌, AllPairs, ℕ, Bool, true, false, suc, zero, ◌+◌, ◌*◌, ◌≤◌, ◌<◌, ◌^◌, List, [], ◌∷◌, ◌++◌, length, take, drop, replicate, sum_by, Option, Some, None, MatchOption, get_or, ⊤, ◌⊎◌, ◌-◌, reverse}
 use Rattle.std.specs.{Borrow.Bor, BTreeMap.btree_map_len, BTreeMap.get_by_text}
-use Rattle.borsh_walks.specs.Container.{Shape, sum_of, sequence, product, choice, IsIn, Member, references, IsZeroSize, IsDefined, Members, Reached}
-use Rattle.borsh_walks.specs.{RulesAnswer.KeepsWidths, RulesAnswer.IsWidth, Definitions.shape_of, SizeAnswer.Distinct, declared.definition.Definition.Definition}
+use Rattle.borsh_walks.specs.Container.{Shape, sequence, product, choice, IsIn, Member, references, IsZeroSize, IsDefined, Members, Reached}
+use Rattle.borsh_walks.specs.{RulesAnswer.KeepsWidths, RulesAnswer.IsWidth, Definitions.shape_of, declared.definition.Definition.Definition}
+use Rattle.borsh_walks.proofs.Measure.{work}
 use Rattle.borsh_plan.specs.Names.{name_at, shape_at, parts_in}
 use Rattle.borsh_plan.specs.Plan.{definitions_of, map_of, names_of, root_of}
 use Rattle.borsh_plan.specs.{declared.named.Named.Named, declared.plan.Plan.Plan}
@@ -151,7 +152,7 @@ module _ (C : List ℕ → Option Shape) (ns : List Named) where
     pub past : (x : List ℕ) (n : ℕ) → T x ≡ Some (IsOpen n) → length rest ≤ n
     pub top : Waits C (length rest) f.start (name_at ns f.at) (remaining ns f.rest)
     pub chain : Chain (length rest) fs (name_at ns f.at) f.start
-    pub distinct : Distinct L
+    pub distinct : AllPairs ◌≢◌ L
     pub defined : (x : List ℕ) → IsIn x L → IsDefined C x
     pub marked : (x : List ℕ) → IsIn x L → (T x ≡ Some Empty) ⊎ (T x ≡ Some (IsOpen (length rest)))
 
@@ -177,17 +178,14 @@ pub record IsCursor (c : Cursor) : Type 0 where
 
 -- ---- at most so many steps are left
 abbrev pub steps_of : List Named → List Frame → ℕ
-steps_of ns fs = sum_of (map (λ f. step_count ns f.rest) fs)
-
-abbrev pub parts_of_all : {A : Type 0} → List (String A × Definition) → ℕ
-parts_of_all es = sum_of (map (λ e. length (references (shape_of e.1))) es)
+steps_of ns fs = sum_by (λ f. step_count ns f.rest) fs
 
 -- for each byte, each definition may be opened once
 abbrev pub opens : ℕ → ℕ → ℕ → ℕ
 opens D len idle = len * suc D + (D - idle)
 
 abbrev pub steps_left : Cursor → ℕ
-steps_left c = (3 + parts_of_all (map_of c.plan.now).entries) * opens (btree_map_len (map_of c.plan.now)) (length c.left.now) c.idle + steps_of (names_of c.plan.now) (c.frame ∷ reverse c.stack.items)
+steps_left c = (3 + work references (map_of c.plan.now).entries) * opens (btree_map_len (map_of c.plan.now)) (length c.left.now) c.idle + steps_of (names_of c.plan.now) (c.frame ∷ reverse c.stack.items)
 
 -- ---- steps
 abbrev pub name_in : Cursor → ℕ → List ℕ

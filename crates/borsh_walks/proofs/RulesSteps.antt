@@ -1,5 +1,5 @@
 -- The steps of the walk over the reached names.
-use Rattle.std.proofs.Common.{◌≡◌, ℕ, suc, zero, ◌+◌, ◌<◌, List, [], ◌∷◌, length, drop, add-one, refl, sym, ◌∙◌, ap, subst, arith, Some, None, true, Bool, ◌⊎◌, inl, inr}
+use Rattle.std.proofs.Common.{◌≡◌, ℕ, suc, zero, ◌+◌, ◌<◌, List, [], ◌∷◌, length, drop, sym, ◌∙◌, ap, subst, arith, Some, None, true, Bool, ◌⊎◌, inl, inr}
 use Rattle.std.specs.Prelude.{Option, slice_get}
 use Rattle.std.specs.Borrow.{Bor}
 use Rattle.std.specs.BTreeMap.{BTreeMap, btree_map_len}
@@ -14,7 +14,7 @@ use Rattle.borsh_walks.specs.declared.counted.Question.TheVariants.{Zero as Zero
 use Rattle.borsh_walks.specs.declared.counted.Expansions.{Expansions}
 use Rattle.borsh_walks.specs.declared.stack.Spot.{Spot}
 use Rattle.borsh_walks.proofs.Laws.{one_definition}
-use Rattle.borsh_walks.proofs.Names.{next_below, among_get, among_append, among_left, among_right, among_one}
+use Rattle.borsh_walks.proofs.Names.{drop_end, drop_next, next_below, among_get, among_append, among_left, among_right, among_one}
 use Rattle.borsh_walks.proofs.Tables.{Updated, marks_none, marks_none_at, marks_start, marks_more, marks_same, has_mark}
 use Rattle.borsh_walks.proofs.Spots.{moved}
 use Rattle.borsh_walks.proofs.Counting.{raised-more}
@@ -57,17 +57,6 @@ module _ (C : List ℕ → Option Shape) (root : List ℕ) where
       elements_new x d e first q k f = marks.1 e (ap checked_element (sym (one_definition q c)) ∙ k) f
       elements_new x d e (later a) q k f = marks.0 e (s.elements x d e a q k f)
 
-drop_none : (xs : List (List ℕ)) (i : ℕ) → slice_get xs i ≡ None → drop i xs ≡ []
-drop_none [] zero e = refl
-drop_none [] (suc i) e = refl
-drop_none (x ∷ xs) zero e = cc
-drop_none (x ∷ xs) (suc i) e = drop_none xs i e
-
-drop_some : {p : List ℕ} (xs : List (List ℕ)) (i : ℕ) → slice_get xs i ≡ Some p → drop i xs ≡ p ∷ drop (suc i) xs
-drop_some [] i e = cc
-drop_some {p} (x ∷ xs) zero e = let q : x ≡ p = cc in ap (λ y. y ∷ xs) q
-drop_some (x ∷ xs) (suc i) e = drop_some xs i e
-
 no_one : {z : List ℕ} → IsIn z [] → ⊥
 no_one b = elim b [ ]
 
@@ -102,7 +91,7 @@ module _ (C : List ℕ → Option Shape) (root : List ℕ) where
   }
     where
       at_last : (y : List ℕ) → IsIn y (pending (f ∷ fs)) → IsIn y s.names ⊎ IsIn y [] ⊎ IsIn y (pending fs)
-      at_last y c = elim (among_append (drop f.next (references (spot_shape f))) (pending fs) c) [ inl b ↦ inr (inl (subst (λ l. IsIn y l) (drop_none (references (spot_shape f)) f.next e) b)) | inr b ↦ inr (inr b) ]
+      at_last y c = elim (among_append (drop f.next (references (spot_shape f))) (pending fs) c) [ inl b ↦ inr (inl (subst (λ l. IsIn y l) (drop_end (references (spot_shape f)) f.next e) b)) | inr b ↦ inr (inr b) ]
 
   -- its next reference is taken off the stack
   pub rules_take : {seen : NameTable Bool} {zeros : BTreeMap (Bor (List ℕ)) Bool} (fs wn : List Spot) (f : Spot) (p : List ℕ) → RulesState C root [] seen (f ∷ fs) zeros → slice_get (references (spot_shape f)) f.next ≡ Some p → wn ≡ moved f ∷ fs → RulesState C root (p ∷ []) seen wn zeros
@@ -124,7 +113,7 @@ module _ (C : List ℕ → Option Shape) (root : List ℕ) where
       rest = drop (f.next + 1) (references (spot_shape f))
 
       cut : drop f.next (references (spot_shape f)) ≡ p ∷ rest
-      cut = drop_some (references (spot_shape f)) f.next e ∙ ap (λ k. p ∷ drop k (references (spot_shape f))) (sym (add-one f.next))
+      cut = drop_next (references (spot_shape f)) f.next e
 
       at_last : (y : List ℕ) → IsIn y (pending (f ∷ fs)) → IsIn y s.names ⊎ IsIn y (p ∷ []) ⊎ IsIn y (pending (moved f ∷ fs))
       at_last y c = elim (among_append (drop f.next (references (spot_shape f))) (pending fs) c) [

@@ -1,13 +1,12 @@
 -- That there is a size where nothing that is needed is missing or leads back to itself.
-use Rattle.std.proofs.Common.{◌≡◌, ℕ, suc, zero, ◌+◌, ◌≤◌, List, [], ◌∷◌, length, Some, None, refl, arith}
-use Rattle.std.specs.Prelude.{Option, String}
+use Rattle.std.proofs.Common.{◌≡◌, ◌≢◌, ℕ, suc, zero, ◌+◌, ◌≤◌, List, [], ◌∷◌, length, Some, None, refl, arith}
+use Rattle.std.specs.Prelude.{AllPairs, Option, String}
 use Rattle.std.specs.BTreeMap.{BTreeMap, get_by_text}
 use Rattle.borsh_walks.specs.declared.definition.Definition.{Definition}
 use Rattle.borsh_walks.specs.Container.{Shape, IsIn, first, later, size_references, MaxSize, sized, MaxSizes, no_sizes, more_sizes, size_from_parts, Reaches, stays, onward, SizeReaches, IsRecursive}
 use Rattle.borsh_walks.specs.Definitions.{definitions_in}
-use Rattle.borsh_walks.specs.SizeAnswer.{Distinct, distinct_none, distinct_more}
 use Rattle.borsh_walks.proofs.SizeClaims.{HasSize}
-use Rattle.borsh_walks.proofs.Names.{distinct_within, key_names, found_among, shape_some}
+use Rattle.borsh_walks.proofs.Names.{distinct_none, distinct_more, distinct_within, key_names, found_among, shape_some}
 
 defined : (o : Option Shape) → (o ≡ None → ⊥) → (d : Shape) × (o ≡ Some d)
 defined None f = absurd (f refl)
@@ -35,11 +34,11 @@ module _ (C : List ℕ → Option Shape) where
 
   module _ (root : List ℕ) (all : List (List ℕ)) (is_all : (x : List ℕ) (d : Shape) → C x ≡ Some d → IsIn x all) (missing : (x : List ℕ) → SizeReaches C root x → C x ≡ None → ⊥) (back : IsRecursive C root → ⊥) where
     -- a name that the names of the chain lead to isn't among them
-    longer : {path : List (List ℕ)} {x : List ℕ} → Distinct path → ((z : List ℕ) → IsIn z path → LeadsBelow z x) → SizeReaches C root x → Distinct (x ∷ path)
+    longer : {path : List (List ℕ)} {x : List ℕ} → AllPairs ◌≢◌ path → ((z : List ℕ) → IsIn z path → LeadsBelow z x) → SizeReaches C root x → AllPairs ◌≢◌ (x ∷ path)
     longer {x = x} distinct below needed = distinct_more (λ a. back (x, needed, below x a)) distinct
 
     -- below a chain of names that lead to x; `left` bounds the names that are not on it
-    size_below_path : (left : ℕ) (path : List (List ℕ)) (x : List ℕ) → Distinct path → ((z : List ℕ) → IsIn z path → IsIn z all) → ((z : List ℕ) → IsIn z path → LeadsBelow z x) → SizeReaches C root x → length all ≤ left + length path → (n : ℕ) × MaxSize C x n
+    size_below_path : (left : ℕ) (path : List (List ℕ)) (x : List ℕ) → AllPairs ◌≢◌ path → ((z : List ℕ) → IsIn z path → IsIn z all) → ((z : List ℕ) → IsIn z path → LeadsBelow z x) → SizeReaches C root x → length all ≤ left + length path → (n : ℕ) × MaxSize C x n
     size_below_path zero path x distinct within below needed room =
         let d = defined (C x) (missing x needed) in
         let few = distinct_within (x ∷ path) all (longer distinct below needed) (λ z a. also_within (is_all x d.0 d.1) within a) in

@@ -1,10 +1,10 @@
 -- The walk for a size: what its loop keeps, and each of its steps.
-use Rattle.std.proofs.Common.{◌≡◌, ℕ, suc, zero, ◌+◌, ◌*◌, ◌<◌, ◌≤◌, List, [], ◌∷◌, ◌++◌, length, replicate, take, drop, take-append-drop, Some, None, refl, sym, ◌∙◌, ap, subst, arith, inl, inr}
-use Rattle.std.specs.Prelude.{Option, max, slice_get, ⊤}
-use Rattle.borsh_walks.specs.Container.{Shape, primitive, sequence, product, choice, IsIn, IsDefined, first, later, size_references, sum_of, greatest, size_from_parts, MaxSize, sized, MaxSizes, no_sizes, more_sizes, PartialSize, left_out, taken, PartialSizes, no_partial, more_partial, Reaches, stays, onward, SizeReaches, IsRecursive}
+use Rattle.std.proofs.Common.{◌≡◌, ◌≢◌, ℕ, suc, zero, ◌+◌, ◌*◌, ◌<◌, ◌≤◌, List, [], ◌∷◌, ◌++◌, length, replicate, take, drop, take-append-drop, Some, None, refl, sym, ◌∙◌, ap, subst, arith, inl, inr}
+use Rattle.std.specs.Prelude.{AllPairs, Option, max, slice_get, sum, ⊤}
+use Rattle.borsh_walks.specs.Container.{Shape, primitive, sequence, product, choice, IsIn, IsDefined, first, later, size_references, greatest, size_from_parts, MaxSize, sized, MaxSizes, no_sizes, more_sizes, PartialSize, left_out, taken, PartialSizes, no_partial, more_partial, Reaches, stays, onward, SizeReaches, IsRecursive}
 use Rattle.borsh_walks.specs.Definitions.{spot_shape}
 use Rattle.borsh_walks.specs.SizeParts.{partial_size, add_part, size_of_parts}
-use Rattle.borsh_walks.specs.SizeAnswer.{Distinct, distinct_none, distinct_more, AreSizeReached}
+use Rattle.borsh_walks.specs.SizeAnswer.{AreSizeReached}
 use Rattle.borsh_walks.specs.Tables.{NameTable, mark_at, name_number, Visited}
 use Rattle.std.specs.Map.{lookup}
 use Rattle.std.specs.Cmp.Lexicographic.{slice_cmp}
@@ -13,8 +13,9 @@ use Rattle.borsh_walks.specs.declared.sizes.Frame.{Frame}
 use Rattle.borsh_walks.specs.declared.sizes.Mark.{Mark}
 use Rattle.borsh_walks.specs.declared.sizes.Mark.TheVariants.{Open, Finished}
 use Rattle.borsh_walks.specs.declared.stack.Spot.{Spot}
-use Rattle.borsh_walks.proofs.Laws.{one_definition, sizes_among, no_cycle, size_partial, sizes_partial}
-use Rattle.borsh_walks.proofs.Names.{among_get, among_left, among_one, other_one, name_cases}
+use Rattle.std.proofs.lemmas.List.Sums.{sum_by-append, sum_by_push}
+use Rattle.borsh_walks.proofs.Laws.{one_definition, sum-replicate, sizes_among, no_cycle, size_partial, sizes_partial}
+use Rattle.borsh_walks.proofs.Names.{distinct_none, distinct_more, distinct_rest, among_get, among_left, among_one, other_one, name_cases}
 use Rattle.borsh_walks.proofs.Tables.{Updated, marks_more, marks_again, marks_start}
 use Rattle.borsh_walks.proofs.Spots.{moved, names_of, take_more, take_whole, SpotOk, spot_new, spot_moved, spot_kept, all_settled, Chain, chain_leads, chain_kept, path_leads}
 
@@ -44,24 +45,18 @@ total_is (sequence w lo hi e) ns = refl
 total_is (product ps) ns = refl
 total_is (choice w vs) ns = refl
 
-sum-more : (ns : List ℕ) (n : ℕ) → sum_of (ns ++ n ∷ []) ≡ sum_of ns + n
-sum-more [] n = omega arith
-sum-more (m ∷ ns) n = let h = sum-more ns n in omega arith
-
 greatest-more : (ns : List ℕ) (n : ℕ) → greatest (ns ++ n ∷ []) ≡ max (greatest ns) n
 greatest-more [] n = omega arith
 greatest-more (m ∷ ns) n = let h = greatest-more ns n in omega arith
 
 pub gathered-one_more : (d : Shape) (ns : List ℕ) (n : ℕ) → partial_size d (ns ++ n ∷ []) ≡ add_part d (partial_size d ns) n
-gathered-one_more (primitive k) ns n = sum-more ns n
-gathered-one_more (sequence w lo hi e) ns n = sum-more ns n
-gathered-one_more (product ps) ns n = sum-more ns n
+gathered-one_more (primitive k) ns n = sum_by_push (λ x. x) ns n
+gathered-one_more (sequence w lo hi e) ns n = sum_by_push (λ x. x) ns n
+gathered-one_more (product ps) ns n = sum_by_push (λ x. x) ns n
 gathered-one_more (choice w vs) ns n = greatest-more ns n
 
-sum-zeros : (ns : List ℕ) (k : ℕ) → sum_of (ns ++ replicate k 0) ≡ sum_of ns
-sum-zeros [] zero = refl
-sum-zeros [] (suc k) = let h = sum-zeros [] k in omega arith
-sum-zeros (m ∷ ns) k = let h = sum-zeros ns k in omega arith
+sum-zeros : (ns : List ℕ) (k : ℕ) → sum (ns ++ replicate k 0) ≡ sum ns
+sum-zeros ns k = let a = sum_by-append (λ x. x) ns (replicate k 0) in let z = sum-replicate k 0 in omega (arith, a, z)
 
 greatest-zeros : (ns : List ℕ) (k : ℕ) → greatest (ns ++ replicate k 0) ≡ greatest ns
 greatest-zeros [] zero = refl
@@ -76,7 +71,7 @@ sum-le-times (suc hi) s h = omega arith
 pub gathered-le_total : (d : Shape) {p : List ℕ} (ns : List ℕ) → IsIn p (size_references d) → partial_size d ns ≤ size_from_parts d ns
 gathered-le_total (primitive k) ns a = elim a [ ]
 gathered-le_total (sequence w lo zero e) ns a = elim a [ ]
-gathered-le_total (sequence w lo (suc hi) e) ns a = let h = sum-le-times (suc hi) (sum_of ns) (omega arith) in omega arith
+gathered-le_total (sequence w lo (suc hi) e) ns a = let h = sum-le-times (suc hi) (sum ns) (omega arith) in omega arith
 gathered-le_total (product ps) ns a = omega arith
 gathered-le_total (choice w vs) ns a = omega arith
 
@@ -153,20 +148,17 @@ module _ (C : List ℕ → Option Shape) where
       (size_from_parts (shape f) ns, taken (shape f) far defined (subst (λ u. PartialSizes C (f.spot.name.now ∷ stack) u ns) (sym whole) all), omega (arith, large, same, low))
 
   part_large : (d : Shape) (ms : List ℕ) (k : ℕ) → k ≤ partial_size d (ms ++ k ∷ [])
-  part_large (primitive n) ms k = rw sum-more (omega arith)
-  part_large (sequence w lo hi e) ms k = rw sum-more (omega arith)
-  part_large (product ps) ms k = rw sum-more (omega arith)
+  part_large (primitive n) ms k = rw (sum_by_push (λ x. x)) (omega arith)
+  part_large (sequence w lo hi e) ms k = rw (sum_by_push (λ x. x)) (omega arith)
+  part_large (product ps) ms k = rw (sum_by_push (λ x. x)) (omega arith)
   part_large (choice w vs) ms k = rw greatest-more (omega arith)
 
-  far_from : {x : List ℕ} {xs : List (List ℕ)} → Distinct (x ∷ xs) → (IsIn x xs → ⊥) × Distinct xs
-  far_from (distinct_more n d) = (n, d)
-
   -- a partial size of the end lifts to one of the root
-  lifted : (S : List ℕ → Type 0) {root : List ℕ} (y : List ℕ) (limit : ℕ) (fs : List Frame) → Chain C size_references S root (spots_of fs) y → AllMade fs → Distinct (names_of (spots_of fs)) → ((k : ℕ) × PartialSize C (names_of (spots_of fs)) y k × (limit ≤ k)) → (k : ℕ) × PartialSize C [] root k × (limit ≤ k)
+  lifted : (S : List ℕ → Type 0) {root : List ℕ} (y : List ℕ) (limit : ℕ) (fs : List Frame) → Chain C size_references S root (spots_of fs) y → AllMade fs → AllPairs ◌≢◌ (names_of (spots_of fs)) → ((k : ℕ) × PartialSize C (names_of (spots_of fs)) y k × (limit ≤ k)) → (k : ℕ) × PartialSize C [] root k × (limit ≤ k)
   lifted S y limit [] c m apart s = (s.0, subst (λ z. PartialSize C [] z s.0) (sym c) s.1, s.2)
   lifted S y limit (f ∷ fs) c m apart s =
       let large = part_large (shape f) m.0.sizes s.0 in
-      let far = far_from apart in
+      let far = distinct_rest apart in
       lifted S f.spot.name.now limit fs c.2 m.1 far.1 (frame_partial m.0 limit (names_of (spots_of fs)) y s.0 c.0.defined (λ z a. (path_leads C size_references S (spots_of fs) c.2 a).1) far.0 c.1 s.1 (omega (arith, large, s.2)))
 
   -- ---- what the loop keeps: T marks the names, fs is the stack and f its last frame, L the names looked at
@@ -174,7 +166,7 @@ module _ (C : List ℕ → Option Shape) where
     pub chain : Chain C size_references (IsFinished T) root (spots_of fs) f.spot.name.now
     pub ok : SpotOk C size_references (IsFinished T) f.spot
     pub made : AllMade (f ∷ fs)
-    pub apart : Distinct (path_of f fs)
+    pub apart : AllPairs ◌≢◌ (path_of f fs)
     pub opened : (x : List ℕ) → IsIn x (path_of f fs) → T x ≡ Some Open
     pub open_is : (x : List ℕ) → T x ≡ Some Open → IsIn x (path_of f fs)
     pub size_is : (x : List ℕ) (n : ℕ) → T x ≡ Some (Finished n) → MaxSize C x n
@@ -273,7 +265,7 @@ module _ (C : List ℕ → Option Shape) where
   pub step_pop : {root : List ℕ} {T U : List ℕ → Option Mark} {fs : List Frame} {f h : Frame} {L : List (List ℕ)} (n : ℕ) → State root T (h ∷ fs) f L → slice_get (size_references (shape f)) f.spot.next ≡ None → n ≡ size_of_parts (shape f) f.gathered → Updated T U f.spot.name.now (Finished n) → State root U fs h L
   step_pop {root} {T} {U} {fs} {f} {h} {L} n s e q u =
       let w = step_whole n s e q u in
-      let far = far_from s.apart in
+      let far = distinct_rest s.apart in
       record {
         chain = chain_kept C size_references w.keeps root h.spot.name.now (spots_of fs) s.chain.2;
         ok = spot_kept C size_references w.keeps s.chain.0;
@@ -298,7 +290,7 @@ module _ (C : List ℕ → Option Shape) where
   pub fault_gather : {root : List ℕ} {T : List ℕ → Option Mark} {fs : List Frame} {f : Frame} {L : List (List ℕ)} (limit : ℕ) (p : List ℕ) (n : ℕ) → State root T fs f L → slice_get (size_references (shape f)) f.spot.next ≡ Some p → T p ≡ Some (Finished n) → limit ≤ add_part (shape f) f.gathered n → (k : ℕ) × PartialSize C [] root k × (limit ≤ k)
   fault_gather {root} {T} {fs} {f} limit p n s e t low =
       let m = s.made.0 in
-      let far = far_from s.apart in
+      let far = distinct_rest s.apart in
       let size = s.size_is p n t in
       let back : (z : List ℕ) → Reaches C size_references p z → IsIn z (path_of f fs) → ⊥ = λ z l a. no_cycle C size (f.spot.name.now, shape f, lead_trans l (path_leads C size_references (IsFinished T) (spots_of fs) s.chain a).1, s.ok.defined, among_get (size_references (shape f)) f.spot.next e) in
       let same : partial_size (shape f) (m.sizes ++ n ∷ []) ≡ add_part (shape f) f.gathered n = gathered-one_more (shape f) m.sizes n ∙ ap (λ g. add_part (shape f) g n) (sym m.made) in
@@ -307,7 +299,7 @@ module _ (C : List ℕ → Option Shape) where
   pub fault_finish : {root : List ℕ} {T : List ℕ → Option Mark} {fs : List Frame} {f : Frame} {L : List (List ℕ)} (limit : ℕ) → State root T fs f L → slice_get (size_references (shape f)) f.spot.next ≡ None → limit ≤ size_of_parts (shape f) f.gathered → (k : ℕ) × PartialSize C [] root k × (limit ≤ k)
   fault_finish {root} {T} {fs} {f} limit s e low =
       let m = s.made.0 in
-      let far = far_from s.apart in
+      let far = distinct_rest s.apart in
       let ups : (z : List ℕ) → IsIn z (path_of f fs) → Reaches C size_references z f.spot.name.now = λ z a. (path_leads C size_references (IsFinished T) (spots_of fs) s.chain a).1 in
       let settled = take_whole (size_references (shape f)) f.spot.next e in
       let product = subst (λ l. PartialSizes C (path_of f fs) l m.sizes) settled (sizes_partial C (path_of f fs) m.are (frame_apart m (names_of (spots_of fs)) s.ok.defined ups)) in
@@ -329,7 +321,7 @@ module _ (C : List ℕ → Option Shape) where
         chain = refl;
         ok = spot_new C size_references c next;
         made = (made_none next made, tt);
-        apart = distinct_more (λ a. elim a [ ]) distinct_none;
+        apart = distinct_more {xs = []} (λ a. elim a [ ]) distinct_none;
         opened = λ x a. ap U (among_one a) ∙ u.here;
         open_is = λ x h. push_open_is {T = T} u (λ x h. let b = empty x in cc) x h;
         size_is = λ x n h. absurd (no_finished x n h);

@@ -1,11 +1,10 @@
 -- What the walk over the reached names keeps.
-use Rattle.std.specs.Prelude.{◌≡◌, ℕ, ◌+◌, ◌≤◌, ◌↔◌, ◌⊎◌, ◌++◌, List, [], ◌∷◌, length, drop, Option, Some, None, Bool, Result, OnOk, Ok, Err, ⊤}
+use Rattle.std.specs.Prelude.{◌≡◌, ◌≢◌, AllPairs, ℕ, ◌+◌, ◌≤◌, ◌↔◌, ◌⊎◌, ◌++◌, List, [], ◌∷◌, length, drop, Option, Some, None, Bool, Result, OnOk, Ok, Err, ⊤}
 use Rattle.std.specs.Borrow.{Bor}
 use Rattle.std.specs.BTreeMap.{BTreeMap, btree_map_len}
 use Rattle.borsh_walks.specs.Container.{Shape, IsIn, IsDefined, Rule, Breaks, Reached, references}
 use Rattle.borsh_walks.specs.Definitions.{spot_shape}
 use Rattle.borsh_walks.specs.Counts.{counts_of, definition_at, definitions_of, add_to}
-use Rattle.borsh_walks.specs.SizeAnswer.{Distinct}
 use Rattle.borsh_walks.specs.ZeroAnswer.{ZeroTable}
 use Rattle.borsh_walks.specs.Tables.{mark_of, IsMarked, NameTable, mark_at, Visited}
 use Rattle.borsh_walks.specs.RulesAnswer.{RulesFault, ZeroSizeReaches, checked_element}
@@ -43,15 +42,15 @@ IsBothCount c j k base = counts_of c ≡ add_to Rules j (add_to Zero k base)
 module _ (C : List ℕ → Option Shape) (root : List ℕ) where
   -- names in a list, each there once, reached from the root and defined
   abbrev pub AreReached : List (List ℕ) → Type 0
-  AreReached xs = Distinct xs × ((x : List ℕ) → IsIn x xs → Reached C root x × IsDefined C x)
+  AreReached xs = AllPairs ◌≢◌ xs × ((x : List ℕ) → IsIn x xs → Reached C root x × IsDefined C x)
 
   -- names in a list, each there once and defined, that matter for the zero size of an element that a reached name checks
   abbrev pub AreZeroSizeReached : List (List ℕ) → Type 0
-  AreZeroSizeReached xs = Distinct xs × ((x : List ℕ) → IsIn x xs → ZeroSizeReaches C root x × IsDefined C x)
+  AreZeroSizeReached xs = AllPairs ◌≢◌ xs × ((x : List ℕ) → IsIn x xs → ZeroSizeReaches C root x × IsDefined C x)
 
   -- `rules` rose by the number of reached names, and `zero` by at least the number of elements that are checked
   abbrev pub JudgedCounts : Expansions → Expansions → Type 0
-  JudgedCounts old new = (xs : List (List ℕ)) × (zs : List (List ℕ)) × Distinct xs × Distinct zs × ((x : List ℕ) → IsIn x xs ↔ Reached C root x)
+  JudgedCounts old new = (xs : List (List ℕ)) × (zs : List (List ℕ)) × AllPairs ◌≢◌ xs × AllPairs ◌≢◌ zs × ((x : List ℕ) → IsIn x xs ↔ Reached C root x)
       × ((x : List ℕ) (d : Shape) (e : List ℕ) → Reached C root x → C x ≡ Some d → checked_element d ≡ Some e → IsIn e zs)
       × (new ≡ add_to Rules (length xs) (add_to Zero (length zs) old))
 

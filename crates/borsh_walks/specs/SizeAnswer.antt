@@ -1,16 +1,11 @@
 -- What a result of `root_size` means.
-use Rattle.std.specs.Prelude.{◌≡◌, ℕ, ◌^◌, ◌≤◌, ◌↔◌, List, [], ◌∷◌, length, Option, None, string_bytes, ⊤, MatchResult, OnOk, Result}
+use Rattle.std.specs.Prelude.{◌≡◌, ◌≢◌, AllPairs, ℕ, ◌^◌, ◌≤◌, ◌↔◌, List, [], length, Option, None, string_bytes, ⊤, MatchResult, OnOk, Result}
 use Rattle.borsh_walks.specs.declared.error.SchemaMaxSerializedSizeError.{SchemaMaxSerializedSizeError}
 use Rattle.borsh_walks.specs.declared.error.SchemaMaxSerializedSizeError.TheVariants.{Overflow, Recursive, MissingDefinition, OutOfMemory, Redefinition}
 use Rattle.borsh_walks.specs.declared.counted.Expansions.{Expansions}
 use Rattle.borsh_walks.specs.declared.counted.Question.TheVariants.{Size}
 use Rattle.borsh_walks.specs.Container.{Shape, IsIn, IsDefined, MaxSize, PartialSize, SizeReaches, IsRecursive}
 use Rattle.borsh_walks.specs.Counts.{add_to}
-
--- no name twice
-pub data Distinct : List (List ℕ) → Type 0 where
-  distinct_none : Distinct []
-  distinct_more : {x : List ℕ} {xs : List (List ℕ)} → (IsIn x xs → ⊥) → Distinct xs → Distinct (x ∷ xs)
 
 -- the error of a name without a definition, or `OutOfMemory` if the name could not be copied
 abbrev pub IsMissing : List ℕ → SchemaMaxSerializedSizeError → Type 0
@@ -29,7 +24,7 @@ module _ (C : List ℕ → Option Shape) (root : List ℕ) where
 
   -- the names that the size needs, each once
   abbrev pub AreSizeReached : List (List ℕ) → Type 0
-  AreSizeReached xs = Distinct xs × ((x : List ℕ) → IsIn x xs ↔ SizeReaches C root x)
+  AreSizeReached xs = AllPairs ◌≢◌ xs × ((x : List ℕ) → IsIn x xs ↔ SizeReaches C root x)
 
   -- a returned size is the `MaxSize`; an error has its cause
   abbrev pub IsSizeAnswer : Result ℕ SchemaMaxSerializedSizeError → Type 0
@@ -37,7 +32,7 @@ module _ (C : List ℕ → Option Shape) (root : List ℕ) where
 
   -- `size` rose by the number of names in a list, each there once, needed and defined
   pub record VisitsNeeded (old new : Expansions) (xs : List (List ℕ)) : Type 0 where
-    pub once : Distinct xs
+    pub once : AllPairs ◌≢◌ xs
     pub needed : (x : List ℕ) → IsIn x xs → SizeReaches C root x × IsDefined C x
     pub counts : new ≡ add_to Size (length xs) old
 

@@ -1,5 +1,5 @@
 -- What the walk for zero size goes over.
-use Rattle.std.specs.Prelude.{◌≡◌, ◌⊎◌, ℕ, List, [], length, Option, Some, None, unwrap_or, Bool, true, false, Decides, Result, OnOk}
+use Rattle.std.specs.Prelude.{◌≡◌, ◌≢◌, AllPairs, ◌⊎◌, ℕ, List, [], length, Option, Some, None, unwrap_or, Bool, true, false, Decides, Result, OnOk}
 use Rattle.borsh_walks.specs.declared.counted.Counted.{Counted}
 use Rattle.borsh_walks.specs.declared.counted.Expansions.{Expansions}
 use Rattle.borsh_walks.specs.declared.counted.Question.TheVariants.{Zero as ZeroQuestion}
@@ -7,7 +7,6 @@ use Rattle.borsh_walks.specs.Counts.{counts_of, definitions_of, add_to}
 use Rattle.std.specs.Borrow.{Bor}
 use Rattle.std.specs.BTreeMap.{BTreeMap, btree_map_len}
 use Rattle.borsh_walks.specs.Container.{Shape, IsIn, IsDefined, IsZeroSize, zero_size_references}
-use Rattle.borsh_walks.specs.SizeAnswer.{Distinct}
 use Rattle.borsh_walks.specs.Tables.{mark_of, IsMarked, Visited}
 
 -- the parts that have to be of zero size for a definition to be; none where it never is
@@ -30,7 +29,7 @@ IsZeroCount c k base = counts_of c ≡ add_to ZeroQuestion k base
 -- each marked in `t` before or one of those that `IsNew` allows; without an error these are the names of the table `u`
 pub record ZeroCounted {A E : Type 0} (IsNew : List ℕ → Type 0) (old new : Counted) (t u : BTreeMap (Bor (List ℕ)) Bool) (r : Result A E) : Type 0 where
   pub names : List (List ℕ)
-  pub once : Distinct names
+  pub once : AllPairs ◌≢◌ names
   pub known : (x : List ℕ) → IsIn x names → IsDefined (definitions_of old) x × (IsMarked t x ⊎ IsNew x)
   pub counts : (base : Expansions) → IsZeroCount old (btree_map_len t) base → IsZeroCount new (length names) base
   pub all : OnOk r ((length names ≡ btree_map_len u) × ((x : List ℕ) → IsMarked u x → IsIn x names))

@@ -2,7 +2,8 @@ use Rattle.std.proofs.Common.{◌∙◌, sym, subst}
 use Rattle.borsh_compare.specs.declared.pairs.Pair.{Pair}
 use Rattle.borsh_compare.specs.Alike.{GoAlikeAt}
 use Rattle.borsh_compare.proofs.Found.{go_alike}
-use Rattle.borsh_compare.proofs.Parts.{ok_map, same_some}
+use Rattle.borsh_walks.proofs.Propositions.{same_some}
+use Rattle.borsh_compare.proofs.Parts.{ok_map}
 use Rattle.borsh_compare.proofs.alike.pair_alike.Goals as goal
 
 pub returns-in_default : goal.returns-in_default

@@ -1,7 +1,7 @@
 use Rattle.std.proofs.Common.{◌∙◌, ap, Some}
 use Rattle.std.specs.Prelude.{ℤ, ℕ, List, string_bytes}
 use Rattle.borsh_values.proofs.TagLaws.{got}
-use Rattle.borsh_compare.proofs.Parts.{same_some}
+use Rattle.borsh_walks.proofs.Propositions.{same_some}
 use Rattle.borsh_compare.proofs.definitions.has_discriminant.Goals as goal
 
 pub returns-in-Some-clause-has : goal.returns-in-Some-clause-has

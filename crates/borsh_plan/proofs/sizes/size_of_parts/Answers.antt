@@ -1,7 +1,7 @@
 use Rattle.std.proofs.Common.{◌+◌, ◌∙◌, drop, subst, sym, arith}
 use Rattle.std.proofs.lemmas.Option.{slice_get_within}
 use Rattle.borsh_plan.specs.Names.{name_at, parts_in, shape_at}
-use Rattle.borsh_plan.proofs.Places.{drop_next, drop_end}
+use Rattle.borsh_walks.proofs.Names.{drop_end, drop_next}
 use Rattle.borsh_plan.proofs.SizesLaws.{Summed, summed_start, summed_more, summed_unknown, summed_large, summed_end}
 use Rattle.borsh_plan.proofs.sizes.size_of_parts.Goals as goal
 

@@ -1,6 +1,7 @@
 use Rattle.std.proofs.Common.{◌≡◌, ℕ, suc, ◌≤◌, List, [], ◌∷◌, length, reverse, add-one, Some, refl, sym, ◌∙◌, ap, subst, arith, inl, inr}
 use Rattle.std.specs.Prelude.{Result, Ok, Err, IsErr, IsErrAnd, MatchResult, option_map}
 use Rattle.std.specs.BTreeMap.{btree_map_len, get_by_text}
+use Rattle.std.proofs.lemmas.List.{nil_from_length}
 use Rattle.borsh_walks.specs.Container.{IsIn, Reached, stays, onward, references, IsValid}
 use Rattle.borsh_walks.specs.Counts.{counts_of, definitions_of, add_to}
 use Rattle.borsh_walks.specs.Definitions.{definitions_in, shape_of}
@@ -11,7 +12,7 @@ use Rattle.borsh_walks.specs.declared.counted.Question.TheVariants.{Rules, Zero}
 use Rattle.borsh_walks.specs.declared.counted.Expansions.{Expansions}
 use Rattle.borsh_walks.proofs.RulesLaws.{checked_referenced}
 use Rattle.borsh_walks.proofs.Names.{names_within}
-use Rattle.borsh_walks.proofs.Tables.{marks_none_at, has_mark, mark_cases, no_items, few_names, few_more}
+use Rattle.borsh_walks.proofs.Tables.{marks_none_at, has_mark, mark_cases, few_names, few_more}
 use Rattle.borsh_walks.proofs.Spots.{moved, last_first}
 use Rattle.borsh_walks.proofs.Measure.{rests, rests_moved, left_moved, left_popped, left_pushed}
 use Rattle.borsh_walks.proofs.RulesSteps.{rules_start, rules_pop, rules_take, rules_again, rules_all, rules_reached, empty_table}
@@ -177,7 +178,7 @@ pub returns-clause-answer : goal.returns-clause-answer
 returns-clause-answer c =
     let i = c.loop-spot.invariant in
     let C = definitions_of c.args.counted.now in
-    let none = ap (λ l. reverse l) (no_items c.loop-spot.stack.items (omega (arith, c.in_default.ensures.cases.0, c.loop-spot.stack.ok.0))) in
+    let none = ap (λ l. reverse l) (nil_from_length c.loop-spot.stack.items (omega (arith, c.in_default.ensures.cases.0, c.loop-spot.stack.ok.0))) in
     λ x r. (i.state.marks.looked x (rules_all C c.args.root.now (reverse c.loop-spot.stack.items) i.state none i.root_seen r)).1.1
 
 pub returns-clause-work : goal.returns-clause-work
@@ -201,7 +202,7 @@ returns-clause-counts c =
     let i = c.loop-spot.invariant in
     let st = i.state in
     let C = definitions_of c.args.counted.now in
-    let none = ap (λ l. reverse l) (no_items c.loop-spot.stack.items (omega (arith, c.in_default.ensures.cases.0, c.loop-spot.stack.ok.0))) in
+    let none = ap (λ l. reverse l) (nil_from_length c.loop-spot.stack.items (omega (arith, c.in_default.ensures.cases.0, c.loop-spot.stack.ok.0))) in
     let all : (x : List ℕ) → Reached C c.args.root.now x → IsIn x st.names = λ x r. rules_all C c.args.root.now (reverse c.loop-spot.stack.items) st none i.root_seen r in (
       st.names,
       st.zero.names,

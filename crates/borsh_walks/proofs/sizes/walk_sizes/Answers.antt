@@ -1,14 +1,14 @@
 use Rattle.std.proofs.Common.{suc, ◌+◌, ◌-◌, ◌*◌, ◌≤◌, add-one, [], ◌∷◌, length, reverse, refl, sym, ◌∙◌, ap, subst, arith, Some}
 use Rattle.std.specs.BTreeMap.{btree_map_len}
+use Rattle.std.proofs.lemmas.List.{nil_from_length}
 use Rattle.borsh_walks.specs.declared.sizes.Frame.{Frame}
 use Rattle.borsh_walks.specs.Container.{first, size_references, stays}
 use Rattle.borsh_walks.specs.Tables.{mark_at}
 use Rattle.borsh_walks.specs.Counts.{counts_of, definitions_of}
-use Rattle.borsh_walks.specs.SizeAnswer.{distinct_none, distinct_more}
 use Rattle.borsh_walks.specs.declared.sizes.Mark.TheVariants.{Open, Finished}
 use Rattle.borsh_walks.specs.declared.counted.Question.TheVariants.{Size}
-use Rattle.borsh_walks.proofs.Names.{found_shape, found_none, also_known}
-use Rattle.borsh_walks.proofs.Tables.{updated_as, updated_at, found_at, marks_none_at, grown, kept, no_items, more_names, few_more}
+use Rattle.borsh_walks.proofs.Names.{distinct_none, distinct_more, found_shape, found_none, also_known}
+use Rattle.borsh_walks.proofs.Tables.{updated_as, updated_at, found_at, marks_none_at, grown, kept, more_names, few_more}
 use Rattle.borsh_walks.proofs.Measure.{work, rests, rests_moved, left_moved, left_popped, left_pushed}
 use Rattle.borsh_walks.proofs.Spots.{moved, last_first}
 use Rattle.borsh_walks.proofs.Counting.{raised_once_more, on_err}
@@ -25,7 +25,7 @@ returns-in_default-clause-counts c = ([], record { once = distinct_none; needed 
 pub returns-in_err-insert-clause-counts : goal.returns-in_err-insert-clause-counts
 returns-in_err-insert-clause-counts c =
     let e = found_shape c.args.counted.now.map c.args.counted.now.map c.args.root.now c.in-Some.definition.now refl c.in-Some.ensures.found in
-    (c.args.root.now ∷ [], record { once = distinct_more (λ a. elim a [ ]) distinct_none; needed = also_known (stays, (_, e)) (λ x a. elim a [ ]); counts = c.in-Some.ensures.counts }, on_err _ c.from_residual.result c.from_residual.ensures.0)
+    (c.args.root.now ∷ [], record { once = distinct_more {xs = []} (λ a. elim a [ ]) distinct_none; needed = also_known (stays, (_, e)) (λ x a. elim a [ ]); counts = c.in-Some.ensures.counts }, on_err _ c.from_residual.result c.from_residual.ensures.0)
 
 pub loop-part-init : goal.loop-part-init
 loop-part-init c =
@@ -188,7 +188,7 @@ returns-in-None-pop-clause-answer c =
     let i = c.loop-part.invariant in
     let C = definitions_of c.args.counted.now in
     let u = updated_at c.loop-part.frame.spot.name c.key_of-in-None.result c.loop-part.table c.insert-in-None.new.self (Finished c.in-Some-finish.size) c.key_of-in-None.ensures c.in_ok-insert-in-None.ensures.updates in
-    let none = no_items c.loop-part.stack.items (omega (arith, c.in-None-pop.ensures.cases.0, c.loop-part.stack.ok.0)) in
+    let none = nil_from_length c.loop-part.stack.items (omega (arith, c.in-None-pop.ensures.cases.0, c.loop-part.stack.ok.0)) in
     let s = subst (λ l. State C c.args.root.now (mark_at c.loop-part.table) (reverse l) c.loop-part.frame i.names) none i.state in
     (step_end C c.in-Some-finish.size s (sym c.in-None.ensures.part) c.in-Some-finish.ensures u).0
 
@@ -197,6 +197,6 @@ returns-in-None-pop-clause-counts c =
     let i = c.loop-part.invariant in
     let C = definitions_of c.args.counted.now in
     let u = updated_at c.loop-part.frame.spot.name c.key_of-in-None.result c.loop-part.table c.insert-in-None.new.self (Finished c.in-Some-finish.size) c.key_of-in-None.ensures c.in_ok-insert-in-None.ensures.updates in
-    let none = no_items c.loop-part.stack.items (omega (arith, c.in-None-pop.ensures.cases.0, c.loop-part.stack.ok.0)) in
+    let none = nil_from_length c.loop-part.stack.items (omega (arith, c.in-None-pop.ensures.cases.0, c.loop-part.stack.ok.0)) in
     let s = subst (λ l. State C c.args.root.now (mark_at c.loop-part.table) (reverse l) c.loop-part.frame i.names) none i.state in
     (i.names, record { once = i.state.marks.distinct; needed = λ x a. (i.state.marks.looked x a).1; counts = i.looks }, (step_end C c.in-Some-finish.size s (sym c.in-None.ensures.part) c.in-Some-finish.ensures u).1)

@@ -1,5 +1,6 @@
 use Rattle.std.proofs.Common.{suc, ◌≤◌, [], ◌∷◌, length, reverse, refl, sym, ◌∙◌, ap, subst, arith, Some, inl, true, false}
 use Rattle.std.specs.BTreeMap.{btree_map_len}
+use Rattle.std.proofs.lemmas.List.{nil_from_length}
 use Rattle.borsh_walks.specs.Container.{first, stays}
 use Rattle.borsh_walks.specs.Counts.{counts_of, definitions_of}
 use Rattle.borsh_walks.specs.ZeroAnswer.{zero_size_parts, IsZeroCount}
@@ -7,7 +8,7 @@ use Rattle.borsh_walks.specs.Tables.{mark_of}
 use Rattle.borsh_walks.specs.declared.stack.Spot.{Spot}
 use Rattle.borsh_walks.specs.declared.counted.Question.TheVariants.{Zero as ZeroQuestion}
 use Rattle.borsh_walks.proofs.Names.{found_shape, found_none}
-use Rattle.borsh_walks.proofs.Tables.{updated_by, still, grown, kept, no_items, few_more, gained_more, marks_again}
+use Rattle.borsh_walks.proofs.Tables.{updated_by, still, grown, kept, few_more, gained_more, marks_again}
 use Rattle.borsh_walks.proofs.Measure.{rests, rests_moved, left_popped, left_pushed}
 use Rattle.borsh_walks.proofs.Spots.{last_first}
 use Rattle.borsh_walks.proofs.Counting.{raised_once_more, on_err}
@@ -197,7 +198,7 @@ returns-in-None-pop-clause-answer c =
     let i = c.loop-spot.invariant in
     let C = definitions_of c.args.counted.now in
     let u = updated_by c.loop-spot.spot.name.now c.loop-spot.table c.insert-in-None.new.self true c.in_ok-insert-in-None.ensures.updates in
-    let none = no_items c.loop-spot.stack.items (omega (arith, c.in-None-pop.ensures.cases.0, c.loop-spot.stack.ok.0)) in
+    let none = nil_from_length c.loop-spot.stack.items (omega (arith, c.in-None-pop.ensures.cases.0, c.loop-spot.stack.ok.0)) in
     let s = subst (λ l. ZeroState C c.args.name.now (mark_of c.loop-spot.table) (reverse l) c.loop-spot.spot i.names) none i.state in
     let r = zero_end C s (some_is _ c.if-never_zero.ensures) (sym c.in-None.ensures.part) u in
     ((λ e. r.0), λ z. refl)
@@ -208,7 +209,7 @@ returns-in-None-pop-clause-table c =
     let C = definitions_of c.args.counted.now in
     let len = kept c.in_ok-insert-in-None.field-0 c.in_ok-insert-in-None.ensures.len (λ h. (i.state.marks.looked c.loop-spot.spot.name.now (i.state.inside c.loop-spot.spot.name.now first)).0 (sym c.in_ok-insert-in-None.ensures.old ∙ h)) in
     let u = updated_by c.loop-spot.spot.name.now c.loop-spot.table c.insert-in-None.new.self true c.in_ok-insert-in-None.ensures.updates in
-    let none = no_items c.loop-spot.stack.items (omega (arith, c.in-None-pop.ensures.cases.0, c.loop-spot.stack.ok.0)) in
+    let none = nil_from_length c.loop-spot.stack.items (omega (arith, c.in-None-pop.ensures.cases.0, c.loop-spot.stack.ok.0)) in
     let s = subst (λ l. ZeroState C c.args.name.now (mark_of c.loop-spot.table) (reverse l) c.loop-spot.spot i.names) none i.state in
     let r = zero_end C s (some_is _ c.if-never_zero.ensures) (sym c.in-None.ensures.part) u in
     record { names = i.names; marks = r.3; len = len ∙ i.table_len; zero_is = r.1; not_zero_is = r.2 }

@@ -4,12 +4,12 @@ use Rattle.std.specs.BTreeMap.{btree_map_len}
 use Rattle.borsh_walks.specs.Definitions.{shape_of}
 use Rattle.borsh_walks.specs.Container.{references}
 use Rattle.borsh_walks.specs.Tables.{mark_of}
-use Rattle.borsh_walks.proofs.Measure.{work}
+use Rattle.borsh_walks.proofs.Measure.{work, work_within}
 use Rattle.borsh_walks.proofs.Names.{next_below}
 use Rattle.borsh_walks.proofs.Tables.{marks_none}
 use Rattle.borsh_plan.specs.declared.named.Named.{Named}
 use Rattle.borsh_plan.specs.Names.{Grows, IsPartOf}
-use Rattle.borsh_plan.proofs.Building.{Building, building_start, building_missing, building_defined, building_end, index_start, room, defined_here, fewer_missing, fewer_defined, work_within, longer}
+use Rattle.borsh_plan.proofs.Building.{Building, building_start, building_missing, building_defined, building_end, index_start, room, defined_here, fewer_missing, fewer_defined, longer}
 use Rattle.borsh_plan.proofs.names.Names.new.Goals as goal
 
 pub place_of-requires : goal.place_of-requires
@@ -35,7 +35,7 @@ loop-named-smaller-in-Some-definition c =
     let d = c.in-Some-definition.definition in
     let e = next l.names.items (Some c.in-Some.named) c.len.result (length l.parts.items) (c.len.ensures ∙ l.parts.ok.0) c.in-Some.ensures in
     let r = room m c.args.root.now c.in-Some.named d l.invariant e c.in-Some-definition.is in
-    let w = work_within m c.in-Some.named.name.now (shape_of d.now) (defined_here m c.args.root.now c.in-Some.named d l.invariant e c.in-Some-definition.is) in
+    let w = work_within references m c.in-Some.named.name.now (shape_of d.now) (defined_here m c.args.root.now c.in-Some.named d l.invariant e c.in-Some-definition.is) in
     fewer_defined (btree_map_len m) (work references m.entries) l.defined (length l.names.items) (length l.parts.items) (length c.parts_of.new.names.items) (length c.push.new.self.items) (length (references (shape_of d.now))) r (next_below l.names.items (length l.parts.items) c.in-Some.named e) c.in_ok-own-in-Some-definition.ensures.grown.few w (ap (λ l. length l) c.in_ok-push-in-Some-definition.ensures.items ∙ longer l.parts.items c.in_ok-own-in-Some-definition.own)
 
 pub loop-named-preserved-in-Some-definition : goal.loop-named-preserved-in-Some-definition

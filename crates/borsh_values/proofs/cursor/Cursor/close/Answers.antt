@@ -1,6 +1,6 @@
 use Rattle.std.proofs.Common.{refl, sym, ◌∙◌, ap, ◌++◌, arith, subst, reverse}
 use Rattle.borsh_walks.proofs.Spots.{last_first}
-use Rattle.borsh_walks.proofs.Tables.{no_items}
+use Rattle.std.proofs.lemmas.List.{nil_from_length}
 use Rattle.borsh_plan.specs.Plan.{names_of}
 use Rattle.borsh_values.specs.Cursor.{IsCursor, pending}
 use Rattle.borsh_values.proofs.Stepping.{cursor_up, cursor_up_empty}
@@ -20,5 +20,5 @@ pub returns-in-None-clause-happens : goal.returns-in-None-clause-happens
 returns-in-None-clause-happens c =
     let k = c.args.self.now in
     let ns = (names_of k.plan.now) in
-    let e = no_items k.stack.items (omega (arith, c.in-None.ensures.cases.0, k.stack.ok.0)) in
+    let e = nil_from_length k.stack.items (omega (arith, c.in-None.ensures.cases.0, k.stack.ok.0)) in
     (refl, ap (λ q. q ++ pending ns (reverse k.stack.items)) c.requires.none ∙ ap (λ q. pending ns (reverse q)) e)
