@@ -1,5 +1,5 @@
 -- Lines that grow.
-use Rattle.std.proofs.Common.{◌≡◌, ◌≢◌, ℕ, zero, suc, ◌/◌, ◌%◌, ◌==◌, Bool, true, false, cond, List, [], ◌∷◌, ◌++◌, get_or, codes, refl, sym, ◌∙◌, ap, subst, append_assoc, append-nil, true≢false, eq-eqb}
+use Rattle.std.proofs.Common.{◌≡◌, ◌≢◌, ℕ, zero, suc, ◌/◌, ◌%◌, ◌==◌, Bool, true, false, cond, List, [], ◌∷◌, ◌++◌, get_or, codes, refl, sym, ◌∙◌, ap, subst, arith, append_assoc, append-nil, true≢false, eq-eqb}
 use Rattle.std.specs.List.{AllByRecursion}
 use Rattle.std.proofs.lemmas.List.Elements.{All-nil, All-push, All-append, All-from_recursion}
 use Rattle.hex.specs.Hex.{encode_with, encode_lower, lower_digits}
@@ -10,11 +10,18 @@ use Rattle.borsh_check_lines.specs.Lines.{IsErrorLine}
 pub error_line_none : {out : List ℕ} → out ≡ codes "error " → IsErrorLine out
 error_line_none e = record { text = []; is = e ∙ sym (append-nil (codes "error ")); line = All-nil (λ b. b ≢ 10) }
 
-pub error_line_more : {out more : List ℕ} {b : ℕ} → IsErrorLine out → more ≡ out ++ b ∷ [] → b ≢ 10 → IsErrorLine more
-error_line_more {b = b} p e ne = record {
-  text = p.text ++ b ∷ [];
-  is = e ∙ ap (λ l. l ++ b ∷ []) p.is ∙ append_assoc (codes "error ") p.text (b ∷ []);
-  line = All-push (λ b. b ≢ 10) p.text b p.line ne;
+no_feed : (b : ℕ) → cond (b == 10) 32 b ≢ 10
+no_feed b = by (b == 10) refl
+  where
+    by : (t : Bool) → b == 10 ≡ t → cond t 32 b ≢ 10
+    by true i e = absurd (omega (arith, e))
+    by false i e = true≢false (sym (eq-eqb b 10 e) ∙ i)
+
+pub error_line_more : {out more : List ℕ} (b : ℕ) {c : ℕ} → IsErrorLine out → more ≡ out ++ c ∷ [] → c ≡ cond (b == 10) 32 b → IsErrorLine more
+error_line_more b {c = c} p e shown = record {
+  text = p.text ++ c ∷ [];
+  is = e ∙ ap (λ l. l ++ c ∷ []) p.is ∙ append_assoc (codes "error ") p.text (c ∷ []);
+  line = All-push (λ b. b ≢ 10) p.text c p.line (λ z. no_feed b (sym shown ∙ z));
 }
 
 -- ---- digits

@@ -51,7 +51,8 @@ fn write_spaced<W: Write>(text: &[u8], errors: &mut W) -> Result<()>
     Ok(())
 }
 
-fn space_for_feed(byte: u8) -> u8
+/// A line feed becomes a space.
+pub(crate) fn space_for_feed(byte: u8) -> u8
     ensures { result ≡ cond (byte == 10) 32 byte }
 {
     if byte == b'\n' { b' ' } else { byte }

@@ -7,6 +7,7 @@ ghost use Rattle.borsh_check_lines.specs.Answers.{AnswersValue};
 ghost use Rattle.borsh_io.specs.Lines.{IsLine};
 ghost use Rattle.borsh_check_lines.specs.Lines.{IsErrorLine};
 
+use super::ending::space_for_feed;
 use super::lines::push_digits;
 use super::words::Question;
 use borsh::io::{Error, ErrorKind};
@@ -98,11 +99,4 @@ pub fn error_answer(alloc: Global, error: &Error) -> Result<Vec<u8>, AllocError>
         out.push(space_for_feed(*byte))?;
     }
     Ok(out)
-}
-
-/// A line feed becomes a space.
-fn space_for_feed(byte: u8) -> u8
-    ensures { result ≢ 10 }
-{
-    if byte == b'\n' { b' ' } else { byte }
 }
