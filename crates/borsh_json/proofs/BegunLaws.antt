@@ -24,7 +24,7 @@ use Rattle.borsh_json.specs.declared.position.Parts.{Parts}
 use Rattle.borsh_json.specs.declared.position.Parts.TheVariants.{Root, List as Elements, Row, Object, Entries as MapEntries, Newtype, Some as Present, Variant}
 use Rattle.borsh_json.specs.declared.position.Place.{Place}
 use Rattle.borsh_json.specs.declared.sources.EntryKey.{EntryKey}
-use Rattle.borsh_json.specs.Forms.{Form, sequence, shape_of_form, shapes}
+use Rattle.borsh_json.specs.Forms.{Form, sequence, shape_of_form, shapes, field_bytes}
 use Rattle.borsh_json.specs.Frames.{Wanted}
 use Rattle.borsh_json.specs.Leaves.{IsOpenedAs, RefusesValue}
 use Rattle.borsh_json.specs.NoJson.{IsNoJson}
@@ -84,7 +84,7 @@ module _ (F : List ℕ → Option Form) (ns : List Named) (x : List ℕ) (f : Fo
 
     object_begun : (fs : Bor (Vec (String Global × String Global) Global)) → IsKindOf F ns x f (ObjectKind fs) → BeginsAt (Object at fs) old new result → WritesStruct F ns x f (ObjectKind fs) old new result
     object_begun fs k b =
-        let all : List Wanted = map (λ f. (string_bytes f.0, string_bytes f.1)) fs.now.items in
+        let all : List Wanted = map field_bytes fs.now.items in
         let g = form_known F (fields all) f k.0 d (λ e. cc) in
         let u = subst (λ (l : List (List ℕ)). IsDistinct bytes_eq l) (sym (names_of (λ (f : String Global × String Global). string_bytes f.0) (λ f. string_bytes f.1) fs.now.items)) k.1 in
         struct_begun (ObjectKind fs) (Object at fs) (members_rest all) old new result (λ es n e. cc) (λ es e. cc)

@@ -16,7 +16,7 @@ use Rattle.borsh_json.specs.declared.kinds.Kind.TheVariants.{Optional as OptionK
 use Rattle.borsh_json.specs.declared.output.Output.{Output}
 use Rattle.borsh_json.specs.declared.position.Parts.TheVariants.{Some as Present, Variant}
 use Rattle.borsh_json.specs.declared.position.Place.{Place}
-use Rattle.borsh_json.specs.Forms.{Form, choice, shape_of_form, shapes, HasNoBytes}
+use Rattle.borsh_json.specs.Forms.{Form, choice, shape_of_form, shapes, HasNoBytes, variant_bytes}
 use Rattle.borsh_json.specs.Leaves.{IsOpenedAs, WritesLeaf}
 use Rattle.borsh_json.specs.Places.{IsAt, IsKindOf}
 use Rattle.borsh_json.specs.Represents.{SaysFirst}
@@ -100,7 +100,7 @@ module _ (F : List ℕ → Option Form) (ns : List Named) (x : List ℕ) (f : Fo
   -- ---- variants
   module _ (w : ℕ) (vs : Bor (Vec (ℤ × String Global × String Global) Global)) (k : IsKindOf F ns x f (ChoiceKind w vs)) (found : Option ℕ) (v : IsVariantOf (shape_of_form f) own found) where
     abbrev listed : List (ℤ × List ℕ × List ℕ)
-    listed = map (λ v. (v.0, string_bytes v.1, string_bytes v.2)) vs.now.items
+    listed = map variant_bytes vs.now.items
 
     -- the variant that was found
     abbrev pub IsChosen : ℤ × String Global × String Global → Type 0

@@ -23,7 +23,7 @@ use Rattle.borsh_json.specs.declared.kinds.Kind.{Kind as Found}
 use Rattle.borsh_json.specs.declared.kinds.Kind.TheVariants.{Number, Bool as Truth, Text, Bytes, Float, ByteList, Numbers, List as ElementList, Map as Entries, Row, Newtype, Object, Optional, Choice, Repeated}
 use Rattle.borsh_json.specs.declared.numbers.Number.{Number as NumberOf}
 use Rattle.borsh_json.specs.declared.output.Output.{Output}
-use Rattle.borsh_json.specs.Forms.{Form, primitive, sequence, tuple, newtype, unnamed, named, choice, shape_of_form, shapes}
+use Rattle.borsh_json.specs.Forms.{Form, primitive, sequence, tuple, choice, named, unnamed, no_fields, shape_of_form, shapes}
 use Rattle.borsh_json.specs.Found.{IsPrimitiveKind}
 use Rattle.borsh_json.specs.Integers.{IsEncoded}
 use Rattle.borsh_json.specs.Leaves.{Adds, HasSize, IsOpenedAs, IsWritten, RefusesValue, WritesHex, WritesLeaf}
@@ -33,6 +33,7 @@ use Rattle.borsh_json.specs.Represents.{SaysFirst, HaveBytes, next_part}
 use Rattle.borsh_json.specs.Table.{Kind, no_bytes, truth, whole, float, float_size, raw, utf8, byte_list, list, row, inner, fields, optional, variants, entries, a_text, some_bytes, an_object, some_elements, nullable, by_name, number_types, number_kind, primitive_kind, DefinedKind, HasKind, InRange, IsFloat, IsHex, IsNumber, Part, Says}
 use Rattle.borsh_json.specs.Floats.{IsNan}
 use Rattle.borsh_json.proofs.FloatLaws.{format_one}
+use Rattle.borsh_json.proofs.FormKinds.{unnamed_is}
 use Rattle.borsh_json.proofs.ReaderLaws.{uncons}
 use Rattle.borsh_json.proofs.RepresentsLaws.{kind_one}
 
@@ -301,11 +302,11 @@ module _ (F : List ℕ → Option Form) (ns : List Named) (x : List ℕ) where
   bare_form k (sequence w lo hi e) own parts (an_object t c) b o = absurd b
   bare_form k (sequence w lo hi e) own parts (some_elements t c u v) b o = absurd b
   bare_form k (tuple ps) own parts d b o = absurd (subst IsBare d b)
-  bare_form k (newtype p) own parts d b o = absurd (subst IsBare d b)
-  bare_form k (unnamed ps) own parts d b o = absurd (subst IsBare d b)
-  bare_form k (named fs) own parts d b o = absurd (subst IsBare d b)
   bare_form k (choice w vs) own parts (nullable t) b o = absurd b
   bare_form k (choice w vs) own parts (by_name t) b o = absurd b
+  bare_form k (named fs) own parts d b o = absurd (subst IsBare d b)
+  bare_form k (unnamed ps) own parts d b o = absurd (unnamed_is (λ k. IsBare k → ⊥) (λ xs b. b) (λ y b. b) ps (subst IsBare d b))
+  bare_form k no_fields own parts d b o = absurd (subst IsBare d b)
 
   -- the own bytes of a primitive, which has no parts
   pub bare_opened : (f : Form) (k : Kind) (own : List ℕ) (parts : List (List ℕ)) → IsOpenedAs F x f own parts → IsBare k → HasKind F x k → (parts ≡ []) × HasSize k (length own)

@@ -1,4 +1,3 @@
-pub mod FormsLaws
 pub mod FloatLaws
 pub mod RepresentsLaws
 pub mod IntegerLaws

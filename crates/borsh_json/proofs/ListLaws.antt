@@ -19,13 +19,14 @@ use Rattle.borsh_json.specs.declared.error.WriteError.TheVariants.{OutOfMemory, 
 use Rattle.borsh_json.specs.declared.kinds.Elements.{Elements}
 use Rattle.borsh_json.specs.declared.kinds.Kind.TheVariants.{Numbers}
 use Rattle.borsh_json.specs.declared.output.Output.{Output}
-use Rattle.borsh_json.specs.Forms.{Form, primitive, sequence, tuple, newtype, unnamed, named, choice, form_of, shape_of_form, shapes, IsByte}
+use Rattle.borsh_json.specs.Forms.{Form, primitive, sequence, tuple, choice, named, unnamed, no_fields, form_of, shape_of_form, shapes, IsByte}
 use Rattle.borsh_json.specs.Leaves.{Adds, HasSize, Holds, IsOpenedAs, RefusesAt, RefusesValue, WritesLeaf}
 use Rattle.borsh_json.specs.NoJson.{IsNoJson}
 use Rattle.borsh_json.specs.Places.{IsAt, IsKindOf, IsListOf, lengths_of}
 use Rattle.borsh_json.specs.Represents.{SaysFirst, HaveBytes, next_part}
 use Rattle.borsh_json.specs.Table.{Lengths, Kind, no_bytes, truth, whole, float, raw, utf8, byte_list, list, row, inner, fields, optional, variants, entries, a_text, some_bytes, an_object, some_elements, nullable, by_name, primitive_kind, DefinedKind, HasKind, IsHex, IsPrefixed, Part, Says, list_parts}
-use Rattle.borsh_json.proofs.FormsLaws.{shape_is}
+use Rattle.borsh_json.proofs.FormKinds.{unnamed_is}
+use Rattle.borsh_walks.proofs.Forms.{shape_is}
 use Rattle.borsh_json.proofs.FoundLaws.{full_primitive}
 use Rattle.borsh_json.proofs.LeafLaws.{defined, float_length, front_one, no_json, primitive_sized, tag_length, tag_one}
 use Rattle.borsh_json.proofs.ReaderLaws.{uncons}
@@ -53,10 +54,10 @@ pub tells_count : (f : Form) → IsCounted (shape_of_form f) → TellsCount (len
 tells_count (primitive n) c = inr (omega arith, omega arith)
 tells_count (sequence w lo hi e) c = c
 tells_count (tuple ps) c = inr (omega arith, omega arith)
-tells_count (newtype y) c = inr (omega arith, omega arith)
-tells_count (unnamed ps) c = inr (omega arith, omega arith)
-tells_count (named fs) c = inr (omega arith, omega arith)
 tells_count (choice w vs) c = inr (omega arith, omega arith)
+tells_count (named fs) c = inr (omega arith, omega arith)
+tells_count (unnamed ps) c = inr (omega arith, omega arith)
+tells_count no_fields c = inr (omega arith, omega arith)
 
 count_one : (l : Lengths) (k m : ℕ) → TellsCount l → l.least ≤ k → k ≤ l.greatest → l.least ≤ m → m ≤ l.greatest → tag l.width (pos k) ≡ tag l.width (pos m) → k ≡ m
 count_one l k m (inl c) a b p q e = let s = c.1 in omega (arith, s, a, b, p, q)
@@ -139,11 +140,11 @@ module _ (F : List ℕ → Option Form) (x own es : List ℕ) (parts : List (Lis
   list_form k (sequence w lo hi e) n (an_object s c) b p o t = absurd b
   list_form k (sequence w lo hi e) n (some_elements s c u v) b p o t = listed w lo hi e n (p e refl) o t
   list_form k (tuple ps) n d b p o t = absurd (subst IsListKind d b)
-  list_form k (newtype y) n d b p o t = absurd (subst IsListKind d b)
-  list_form k (unnamed ps) n d b p o t = absurd (subst IsListKind d b)
-  list_form k (named fs) n d b p o t = absurd (subst IsListKind d b)
   list_form k (choice w vs) n (nullable s) b p o t = absurd b
   list_form k (choice w vs) n (by_name s) b p o t = absurd b
+  list_form k (named fs) n d b p o t = absurd (subst IsListKind d b)
+  list_form k (unnamed ps) n d b p o t = absurd (unnamed_is (λ k. IsListKind k → ⊥) (λ xs b. b) (λ y b. b) ps (subst IsListKind d b))
+  list_form k no_fields n d b p o t = absurd (subst IsListKind d b)
 
   -- a node's elements are those of its definition
   pub list_node : (k : Kind) (d : Definition) (n : ℕ) → DefinedKind F x (form_of d) k → IsListKind k → ((e : List ℕ) → HasElements k e → F e ≡ Some (primitive (suc n))) → Opens (shapes F) (shape_of_form (form_of d)) own parts → AreElementsOf (shape_of d) own es → (parts ≡ []) × IsListed (lengths_of (form_of d)) own es (suc n)

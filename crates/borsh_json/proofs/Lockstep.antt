@@ -14,7 +14,7 @@ use Rattle.borsh_values.specs.Cursor.{OpensOnce}
 use Rattle.borsh_values.proofs.MemberLaws.{same_front}
 use Rattle.borsh_json.specs.Checked.{Due, one, ascending, IsOnly, AreChecked, empty, plain, collection, packed, elements_end, next_element}
 use Rattle.borsh_json.specs.Descents.{HasKeys, NumbersDescend}
-use Rattle.borsh_json.specs.Forms.{Form, primitive, sequence, tuple, newtype, unnamed, named, choice, shape_of_form, shapes, HasNoBytes, IsList, IsByte}
+use Rattle.borsh_json.specs.Forms.{Form, primitive, sequence, tuple, choice, named, unnamed, no_fields, shape_of_form, shapes, HasNoBytes, IsList, IsByte}
 use Rattle.borsh_json.specs.Found.{IsSet}
 use Rattle.borsh_json.specs.Frames.{AreInOrder, IsListKind}
 use Rattle.borsh_json.specs.InOrder.{DigitsFall, ItemsFall, Falls, InOrder}
@@ -275,6 +275,9 @@ module _ (F : List ℕ → Option Form) where
   listed this = first_variant
   listed (that i) = later_variant (listed i)
 
+  row_opens : (xs : List (List ℕ)) (j : Json) (own bs : List ℕ) (qs ps : List Part) → Says F (row xs) j own qs → Opened (shape.product xs) own bs qs ps
+  row_opens xs j own bs qs ps t = parts_open own bs qs ps (shape.product xs) xs (t.0, refl) (λ ys m. match_row xs t.1 qs t.3 m)
+
   value_opens : (x : List ℕ) (f : Form) (kind : Kind) (j : Json) (own bs : List ℕ) (qs ps : List Part) → DefinedKind F x f kind → F x ≡ Some f → Says F kind j own qs → HaveBytes F (qs ++ ps) bs → AreBytes (own ++ bs) → Opened (shape_of_form f) own bs qs ps
   value_opens x (primitive n) kind j own bs qs ps d c s h small =
       let t = sized (primitive_kind x n) n j own qs (primitive_sized x n) (subst (λ (k : Kind). Says F k j own qs) d s) in
@@ -286,15 +289,13 @@ module _ (F : List ℕ → Option Form) where
       let t = map_elements F w lo hi e c m in
       parts_open own bs qs ps (shape.sequence w lo hi e) (replicate (length s.1) e) (elements_open w lo hi e (length s.1) own (ap (λ d. packed_size d) (shaped (F e) t)) s.5.0 s.5.1 s.5.2) (λ xs n. subst (λ (l : List Part). Match (l ++ ps) (replicate (length s.1) e ++ xs)) (sym s.6) (match_entries keys e k v t s.1 n))
   value_opens x (sequence w lo hi e) kind j own bs qs ps (some_elements a b y z) c s h small = array_opens w lo hi e j own bs qs ps s h small (packed_size (C e)) refl
-  value_opens x (tuple xs) kind j own bs qs ps d c s h small =
-      let t = subst (λ (k : Kind). Says F k j own qs) d s in
-      parts_open own bs qs ps (shape.product xs) xs (t.0, refl) (λ ys m. match_row xs t.1 qs t.3 m)
-  value_opens x (newtype p) kind j own bs qs ps d c s h small =
+  value_opens x (tuple xs) kind j own bs qs ps d c s h small = row_opens xs j own bs qs ps (subst (λ (k : Kind). Says F k j own qs) d s)
+  value_opens x (unnamed []) kind j own bs qs ps d c s h small = row_opens [] j own bs qs ps (subst (λ (k : Kind). Says F k j own qs) d s)
+  value_opens x (unnamed (p ∷ [])) kind j own bs qs ps d c s h small =
       let t = subst (λ (k : Kind). Says F k j own qs) d s in
       one_opens own bs qs ps (shape.product (p ∷ [])) p j (t.0, refl) t.1
-  value_opens x (unnamed xs) kind j own bs qs ps d c s h small =
-      let t = subst (λ (k : Kind). Says F k j own qs) d s in
-      parts_open own bs qs ps (shape.product xs) xs (t.0, refl) (λ ys m. match_row xs t.1 qs t.3 m)
+  value_opens x (unnamed (p ∷ q ∷ xs)) kind j own bs qs ps d c s h small = row_opens (p ∷ q ∷ xs) j own bs qs ps (subst (λ (k : Kind). Says F k j own qs) d s)
+  value_opens x no_fields kind j own bs qs ps d c s h small = row_opens [] j own bs qs ps (subst (λ (k : Kind). Says F k j own qs) d s)
   value_opens x (named fs) kind j own bs qs ps d c s h small =
       let t = subst (λ (k : Kind). Says F k j own qs) d s in
       parts_open own bs qs ps (shape_of_form (named fs)) (map (λ (f : List ℕ × List ℕ). f.1) fs) (t.1, refl) (λ ys m. match_fields fs t.2 qs t.5 m)

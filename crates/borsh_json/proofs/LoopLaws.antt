@@ -21,7 +21,7 @@ use Rattle.borsh_json.specs.declared.position.Parts.TheVariants.{Root, List as E
 use Rattle.borsh_json.specs.declared.position.Part.{Part as FoundPart}
 use Rattle.borsh_json.specs.declared.position.Place.{Place}
 use Rattle.borsh_json.specs.declared.sources.Source.{Source}
-use Rattle.borsh_json.specs.Forms.{Form, form_of}
+use Rattle.borsh_json.specs.Forms.{Form, form_of, field_bytes}
 use Rattle.borsh_json.specs.Frames.{FailsRead, name_step, first_steps, last_steps, steps_at, Left, items_left, fields_left, entries_left, Wanted, IsWanted, IsObject, IsMapPlace, IsKey, HasItems, HasFields, HasEntries, NoneLeft, IsLeft, AreEntriesOf, HasLeft, SaysOn, IsPlaceOf, IsPlaceIn, AscendIn, IsDoing, SaysAll, IsNext, DeniesKey, IsNextEntry}
 use Rattle.borsh_json.specs.InOrder.{field as field_step, place as place_step, element as element_step, AreSteps}
 use Rattle.borsh_json.specs.NoValue.{SaysOwn, LacksField, HasOther}
@@ -177,7 +177,7 @@ module _ (F : List ℕ → Option Form) (ns : List Named) where
   missing_step (Elements at n) b c kind i ds gs f fs o e l k h = absurd o
   missing_step (Row at n) b c kind i ds gs f fs o e l k h = absurd o
   missing_step (Object at os) b c kind i ds gs f fs o e l k h =
-      let names : List Wanted = map (λ f. (string_bytes f.0, string_bytes f.1)) os.now.items in
+      let names : List Wanted = map field_bytes os.now.items in
       let all = fields_same names (gs ++ f ∷ fs) (sym h.0 ∙ k) in
       let n : c - 1 ≡ length gs = (let t = h.1 in omega (arith, t, e, l)) in
       ap (λ n. name_step (slice_get names n) ++ []) n ∙ ap (λ (l : List Wanted). name_step (slice_get l (length gs)) ++ []) all ∙ ap (λ (o : Option Wanted). name_step o ++ []) (get_behind gs f fs)

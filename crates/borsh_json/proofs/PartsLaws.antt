@@ -19,11 +19,12 @@ use Rattle.borsh_json.specs.declared.position.Parts.TheVariants.{List as Element
 use Rattle.borsh_json.specs.declared.position.Place.{Place}
 use Rattle.borsh_json.specs.declared.sources.Source.{Source}
 use Rattle.borsh_json.specs.declared.sources.Source.TheVariants.{Items as TheItems}
-use Rattle.borsh_json.specs.Forms.{Form, primitive, sequence, tuple, newtype, unnamed, named, choice, shape_of_form, HasNoBytes}
+use Rattle.borsh_json.specs.Forms.{Form, named, choice, shape_of_form, HasNoBytes, field_bytes}
 use Rattle.borsh_json.specs.Frames.{DeniesRead, FailsRead, Wanted, AreFound, AreOthers, HasFields, HasLeft, AscendIn, IsUnbegun, IsOpened, NamesVariant, items_left, fields_left, IsListKind, IsUnexpected}
 use Rattle.borsh_json.specs.NoValue.{SaysOwn, NamesNoVariant}
 use Rattle.borsh_json.specs.Places.{IsAt, IsUnsayable}
 use Rattle.borsh_json.specs.Table.{Lengths, Kind, truth, whole, float, byte_list, row, inner, fields, variants, number_types, number_kind, primitive_kind, a_text, some_bytes, an_object, some_elements, nullable, by_name, DefinedKind, HasKind, Part, row_parts, list_parts, entries_of, IsVariant, IsHex, IsPrefixed, IsArray, Says}
+use Rattle.borsh_json.proofs.FormKinds.{form_found}
 use Rattle.borsh_json.proofs.RepresentsLaws.{variant_one}
 use Rattle.borsh_json.proofs.OpeningLaws.{no_ascent, denied, said, framed, row_fits, rows_there, list_row, list_length, second_map, second_copies, refuses_plain}
 
@@ -85,40 +86,8 @@ module _ (F : List ℕ → Option Form) (ns : List Named) (x : List ℕ) (j : Js
         (let low = q.3.0 in omega (arith, k, low), let high = q.3.1 in omega (arith, k, high))) d
 
 -- ---- objects
--- neither of fields nor of variants
-abbrev IsFieldless : Kind → Type 0
-IsFieldless kind = ((fs : List (List ℕ × List ℕ)) → kind ≡ fields fs → ⊥) × ((w : ℕ) (vs : List (ℤ × List ℕ × List ℕ)) → kind ≡ variants w vs → ⊥)
-
-fieldless_if : (b : Bool) (k l : Kind) → IsFieldless k → IsFieldless l → IsFieldless (if b then k else l)
-fieldless_if true k l p q = p
-fieldless_if false k l p q = q
-
-number_fieldless : (ts : List (List ℕ × ℕ × Bool × Bool)) (x : List ℕ) (n : ℕ) → IsFieldless (number_kind ts x n)
-number_fieldless [] x n = ((λ fs e. cc), (λ w vs e. cc))
-number_fieldless (t ∷ ts) x n = fieldless_if (bytes_eq x t.0 && (t.1 == n)) (whole t.1 t.2 t.3) (number_kind ts x n) ((λ fs e. cc), (λ w vs e. cc)) (number_fieldless ts x n)
-
-primitive_fieldless : (x : List ℕ) (n : ℕ) → IsFieldless (primitive_kind x n)
-primitive_fieldless x n =
-    let doubles = fieldless_if (bytes_eq x (codes "f64") && (n == 8)) (float binary64) (number_kind number_types x n) ((λ fs e. cc), (λ w vs e. cc)) (number_fieldless number_types x n) in
-    let floats = fieldless_if (bytes_eq x (codes "f32") && (n == 4)) (float binary32) _ ((λ fs e. cc), (λ w vs e. cc)) doubles in
-    fieldless_if (bytes_eq x (codes "bool") && (n == 1)) truth _ ((λ fs e. cc), (λ w vs e. cc)) floats
-
-named_is : (F : List ℕ → Option Form) (x : List ℕ) (d : Form) (kind : Kind) (fs : List (List ℕ × List ℕ)) → kind ≡ fields fs → DefinedKind F x d kind → d ≡ named fs
-named_is F x (primitive n) kind fs e p = absurd ((primitive_fieldless x n).0 fs (sym p ∙ e))
-named_is F x (sequence w lo hi y) kind fs e (a_text s b) = cc
-named_is F x (sequence w lo hi y) kind fs e (some_bytes s b) = cc
-named_is F x (sequence w lo hi y) kind fs e (an_object s b) = cc
-named_is F x (sequence w lo hi y) kind fs e (some_elements s b c d) = cc
-named_is F x (tuple ps) kind fs e p = let q : row ps ≡ fields fs = sym p ∙ e in cc
-named_is F x (newtype y) kind fs e p = let q : inner y ≡ fields fs = sym p ∙ e in cc
-named_is F x (unnamed ps) kind fs e p = let q : row ps ≡ fields fs = sym p ∙ e in cc
-named_is F x (named gs) kind fs e p = let q : fields gs ≡ fields fs = sym p ∙ e in let r : gs ≡ fs = cc in ap named r
-named_is F x (choice w vs) kind fs e (nullable s) = cc
-named_is F x (choice w vs) kind fs e (by_name s) = cc
-
 form_named : (F : List ℕ → Option Form) (x : List ℕ) (fs : List (List ℕ × List ℕ)) → HasKind F x (fields fs) → F x ≡ Some (named fs)
-form_named F x fs (inl h) = let e = h.1 in cc
-form_named F x fs (inr h) = h.2 ∙ ap (λ d. Some d) (named_is F x h.1 (fields fs) fs refl h.3)
+form_named F x fs h = let f = form_found F (fields fs) h (λ e. cc) in f.1 ∙ ap (λ d. Some d) f.2
 
 pub all_found : (m : BTreeMap (Bor (List ℕ)) (List Token)) (fs : List Wanted) (ms : Members) → ((name : List ℕ) → Finds (mark_of m name) (get_member name ms)) → AreFound m fs ms
 all_found m [] ms h = tt
@@ -137,7 +106,7 @@ names_of a b [] = refl
 names_of a b (x ∷ xs) = ap (λ l. a x ∷ l) (names_of a b xs)
 
 module _ (F : List ℕ → Option Form) (ns : List Named) (x : List ℕ) (j : Json) (at : ℕ) (fs : Bor (Vec (String Global × String Global) Global)) (i : IsAt ns at x) where
-  pub object_opened : (orders : List Known) (place : Place) (s : Source) (ms : Members) (n : ℕ) → HasKind F x (fields (map (λ f. (string_bytes f.0, string_bytes f.1)) fs.now.items)) → IsDistinct bytes_eq (map (λ f. string_bytes f.0) fs.now.items) → place.parts ≡ Object at fs → place.begun ≡ 0 → j ≡ object ms → n ≡ length (entries_of ms) → HasFields s [] (map (λ f. (string_bytes f.0, string_bytes f.1)) fs.now.items) ms n → place.ascent ≡ None → IsOpened F ns orders x j [] [] (Ok (Some (record { place = place; source = s })))
+  pub object_opened : (orders : List Known) (place : Place) (s : Source) (ms : Members) (n : ℕ) → HasKind F x (fields (map field_bytes fs.now.items)) → IsDistinct bytes_eq (map (λ f. string_bytes f.0) fs.now.items) → place.parts ≡ Object at fs → place.begun ≡ 0 → j ≡ object ms → n ≡ length (entries_of ms) → HasFields s [] (map field_bytes fs.now.items) ms n → place.ascent ≡ None → IsOpened F ns orders x j [] [] (Ok (Some (record { place = place; source = s })))
   object_opened orders place s ms n h u p b e c g a =
       let pair : String Global × String Global → Wanted = λ f. (string_bytes f.0, string_bytes f.1) in
       let all = map pair fs.now.items in
@@ -147,22 +116,8 @@ module _ (F : List ℕ → Option Form) (ns : List Named) (x : List ℕ) (j : Js
       ([], refl, framed F ns orders x j place s (Object at fs) (fields all) [] left p b h there (refl, d, refl, e, refl, omega (arith, c)) (refl, refl) (no_ascent F ns orders x j place (Object at fs) (λ z. absurd (let q = z.2 in cc)) a))
 
 -- ---- variants
-choice_is : (F : List ℕ → Option Form) (x : List ℕ) (d : Form) (kind : Kind) (w : ℕ) (vs : List (ℤ × List ℕ × List ℕ)) → kind ≡ variants w vs → DefinedKind F x d kind → d ≡ choice w vs
-choice_is F x (primitive n) kind w vs e p = absurd ((primitive_fieldless x n).1 w vs (sym p ∙ e))
-choice_is F x (sequence u lo hi y) kind w vs e (a_text s b) = cc
-choice_is F x (sequence u lo hi y) kind w vs e (some_bytes s b) = cc
-choice_is F x (sequence u lo hi y) kind w vs e (an_object s b) = cc
-choice_is F x (sequence u lo hi y) kind w vs e (some_elements s b c d) = cc
-choice_is F x (tuple ps) kind w vs e p = let q : row ps ≡ variants w vs = sym p ∙ e in cc
-choice_is F x (newtype y) kind w vs e p = let q : inner y ≡ variants w vs = sym p ∙ e in cc
-choice_is F x (unnamed ps) kind w vs e p = let q : row ps ≡ variants w vs = sym p ∙ e in cc
-choice_is F x (named gs) kind w vs e p = let q : fields gs ≡ variants w vs = sym p ∙ e in cc
-choice_is F x (choice u us) kind w vs e (nullable s) = cc
-choice_is F x (choice u us) kind w vs e (by_name s) = let a : u ≡ w = cc in let b : us ≡ vs = cc in ap (λ u. choice u us) a ∙ ap (λ us. choice w us) b
-
 pub form_choice : (F : List ℕ → Option Form) (x : List ℕ) (w : ℕ) (vs : List (ℤ × List ℕ × List ℕ)) → HasKind F x (variants w vs) → F x ≡ Some (choice w vs)
-form_choice F x w vs (inl h) = let e = h.1 in cc
-form_choice F x w vs (inr h) = h.2 ∙ ap (λ d. Some d) (choice_is F x h.1 (variants w vs) w vs refl h.3)
+form_choice F x w vs h = let f = form_found F (variants w vs) h (λ e. cc) in f.1 ∙ ap (λ d. Some d) f.2
 
 pub variant_part : (vs : List (ℤ × List ℕ × List ℕ)) (i : ℕ) (k : ℤ) (v p : List ℕ) → slice_get vs i ≡ Some (k, v, p) → slice_get (variant_names (map (λ (v : ℤ × List ℕ × List ℕ). (v.0, v.2)) vs)) i ≡ Some p
 variant_part [] zero k v p e = cc

@@ -14,7 +14,7 @@ use Rattle.borsh_plan.specs.Plan.{IsZeroAt, definitions_of, map_of, names_of as 
 use Rattle.borsh_json.specs.declared.kinds.Kind.{Kind as Found}
 use Rattle.borsh_json.specs.Places.{IsAt}
 use Rattle.borsh_json.specs.Forms.{Form, form_of, forms_in, shape_of_form, HasNoBytes}
-use Rattle.borsh_json.proofs.FormsLaws.{shapes_are}
+use Rattle.borsh_walks.proofs.Forms.{shapes_are}
 
 module _ (l : Plan) where
   -- the definition at a place is that of the map

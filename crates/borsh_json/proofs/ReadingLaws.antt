@@ -26,7 +26,7 @@ use Rattle.borsh_json.specs.declared.position.Place.{Place}
 use Rattle.borsh_json.specs.declared.sources.Source.{Source}
 use Rattle.borsh_json.specs.declared.sources.Source.TheVariants.{One}
 use Rattle.borsh_json.specs.Errors.{IsUnreadable}
-use Rattle.borsh_json.specs.Forms.{Form}
+use Rattle.borsh_json.specs.Forms.{Form, field_bytes}
 use Rattle.borsh_json.specs.Found.{forms_of, names_of}
 use Rattle.borsh_json.specs.Frames.{ShowsOr, HasPath, error_steps, name_step, first_steps, last_steps, steps_at, steps_through, IsUnread, IsOf, IsOfRead, Left, items_left, fields_left, entries_left, Wanted, IsUnbegun, BeginsAscending, AreInOrder, AscentFalls, AscentRises, AscendIn, IsListPlace, IsMapPlace, SaysAll, HasLeft, SaysOn, IsPlaceOf, IsPlaceIn, IsDoing, IsNext, NoneLeft, DeniesKey, Stands, IsInside, IsBegun, IsEnded, HaveAround, HasRead, HasBegun, IsReadOn, ReadsOn}
 use Rattle.borsh_json.specs.InOrder.{Step, field as field_step, place as place_step, element as element_step, variant as variant_step, AreSteps, BeginsParts, DigitsFall, ItemsFall, IsReached, whole_value, part_of, InOrder}
@@ -95,7 +95,7 @@ module _ (F : List ℕ → Option Form) (ns : List Named) where
       ]
   steps_there (Row at n) b kind i own ds q h f = subst (λ (k : Kind). AreSteps k i (length ds) (place_step (b - 1) ∷ [])) (sym h.1) (ap (λ n. place_step n ∷ []) (before_last b ds q h.2))
   steps_there (Object at fs) b kind i own ds q h f =
-      let names : List Wanted = map (λ f. (string_bytes f.0, string_bytes f.1)) fs.now.items in
+      let names : List Wanted = map field_bytes fs.now.items in
       let t = get_there names (length ds) (fields_long names i own ds q (subst (λ (k : Kind). BeginsParts F k i own (ds ++ q ∷ [])) h.0 f)) in
       subst (λ (k : Kind). AreSteps k i (length ds) (first_steps (Object at fs) b ++ [])) (sym h.0)
       (t.0, t.1, ap (λ n. name_step (slice_get names n) ++ []) (before_last b ds q h.1) ∙ ap (λ (o : Option Wanted). name_step o ++ []) t.1)

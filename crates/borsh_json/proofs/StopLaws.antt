@@ -14,7 +14,7 @@ use Rattle.borsh_json.specs.Errors.{IsUnwritable, IsNoJsonReason}
 use Rattle.borsh_json.specs.Forms.{Form, forms_in}
 use Rattle.borsh_json.specs.NoJson.{IsAbout, HasNoJsonPart, RefusesBytes}
 use Rattle.borsh_json.specs.Writes.{Stops}
-use Rattle.borsh_json.proofs.FormsLaws.{shapes_are}
+use Rattle.borsh_walks.proofs.Forms.{shapes_are}
 
 -- where a value is refused, the refusal is about some name
 pub about_some : (F : List ℕ → Option Form) (root bytes : List ℕ) (P : Type 0) (r : Refusal) → ((x : List ℕ) → IsAbout F r x → P) → HasNoJsonPart F root bytes r → P

@@ -4,7 +4,7 @@ use Rattle.std.specs.Prelude.{◌==◌, ⊤, ℤ, Decides, MatchBool, codes, sli
 use Rattle.std.specs.Global.{Global}
 use Rattle.borsh_walks.specs.declared.definition.Fields.{Fields}
 use Rattle.borsh_walks.specs.declared.definition.Fields.TheVariants.{NamedFields, UnnamedFields, Empty}
-use Rattle.borsh_json.specs.Forms.{Form, primitive, sequence, tuple, newtype, unnamed, named, choice, form_of_parts, form_of_struct, HasNoBytes, IsOption}
+use Rattle.borsh_json.specs.Forms.{Form, primitive, sequence, tuple, choice, named, unnamed, no_fields, form_of_struct, HasNoBytes, IsOption}
 use Rattle.borsh_json.proofs.FoundLaws.{inner}
 use Rattle.borsh_walks.specs.TupleNames.{following, tuple_name}
 use Rattle.borsh_json.specs.Ordered.{Order, single, numbers, text, array, list, parts, AreNumbers, IsSequenceName, IsTreeMapName, IsListName, OrdersBytes, HasOrder}
@@ -16,20 +16,15 @@ abbrev pub IsOfStruct : Form → Type 0
 IsOfStruct (primitive n) = ⊥
 IsOfStruct (sequence w lo hi e) = ⊥
 IsOfStruct (tuple ps) = ⊥
-IsOfStruct (newtype p) = ⊤
-IsOfStruct (unnamed ps) = ⊤
-IsOfStruct (named fs) = ⊤
 IsOfStruct (choice w vs) = ⊥
+IsOfStruct (named fs) = ⊤
+IsOfStruct (unnamed ps) = ⊤
+IsOfStruct no_fields = ⊤
 
 -- that of a struct is
 pub struct_form : (fs : Fields) → IsOfStruct (form_of_struct fs)
 struct_form (NamedFields fs) = tt
-struct_form (UnnamedFields fs) = of (map (λ f. string_bytes f) fs.items)
-  where
-    of : (ps : List (List ℕ)) → IsOfStruct (form_of_parts ps)
-    of [] = tt
-    of (p ∷ []) = tt
-    of (p ∷ q ∷ ps) = tt
+struct_form (UnnamedFields fs) = tt
 struct_form Empty = tt
 
 module _ (F : List ℕ → Option Form) (x : List ℕ) where

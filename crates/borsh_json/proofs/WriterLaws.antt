@@ -65,7 +65,7 @@ use Rattle.borsh_values.proofs.MemberLaws.{opens_member, members_head}
 use Rattle.borsh_values.proofs.WalkedLaws.{read_product}
 use Rattle.borsh_json.specs.Writes.{IsAbove, IsLast, IsBegunOf, IsWhole, IsWrittenOn, ends_of, Rest, IsRest, WritesFront, names_of_rest, names_of_all, leaf_depth, opened, Nested, passed, Mark, AreEach, IsNewPlace, IsAscending, IsKeyed, IsLastKey, IsComparing, IsMarked, IsRestOf, BeginsNext, TellsAscent, RisesAt, IsWriterOf, IsHalved, IsWriting, IsAwaiting, IsWrittenAs, Stops, IsWritingAt, IsAwaitingAt, IsFull, IsFullOrFalls, AscendsFrom, IsOfWrite}
 use Rattle.borsh_json.proofs.CheckedLaws.{IsDueAs, IsRisen, kind_free, same_only, product_due, pair_due, leaf_checked, zero_checked}
-use Rattle.borsh_json.proofs.FormsLaws.{shape_is, shapes_are}
+use Rattle.borsh_walks.proofs.Forms.{shape_is, shapes_are}
 use Rattle.borsh_json.proofs.FallLaws.{neighbours, falls}
 use Rattle.borsh_json.proofs.NestedLaws.{read_leaf, inside_of, as_deep}
 use Rattle.borsh_json.proofs.WritingPlaces.{as_many, each_pushed, each_popped, key_tokens, TakesPart, TakesEntry, takes_part, takes_entry, place_ends}

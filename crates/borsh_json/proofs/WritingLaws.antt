@@ -22,7 +22,7 @@ use Rattle.borsh_json.specs.Writes.{Rest, items_rest, members_rest, value_rest, 
 use Rattle.borsh_json.specs.Printed.{AreWritten, HasShortNumbers, IsShortNumber}
 use Rattle.borsh_json.specs.declared.output.LongNumbers.{LongNumbers}
 use Rattle.borsh_json.specs.declared.output.LongNumbers.TheVariants.{Quoted}
-use Rattle.borsh_json.proofs.FormsLaws.{shapes_are}
+use Rattle.borsh_walks.proofs.Forms.{shapes_are}
 use Rattle.borsh_json.proofs.OpeningLaws.{some_one}
 use Rattle.borsh_json.proofs.StepLaws.{item_back}
 

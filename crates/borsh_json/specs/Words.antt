@@ -1,7 +1,7 @@
 -- The words that contracts of this crate cite, from where they are defined.
 pub use Rattle.borsh_json.specs.Descents.{HasDescent, HasKeys, NumbersDescend}
 pub use Rattle.borsh_json.specs.Errors.{IsNoJsonReason, IsNoMemberReason, IsNoRowsReason, IsPartError, IsReadRefusal, IsTextReason, IsTooDeep, IsUnreadable, IsUnwritable}
-pub use Rattle.borsh_json.specs.Forms.{Form, HasNoBytes, IsByte, IsMap, IsOption, IsUnit, choice, form_of, form_of_struct, forms_in, newtype, sequence, shape_of_form, shapes, tuple}
+pub use Rattle.borsh_json.specs.Forms.{Form, HasNoBytes, IsByte, IsMap, IsOption, IsUnit, choice, field_bytes, form_of, form_of_struct, forms_in, sequence, shape_of_form, shapes, tuple, unnamed, variant_bytes}
 pub use Rattle.borsh_json.specs.Found.{AreEntries, HasForm, IsAlike, IsCollection, IsMapName, IsNamed, IsPrimitiveKind, IsRefusedList, IsRepeated, IsSetName, SaysBy, TellsKind, forms_of, joined, names_of}
 pub use Rattle.borsh_json.specs.Frames.{AddsList, AddsOrFalls, AreKeyed, AreSorted, AscentFalls, AscentRises, BeginsAscending, DeniesKey, DeniesRead, ElementsFall, FailsRead, GivesPart, HasBegun, HasEnded, HasEntries, HasFields, HasItems, HasNoNumber, HasPath, HasRead, HaveOneEach, IsArrayOf, IsDoing, IsEntryKey, IsExpected, IsKey, IsKeyReason, IsLeft, IsNext, IsNextEntry, IsOf, IsOfRead, IsOpened, IsOpenedOrFalls, IsPath, IsRank, IsUnexpected, IsText, IsUnread, IsVariantAt, IsWanted, Left, NamesVariant, NoneFalls, NoneLeft, Opens, ReadsOn, SaysArray, ShowsRead, Wanted, entries_left, error_steps, first_steps, found_step, steps_at, steps_through}
 pub use Rattle.borsh_json.specs.NoJson.{ShowsNoJson}

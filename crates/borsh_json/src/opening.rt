@@ -1,5 +1,5 @@
 // What the JSON of a part says by its definition: its own bytes, and the parts that it has.
-ghost use Rattle.borsh_json.specs.Words.{AddsList, AddsOrFalls, BeginsWith, DeniesRead, ElementsFall, Form, FoundMap, FoundObject, FoundOrder, FoundRow, HasKeyOrder, HasKind, InItems, InMembers, IsArrayOf, IsAt, IsDistinct, IsExpected, IsHex, IsKindOf, IsListOf, IsNumber, IsOpened, IsOpenedOrFalls, IsUnexpected, IsVariantAt, Json, JsonItems, JsonMembers, KindHasOrder, KindTellsOrder, KnownAt, KnowsNoOrder, NamedPlace, NamesVariant, NoneFalls, OneSource, Opens, OutOfMemory, SaysArray, TableKind, array, byte_list, bytes_eq, float, float_size, form_of, forms_in, lengths_of, list_parts, map_of, no_bytes, object, optional, plan_names, raw, spec_variants, string, tag, truth, utf8, whole};
+ghost use Rattle.borsh_json.specs.Words.{AddsList, AddsOrFalls, BeginsWith, DeniesRead, ElementsFall, Form, FoundMap, FoundObject, FoundOrder, FoundRow, HasKeyOrder, HasKind, InItems, InMembers, IsArrayOf, IsAt, IsDistinct, IsExpected, IsHex, IsKindOf, IsListOf, IsNumber, IsOpened, IsOpenedOrFalls, IsUnexpected, IsVariantAt, Json, JsonItems, JsonMembers, KindHasOrder, KindTellsOrder, KnownAt, KnowsNoOrder, NamedPlace, NamesVariant, NoneFalls, OneSource, Opens, OutOfMemory, SaysArray, TableKind, array, byte_list, bytes_eq, float, float_size, form_of, forms_in, lengths_of, list_parts, map_of, no_bytes, object, optional, plan_names, raw, spec_variants, string, tag, truth, utf8, variant_bytes, whole};
 ghost use Rattle.std.specs.Float.{Format};
 ghost use Rattle.std.specs.Prelude.{◌≡◌, ◌++◌, ◌≤◌, ⊤, [], ℕ, List, IfErr, IfOk, IfSome, Option, MatchOption, MatchResult, None, OnOk, Some, false, length, map, option_map, pos, string_bytes, take};
 
@@ -569,7 +569,7 @@ fn open_variant<'a, 't, 's>(
     ensures { let F = forms_in (map_of json.now.plan.now) in let ns = plan_names json.now.plan.now in
         (x : List ℕ) (j : Json) → IsAt ns at x →
         IsDistinct bytes_eq (map (λ v. string_bytes v.1) variants.now.items) →
-        HasKind F x (spec_variants width (map (λ v. (v.0, string_bytes v.1, string_bytes v.2)) variants.now.items)) →
+        HasKind F x (spec_variants width (map variant_bytes variants.now.items)) →
         BeginsWith element.now j →
         IsOpened F ns json.now.orders.items x j out.old.items out.new.items result }
 {
@@ -645,7 +645,7 @@ fn variant_named<'a>(
     variants: &'a Variants,
     name: &str,
 ) -> Option<(usize, &'a i64, &'a str)>
-    ensures { IsVariantAt (map (λ v. (v.0, string_bytes v.1, string_bytes v.2)) variants.now.items) name.now
+    ensures { IsVariantAt (map variant_bytes variants.now.items) name.now
         (option_map (λ r. (r.0, r.1.now, r.2.now)) result) }
 {
     if let Some(index) = json.variant_index(at, name)
@@ -659,7 +659,7 @@ fn variant_named<'a>(
 
 /// The same of the first variant of this name.
 fn first_named<'a>(variants: &'a Variants, name: &str) -> Option<(usize, &'a i64, &'a str)>
-    ensures { IsVariantAt (map (λ v. (v.0, string_bytes v.1, string_bytes v.2)) variants.now.items) name.now
+    ensures { IsVariantAt (map variant_bytes variants.now.items) name.now
         (option_map (λ r. (r.0, r.1.now, r.2.now)) result) }
 {
     let mut index: usize = 0;

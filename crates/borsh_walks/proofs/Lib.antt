@@ -1,6 +1,7 @@
 pub mod Laws
 pub mod Variants
 pub mod Names
+pub mod Forms
 pub mod Tables
 pub mod Spots
 pub mod Measure

@@ -1,5 +1,6 @@
 pub mod Container
 pub mod Definitions
+pub mod Forms
 pub mod Counts
 pub mod Codecs
 pub mod Errors

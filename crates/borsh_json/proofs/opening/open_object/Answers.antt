@@ -1,4 +1,5 @@
 use Rattle.std.proofs.Common.{map, string_bytes}
+use Rattle.borsh_json.specs.Forms.{field_bytes}
 use Rattle.borsh_json.specs.Table.{fields}
 use Rattle.borsh_json.proofs.EachLaws.{fields_each}
 use Rattle.borsh_json.proofs.OpeningLaws.{said, refuses_keys}
@@ -12,5 +13,5 @@ returns-in-Ok c F ns orders x j h b =
 
 pub returns-in-Err : goal.returns-in-Err
 returns-in-Err c F ns orders x j h b =
-    let fs = map (λ f. (string_bytes f.0, string_bytes f.1)) c.args.fields.now.items in
+    let fs = map field_bytes c.args.fields.now.items in
     refuses_keys F ns x j c.in-Err.error (λ g. let s = (said F ns x j (fields fs) h.3.0 g).2 in (s.2, s.3, fields_each fs s.2 _ s.0 s.4 s.5)) (c.in-Err.ensures h.3.1 j b)

@@ -7,7 +7,7 @@ use Rattle.borsh_json.specs.Forms.{form_of}
 use Rattle.borsh_json.specs.Orders.{KindHasOrder}
 use Rattle.borsh_json.specs.Places.{IsKindOf}
 use Rattle.borsh_json.proofs.FallLaws.{both_known, bytes_falls, numbers_falls, rises_in}
-use Rattle.borsh_json.proofs.FormsLaws.{shape_is}
+use Rattle.borsh_walks.proofs.Forms.{shape_is}
 use Rattle.borsh_json.proofs.writing.check_elements.Goals as goal
 
 pub returns-in-ByteList-clause-full : goal.returns-in-ByteList-clause-full
