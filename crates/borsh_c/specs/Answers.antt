@@ -4,7 +4,7 @@ use Rattle.std.specs.Global.{Global}
 use Rattle.std.specs.BTreeMap.{BTreeMap}
 use Rattle.borsh_json.specs.Errors.{IsTextReason}
 use Rattle.borsh_json.specs.Forms.{forms_in}
-use Rattle.borsh_json.specs.InOrder.{TextRepresents}
+use Rattle.borsh_json.specs.InOrder.{Step, TextRepresents}
 use Rattle.borsh_json.specs.Printed.{HasShortNumbers, IsPrinted, layout_if, numbers_if}
 use Rattle.borsh_json.specs.Names.{TellsNames}
 use Rattle.borsh_json.specs.NoJson.{RefusesBytes}
@@ -144,7 +144,7 @@ IsJsonOf layout long value text m root = TextRepresents (forms_in m) root text v
 
 -- an offset is told only where the bytes are no member of the root, and is then that of a fault; without one they are a member, and there is a reason why it has no JSON
 abbrev pub HasNoJson : List ℕ → Option ℕ → List ℕ → Saying
-HasNoJson value None text m root = Member (definitions_in m) root value × ((r : Refusal) × RefusesBytes (forms_in m) root value r) × IsShort text
+HasNoJson value None text m root = Member (definitions_in m) root value × ((path : List Step) × (r : Refusal) × RefusesBytes (forms_in m) root value path r) × IsShort text
 HasNoJson value (Some offset) text m root = IsNoMember value (Some offset) text m root
 
 -- the offset that an error has

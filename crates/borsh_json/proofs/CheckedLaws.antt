@@ -12,8 +12,10 @@ use Rattle.borsh_json.specs.declared.kinds.Elements.{Elements as FoundElements}
 use Rattle.borsh_json.specs.declared.kinds.Kind.{Kind as Found}
 use Rattle.borsh_json.specs.declared.kinds.Kind.TheVariants.{Number, Bool as Truth, Text, Bytes, Float, ByteList, Numbers, List as ListKind, Map, Row as RowKind, Newtype as NewtypeKind, Object as ObjectKind, Optional, Choice, Repeated}
 use Rattle.borsh_json.specs.declared.order.Ordered.{Ordered}
+use Rattle.borsh_json.specs.declared.position.Parts.{Parts}
+use Rattle.borsh_json.specs.declared.position.Parts.TheVariants.{Root}
 use Rattle.borsh_json.specs.Checked.{Due, one, ascending, NeedsNoOrder, IsOnly, AreChecked, empty, plain, collection, packed, elements_end, next_element}
-use Rattle.borsh_json.specs.Forms.{Form, primitive as primitive_form, sequence as sequence_form, shape_of_form, shapes, HasNoBytes}
+use Rattle.borsh_json.specs.Forms.{Form, primitive as primitive_form, sequence as sequence_form, tuple as tuple_form, shape_of_form, shapes, HasNoBytes}
 use Rattle.borsh_json.specs.Found.{forms_of, names_of}
 use Rattle.borsh_json.specs.Frames.{IsListKind}
 use Rattle.borsh_json.specs.Ordered.{a_value, Compare}
@@ -21,7 +23,7 @@ use Rattle.borsh_json.specs.Orders.{AreOrderedNumbers, HasKeyOrder, KindHasOrder
 use Rattle.borsh_json.specs.Descents.{HasKeys, NumbersDescend}
 use Rattle.borsh_json.specs.Places.{IsKindOf, IsListOf, lengths_of}
 use Rattle.borsh_json.specs.Table.{Lengths, Kind, truth, whole, float, raw, utf8, byte_list, list, optional, variants, entries, HasKind}
-use Rattle.borsh_json.specs.Writes.{HasNode, Mark, Rest, value_rest, names_of_rest, AreOwed, none_owed, names_owed, elements_owed, IsCheckedTo, NoneFallsIn}
+use Rattle.borsh_json.specs.Writes.{HasNode, Mark, Rest, value_rest, names_of_rest, one_more, AreOwed, none_owed, names_owed, elements_owed, IsCheckedTo, NoneFallsIn}
 use Rattle.borsh_json.proofs.FallLaws.{byte_there, positive}
 use Rattle.borsh_json.proofs.FormKinds.{form_known}
 use Rattle.borsh_json.proofs.FoundLaws.{list_element, zero_part}
@@ -67,32 +69,28 @@ module _ (F : List ℕ → Option Form) where
   pub product_due : {x : List ℕ} (f : Form) (ps : List (List ℕ)) → F x ≡ Some f → shape_of_form f ≡ product ps → (HasNoBytes F x → ⊥) → IsDueAs x [] ps None
   product_due f ps c s full ds after h = plain [] ps full (product_free ps (ap (λ o. option_map shape_of_form o) c ∙ ap (λ s. Some s) s)) (product_only f ps c s) h
 
-  shaped_as : (o : Option Form) (s : Shape) → option_map shape_of_form o ≡ Some s → (f : Form) × (o ≡ Some f) × (shape_of_form f ≡ s)
-  shaped_as None s e = cc
-  shaped_as (Some f) s e = (f, refl, cc)
-
-  pub pair_due : (e k v : List ℕ) → shapes F e ≡ Some (product (k ∷ v ∷ [])) → (HasNoBytes F k → ⊥) → IsDueAs e [] (k ∷ v ∷ []) None
-  pair_due e k v c full = let f = shaped_as (F e) (product (k ∷ v ∷ [])) c in product_due f.0 (k ∷ v ∷ []) f.1 f.2 (λ z. full (zero_part F c z first))
+  pub pair_due : (e k v : List ℕ) → F e ≡ Some (tuple_form (k ∷ v ∷ [])) → (HasNoBytes F k → ⊥) → IsDueAs e [] (k ∷ v ∷ []) None
+  pair_due e k v c full = product_due (tuple_form (k ∷ v ∷ [])) (k ∷ v ∷ []) c refl (λ z. full (zero_part F (ap (λ o. option_map shape_of_form o) c) z first))
 
   -- ---- places
   module _ (bytes : List ℕ) where
     -- keys that have to ascend are above those of the last part
     abbrev pub IsRisen : Mark → List ℕ → Type 0
-    IsRisen m left = (k : List ℕ) → m.2 ≡ Some k → IfSome (option_map (λ i. drop i bytes) m.1) (λ earlier. (r : Ordering) → Compare F (a_value k ∷ []) (a_value k ∷ []) earlier left r → r ≡ Less)
+    IsRisen m left = (k : List ℕ) → m.2 ≡ Some k → IfSome (option_map (λ i. drop i bytes) m.1.2) (λ earlier. (r : Ordering) → Compare F (a_value k ∷ []) (a_value k ∷ []) earlier left r → r ≡ Less)
 
     abbrev IsTaken : Mark → List Mark → Rest → List Rest → List ℕ → List ℕ → List ℕ → List Due → Type 0
-    IsTaken m ms t rs y done left ds = (es : List Due) × AreOwed bytes ((m.0, Some (length done), m.2) ∷ ms) (t ∷ rs) es × (AreChecked F (one y ∷ es) left → AreChecked F ds left)
+    IsTaken m ms t rs y done left ds = (es : List Due) × AreOwed bytes ((m.0, one_more m.1 (length done), m.2) ∷ ms) (t ∷ rs) es × (AreChecked F (one y ∷ es) left → AreChecked F ds left)
 
     next_owed : (m : Mark) {ms : List Mark} (r t : Rest) {rs : List Rest} {ds : List Due} (y done left : List ℕ) → names_of_rest r ≡ y ∷ names_of_rest t → drop (length done) bytes ≡ left → IsRisen m left → AreOwed bytes (m ∷ ms) (r ∷ rs) ds → IsTaken m ms t rs y done left ds
-    next_owed _ _ t y done left names d rises (names_owed {ds = ds} x s r a) = (map one (names_of_rest t) ++ ds, names_owed x (Some (length done)) t a, λ c. subst (λ l. AreChecked F (map one l ++ ds) left) (sym names) c)
-    next_owed _ _ t y done left names d rises (elements_owed x s r e k zero c a) = let q : y ∷ names_of_rest t ≡ [] = sym names ∙ c in cc
-    next_owed _ _ t y done left names d rises (elements_owed {ds = ds} x s r e k (suc n) c a) =
+    next_owed _ _ t y done left names d rises (names_owed {ds = ds} x g r a) = (map one (names_of_rest t) ++ ds, names_owed x (one_more g (length done)) t a, λ c. subst (λ l. AreChecked F (map one l ++ ds) left) (sym names) c)
+    next_owed _ _ t y done left names d rises (elements_owed x g r e k zero c a) = let q : y ∷ names_of_rest t ≡ [] = sym names ∙ c in cc
+    next_owed _ _ t y done left names d rises (elements_owed {ds = ds} x g r e k (suc n) c a) =
         let q : y ∷ names_of_rest t ≡ e ∷ replicate n e = sym names ∙ c in
         let h : y ≡ e = cc in
         let l : names_of_rest t ≡ replicate n e = cc in
         let before = drop (length done) bytes in (
           ascending e k n (Some before) ∷ ds,
-          elements_owed x (Some (length done)) t e k n l a,
+          elements_owed x (one_more g (length done)) t e k n l a,
           λ z. next_element (rises k refl) (subst (λ b. AreChecked F (one e ∷ ascending e k n (Some b) ∷ ds) left) d (subst (λ y. AreChecked F (one y ∷ ascending e k n (Some before) ∷ ds) left) h z)),
         )
 
@@ -105,17 +103,17 @@ module _ (F : List ℕ → Option Form) where
     nothing_owed none_owed = refl
 
     module _ (root : List ℕ) where
-      pub starts_checked : IsCheckedTo F root bytes [] (([], None, None) ∷ []) (value_rest (root ∷ []) ∷ []) bytes
-      starts_checked = record { dues = one root ∷ []; owed = names_owed [] None (value_rest (root ∷ [])) none_owed; checked = λ c. c }
+      pub starts_checked : IsCheckedTo F root bytes [] (([], (Root, 0, None), None) ∷ []) (value_rest (root ∷ []) ∷ []) bytes
+      starts_checked = record { dues = one root ∷ []; owed = names_owed [] (Root, 0, None) (value_rest (root ∷ [])) none_owed; checked = λ c. c }
 
       -- a part comes next
-      pub next_checked : (m : Mark) {ms : List Mark} (r t : Rest) {rs : List Rest} (y done left : List ℕ) → names_of_rest r ≡ y ∷ names_of_rest t → drop (length done) bytes ≡ left → IsRisen m left → IsCheckedTo F root bytes [] (m ∷ ms) (r ∷ rs) left → IsCheckedTo F root bytes (y ∷ []) ((m.0, Some (length done), m.2) ∷ ms) (t ∷ rs) left
+      pub next_checked : (m : Mark) {ms : List Mark} (r t : Rest) {rs : List Rest} (y done left : List ℕ) → names_of_rest r ≡ y ∷ names_of_rest t → drop (length done) bytes ≡ left → IsRisen m left → IsCheckedTo F root bytes [] (m ∷ ms) (r ∷ rs) left → IsCheckedTo F root bytes (y ∷ []) ((m.0, one_more m.1 (length done), m.2) ∷ ms) (t ∷ rs) left
       next_checked m r t y done left names d rises h =
           let n = next_owed m r t y done left names d rises h.owed in
           record { dues = n.0; owed = n.1; checked = λ c. h.checked (n.2 c) }
 
       -- the value of an entry, behind its key
-      pub entry_checked : (m : Mark) {ms : List Mark} (r t : Rest) {rs : List Rest} (pair key value own after done left : List ℕ) → names_of_rest r ≡ pair ∷ names_of_rest t → drop (length done) bytes ≡ left → IsRisen m left → left ≡ own ++ after → IsDueAs pair [] (key ∷ value ∷ []) None → IsDueAs key own [] None → IsCheckedTo F root bytes [] (m ∷ ms) (r ∷ rs) left → IsCheckedTo F root bytes (value ∷ []) ((m.0, Some (length done), m.2) ∷ ms) (t ∷ rs) after
+      pub entry_checked : (m : Mark) {ms : List Mark} (r t : Rest) {rs : List Rest} (pair key value own after done left : List ℕ) → names_of_rest r ≡ pair ∷ names_of_rest t → drop (length done) bytes ≡ left → IsRisen m left → left ≡ own ++ after → IsDueAs pair [] (key ∷ value ∷ []) None → IsDueAs key own [] None → IsCheckedTo F root bytes [] (m ∷ ms) (r ∷ rs) left → IsCheckedTo F root bytes (value ∷ []) ((m.0, one_more m.1 (length done), m.2) ∷ ms) (t ∷ rs) after
       entry_checked m r t pair key value own after done left names d rises l two begins h =
           let n = next_owed m r t pair done left names d rises h.owed in
           record { dues = n.0; owed = n.1; checked = λ c. h.checked (n.2 (subst (λ b. AreChecked F (one pair ∷ n.0) b) (sym l) (two n.0 (own ++ after) (begins (one value ∷ n.0) after c)))) }
@@ -129,9 +127,9 @@ module _ (F : List ℕ → Option Form) where
       zero_checked x left z h = record { dues = h.dues; owed = h.owed; checked = λ c. h.checked (empty z c) }
 
       -- its parts come next
-      pub front_checked : {ms : List Mark} {rs : List Rest} (x own after left : List ℕ) (r : Rest) (k : Option (List ℕ)) → left ≡ own ++ after → IsDueAs x own (names_of_rest r) k → IsCheckedTo F root bytes (x ∷ []) ms rs left → IsCheckedTo F root bytes [] ((x, None, k) ∷ ms) (r ∷ rs) after
-      front_checked x own after left r None l due h = record { dues = map one (names_of_rest r) ++ h.dues; owed = names_owed x None r h.owed; checked = λ c. h.checked (subst (λ b. AreChecked F (one x ∷ h.dues) b) (sym l) (due h.dues after c)) }
-      front_checked x own after left r (Some k) l due h = record { dues = ascending due.0 k due.1 None ∷ h.dues; owed = elements_owed x None r due.0 k due.1 due.2 h.owed; checked = λ c. h.checked (subst (λ b. AreChecked F (one x ∷ h.dues) b) (sym l) (due.3 h.dues after c)) }
+      pub front_checked : {ms : List Mark} {rs : List Rest} (x own after left : List ℕ) (r : Rest) (called : Parts) (k : Option (List ℕ)) → left ≡ own ++ after → IsDueAs x own (names_of_rest r) k → IsCheckedTo F root bytes (x ∷ []) ms rs left → IsCheckedTo F root bytes [] ((x, (called, 0, None), k) ∷ ms) (r ∷ rs) after
+      front_checked x own after left r called None l due h = record { dues = map one (names_of_rest r) ++ h.dues; owed = names_owed x (called, 0, None) r h.owed; checked = λ c. h.checked (subst (λ b. AreChecked F (one x ∷ h.dues) b) (sym l) (due h.dues after c)) }
+      front_checked x own after left r called (Some k) l due h = record { dues = ascending due.0 k due.1 None ∷ h.dues; owed = elements_owed x (called, 0, None) r due.0 k due.1 due.2 h.owed; checked = λ c. h.checked (subst (λ b. AreChecked F (one x ∷ h.dues) b) (sym l) (due.3 h.dues after c)) }
 
       -- a place has ended
       pub end_checked : (m : Mark) {ms : List Mark} (r : Rest) {rs : List Rest} (left : List ℕ) → names_of_rest r ≡ [] → IsCheckedTo F root bytes [] (m ∷ ms) (r ∷ rs) left → IsCheckedTo F root bytes [] ms rs left

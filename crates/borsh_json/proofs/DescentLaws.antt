@@ -61,7 +61,7 @@ module _ (F : List ℕ → Option Form) where
 
   -- ---- lists of numbers
   -- a set of primitives whose own bytes are its elements, too
-  pub numbers_descend : (x e k own es rest : List ℕ) (n c i : ℕ) (signed : Bool) → HasKeys F x e k → IsOrdered F k → F e ≡ Some (primitive (suc n)) → HasOrder F e (numbers (suc n) signed) → own ≡ tag 4 (pos c) ++ es → length es ≡ c * suc n → All (λ b. b < 256) es → c ≤ 4294967295 → NumbersDescend (suc n) signed es i → HasDescent F x (own ++ rest)
+  pub numbers_descend : (x e k own es rest : List ℕ) (n c i : ℕ) (signed : Bool) → HasKeys F x e k → IsOrdered F k → F e ≡ Some (primitive (suc n)) → HasOrder F e (numbers (suc n) signed) → own ≡ tag 4 (pos c) ++ es → length es ≡ c * suc n → All (λ b. b < 256) es → c ≤ 4294967295 → NumbersDescend (suc n) signed es i → HasDescent F x (own ++ rest) (i - 1)
   numbers_descend x e k own es rest n c i signed (l, inr m) o f h w len small fits d = absurd (clash (F e) f m.1 (λ q. cc))
   numbers_descend x e k own es rest n c i signed (l, inl s) o f h w len small fits d =
       let first = tag (suc n) d.y in
@@ -80,7 +80,6 @@ module _ (F : List ℕ → Option Form) where
         e = e;
         k = k;
         count = c;
-        passed = i - 1;
         middle = d.before;
         first = first;
         after = second ++ (d.after ++ rest);

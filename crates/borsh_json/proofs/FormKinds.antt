@@ -1,5 +1,5 @@
 -- The definition that a name of a kind has.
-use Rattle.std.proofs.Common.{◌≡◌, inl, inr, ℕ, List, [], ◌∷◌, Bool, true, false, Option, Some, refl, sym, ◌∙◌, ap, subst}
+use Rattle.std.proofs.Common.{◌≡◌, ◌⊎◌, inl, inr, ℕ, List, [], ◌∷◌, Bool, true, false, Option, Some, refl, sym, ◌∙◌, ap, subst}
 use Rattle.std.specs.Prelude.{⊤, ◌&&◌, ◌==◌, if◌then◌else◌, codes}
 use Rattle.std.specs.Float.{binary32, binary64}
 use Rattle.std.specs.Str.{bytes_eq}
@@ -22,7 +22,7 @@ module _ (F : List ℕ → Option Form) where
   IsFormOf x (utf8 l) d = (e : List ℕ) × IsSequence l e d
   IsFormOf x (byte_list l e) d = IsSequence l e d × IsByte F e
   IsFormOf x (list l e) d = IsSequence l e d
-  IsFormOf x (row xs) d = shape_of_form d ≡ product xs
+  IsFormOf x (row xs) d = (d ≡ tuple xs) ⊎ (d ≡ unnamed xs)
   IsFormOf x (inner p) d = d ≡ newtype p
   IsFormOf x (fields fs) d = d ≡ named fs
   IsFormOf x (optional p) d = IsNullable F x p
@@ -56,9 +56,9 @@ module _ (F : List ℕ → Option Form) where
   formed kind (sequence w lo hi e) c (some_bytes s b) = (refl, b)
   formed kind (sequence w lo hi e) c (an_object m k) = (e, refl, map_elements w lo hi e c m, k)
   formed kind (sequence w lo hi e) c (some_elements s b m k) = refl
-  formed {x = x} kind (tuple ps) c p = subst (λ k. IsFormOf x k (tuple ps)) (sym p) refl
+  formed {x = x} kind (tuple ps) c p = subst (λ k. IsFormOf x k (tuple ps)) (sym p) (inl refl)
   formed {x = x} kind (newtype y) c p = subst (λ k. IsFormOf x k (newtype y)) (sym p) refl
-  formed {x = x} kind (unnamed ps) c p = subst (λ k. IsFormOf x k (unnamed ps)) (sym p) refl
+  formed {x = x} kind (unnamed ps) c p = subst (λ k. IsFormOf x k (unnamed ps)) (sym p) (inr refl)
   formed {x = x} kind (named fs) c p = subst (λ k. IsFormOf x k (named fs)) (sym p) refl
   formed kind (choice w vs) c (nullable i) = i
   formed kind (choice w vs) c (by_name i) = refl

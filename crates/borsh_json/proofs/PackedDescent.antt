@@ -1,5 +1,5 @@
 -- Sets of primitives that don't ascend.
-use Rattle.std.proofs.Common.{◌≡◌, inl, inr, ℕ, suc, ◌*◌, ◌<◌, ◌≤◌, List, [], ◌++◌, length, drop, Bool, Option, Some, sym, ◌∙◌, ap, subst, arith}
+use Rattle.std.proofs.Common.{◌≡◌, inl, inr, ℕ, suc, ◌-◌, ◌*◌, ◌<◌, ◌≤◌, List, [], ◌++◌, length, drop, Bool, Option, Some, sym, ◌∙◌, ap, subst, arith}
 use Rattle.std.specs.Prelude.{pos, All}
 use Rattle.borsh_walks.specs.Container.{tag}
 use Rattle.borsh_values.specs.Nodes.{packed_size, OpensElements, Opens, AreElementsOf}
@@ -90,11 +90,12 @@ module _ (F : List ℕ → Option Form) (ns : List Named) where
         ]
 
     -- of which two neighbours don't ascend by its order
-    pub packed_descent : (rest : List ℕ) → ((signed : Bool) → AreOrderedNumbers found (suc n) signed es → (i : ℕ) × NumbersDescend (suc n) signed es i) → HasDescent F x (own ++ rest)
-    packed_descent rest falls =
+    pub packed_descent : (rest : List ℕ) (P : ℕ → Type 0) → ((signed : Bool) → AreOrderedNumbers found (suc n) signed es → (i : ℕ) × P i × NumbersDescend (suc n) signed es i) → (passed : ℕ) × P (suc passed) × HasDescent F x (own ++ rest) passed
+    packed_descent rest P falls =
         let r = is_packed in
         let d = falls r.signed r.ordered in
-        numbers_descend F x e k own es rest n r.count d.0 r.signed r.keys a.3 p r.order r.own_is r.many r.small r.fits d.1
+        let next : d.0 ≡ suc (d.0 - 1) = (let s = d.2.some in omega (arith, s)) in
+        (d.0 - 1, subst P next d.1, numbers_descend F x e k own es rest n r.count d.0 r.signed r.keys a.3 p r.order r.own_is r.many r.small r.fits d.2)
 
     -- or all do
     pub packed_rises : ((signed : Bool) → AreOrderedNumbers found (suc n) signed es → (i : ℕ) → NumbersDescend (suc n) signed es i → ⊥) → (signed : Bool) × IsSet F x e × HasOrder F e (numbers (suc n) signed) × ((i : ℕ) → NumbersDescend (suc n) signed (drop 4 own) i → ⊥) × (qs ≡ [])

@@ -1,9 +1,10 @@
 -- Where the writer is after each step.
-use Rattle.std.proofs.Common.{◌≡◌, ℕ, ◌+◌, ◌-◌, ◌<◌, ◌≤◌, List, [], ◌∷◌, ◌++◌, length, replicate, drop, Option, Some, None, refl, sym, ◌∙◌, ap, subst, arith, append_assoc, append-nil}
+use Rattle.std.specs.Prelude.{option_map}
+use Rattle.std.proofs.Common.{◌≡◌, ℕ, suc, ◌+◌, ◌-◌, ◌<◌, ◌≤◌, List, [], ◌∷◌, ◌++◌, length, replicate, drop, Option, Some, None, refl, sym, ◌∙◌, ap, subst, arith, append_assoc, append-nil}
 use Rattle.std.proofs.Math.Seq.{drop-append_seam}
 use Rattle.json.specs.Token.{Token}
 use Rattle.json.specs.Tree.{json_tokens}
-use Rattle.borsh_walks.specs.Container.{Shape, product, IsIn, first, later, Member}
+use Rattle.borsh_walks.specs.Container.{Shape, IsIn, first, later, Member}
 use Rattle.borsh_values.specs.Nodes.{Opens}
 use Rattle.borsh_values.specs.Walks.{IsReadTo}
 use Rattle.borsh_plan.specs.declared.named.Named.{Named}
@@ -16,16 +17,17 @@ use Rattle.borsh_json.specs.declared.position.Parts.TheVariants.{Root}
 use Rattle.borsh_json.specs.declared.position.Place.{Place}
 use Rattle.borsh_json.specs.declared.sources.EntryKey.{EntryKey}
 use Rattle.borsh_json.specs.Checked.{one, AreChecked, nothing_due}
-use Rattle.borsh_json.specs.Forms.{Form, shapes, HasNoBytes}
-use Rattle.borsh_json.specs.Frames.{IsEntryKey}
+use Rattle.borsh_json.specs.Forms.{Form, tuple, shape_of_form, shapes, HasNoBytes}
+use Rattle.borsh_json.specs.Frames.{IsEntryKey, last_steps}
+use Rattle.borsh_json.specs.InOrder.{place}
 use Rattle.borsh_json.specs.Leaves.{WritesLeaf}
 use Rattle.borsh_json.specs.Places.{IsAt}
 use Rattle.borsh_json.specs.Represents.{SaysFirst, HaveBytes, next_part}
 use Rattle.borsh_json.specs.Table.{Part, key_json}
-use Rattle.borsh_json.specs.Writes.{Rest, value_rest, entries_rest, names_of_rest, names_of_all, IsAbove, MayFollow, MayFollowAll, IsLast, IsWhole, Begins, opened, Nested, unread, entered, passed, Mark, AreLevels, no_levels, level, no_place, IsHalved, IsRestOf, IsRest, AreRests, IsCheckedTo, IsWriting, IsAwaiting, WritesFront}
+use Rattle.borsh_json.specs.Writes.{Rest, value_rest, entries_rest, names_of_rest, names_of_all, IsAbove, MayFollow, MayFollowAll, IsLast, IsWhole, Begins, one_more, opened, AreCalled, Nested, unread, entered, passed, Mark, of_pair, AreLevels, no_levels, level, entry_level, IsHalved, IsRestOf, IsRest, AreRests, IsCheckedTo, IsWriting, IsAwaiting, WritesFront}
 use Rattle.borsh_json.proofs.WritingLaws.{begins, ends, key_written, leaf_written, front_written, end_written, entry_taken}
 use Rattle.borsh_json.proofs.CheckedLaws.{IsDueAs, IsRisen, nothing_owed, starts_checked, next_checked, entry_checked, front_checked, end_checked}
-use Rattle.borsh_json.proofs.NestedLaws.{settled}
+use Rattle.borsh_json.proofs.NestedLaws.{settled, left as left_level}
 use Rattle.borsh_json.proofs.WritingPlaces.{key_tokens, TakesPart, TakesEntry, each_pushed, each_popped}
 
 pub not_in : (x : List ℕ) → IsIn x [] → ⊥
@@ -46,7 +48,7 @@ module _ (F : List ℕ → Option Form) (root : List ℕ) where
 
 module _ (F : List ℕ → Option Form) (ns : List Named) (root bytes : List ℕ) where
   -- in front of the root
-  pub writing_start : (p : Place) (ps : List Place) (written : List Token) → p.parts ≡ Root → p.begun ≡ 0 → ps ≡ [] → written ≡ [] → IsAt ns 0 root → Member (shapes F) root bytes → IsWriting F ns root bytes p ps ([], None, None) [] bytes written
+  pub writing_start : (p : Place) (ps : List Place) (written : List Token) → p.parts ≡ Root → p.begun ≡ 0 → ps ≡ [] → written ≡ [] → IsAt ns 0 root → Member (shapes F) root bytes → IsWriting F ns root bytes p ps ([], (Root, 0, None), None) [] bytes written
   writing_start p ps written e f g t i m =
       let inner = value_rest (root ∷ []) in
       record {
@@ -72,8 +74,8 @@ module _ (F : List ℕ → Option Form) (ns : List Named) (root bytes : List ℕ
     room_for = let r = w.room in omega (arith, r)
 
     -- a part comes next, whose key was written
-    pub awaits : (part : FoundPart) → q.last ≡ p.last → (t : TakesPart F ns p.parts q.begun p.last part w.inner) → new ≡ written ++ key_tokens part.key → IsRisen F bytes m left → IsAwaiting F ns root bytes t.name (128 - length w.around) q ps (m.0, Some (length w.done), m.2) ms left new
-    awaits part last t e rises =
+    pub awaits : (part : FoundPart) → last_steps m.1.0 ≡ [] → q.last ≡ p.last → (t : TakesPart F ns p.parts q.begun p.last part w.inner) → new ≡ written ++ key_tokens part.key → IsRisen F bytes m left → IsAwaiting F ns root bytes t.name (128 - length w.around) q ps (m.0, one_more m.1 (length w.done), m.2) ms left new
+    awaits part plain last t e rises =
         record {
           inner = t.rest;
           around = w.around;
@@ -86,8 +88,8 @@ module _ (F : List ℕ → Option Form) (ns : List Named) (root bytes : List ℕ
           before = m.1;
           beside = names_of_rest t.rest;
           outer = w.outer;
-          levels = level t.rest (m.0, Some (length w.done), m.2) w.levels;
-          nested = subst (λ l. Nested (shapes F) root (opened m.0 m.1 l ∷ w.outer) w.done) t.names w.nested;
+          levels = level t.rest (m.0, one_more m.1 (length w.done), m.2) plain w.levels;
+          nested = subst (λ l. Nested F root (opened m.0 m.1 l ∷ w.outer) w.done) t.names w.nested;
           rises = next_checked F bytes root m w.inner t.rest t.name w.done left t.names (behind_done w.done left w.halved.joined) rises w.rises;
           begun = begun_so F root _ _ new _ w.done e (sym (append-nil w.done)) (key_written F root w.inner t.rest w.around t.name (key_tokens part.key) [] [] (128 - length w.around) written w.done room_for t.taken (λ ps bs h. h) w.begun);
         }
@@ -101,21 +103,24 @@ module _ (F : List ℕ → Option Form) (ns : List Named) (root bytes : List ℕ
       entry_halved =
           let names = replicate t.count t.pair ++ names_of_all w.around in
           let h = subst (λ l. IsHalved F root bytes w.done left l) (ap (λ l. l ++ names_of_all w.around) names_there) w.halved in
-          record { joined = h.joined; read = read_product (shapes F) t.defined h.read }
+          record { joined = h.joined; read = read_product (shapes F) (ap (λ o. option_map shape_of_form o) t.defined) h.read }
 
-      pub pair_nested : Nested (shapes F) root (opened m.0 m.1 (t.pair ∷ replicate t.count t.pair) ∷ w.outer) w.done
-      pair_nested = subst (λ l. Nested (shapes F) root (opened m.0 m.1 l ∷ w.outer) w.done) names_there w.nested
+      pair_nested : Nested F root (opened m.0 m.1 (t.pair ∷ replicate t.count t.pair) ∷ w.outer) w.done
+      pair_nested = subst (λ l. Nested F root (opened m.0 m.1 l ∷ w.outer) w.done) names_there w.nested
 
-      pub entry_nested : Nested (shapes F) root (opened t.pair None (t.key ∷ t.value ∷ []) ∷ opened m.0 (Some (length w.done)) (replicate t.count t.pair) ∷ w.outer) w.done
+      pair_called : AreCalled (tuple (t.key ∷ t.value ∷ [])) [] of_pair (t.key ∷ t.value ∷ [])
+      pair_called i l = let e : suc i - 1 ≡ i = omega arith in ap (λ n. place n ∷ []) e
+
+      pub entry_nested : Nested F root (opened t.pair (of_pair, 0, None) (t.key ∷ t.value ∷ []) ∷ opened m.0 (one_more m.1 (length w.done)) (replicate t.count t.pair) ∷ w.outer) w.done
       entry_nested =
-          subst (λ b. Nested (shapes F) root (opened t.pair None (t.key ∷ t.value ∷ []) ∷ opened m.0 (Some (length w.done)) (replicate t.count t.pair) ∷ w.outer) b) (append-nil w.done) (entered (product (t.key ∷ t.value ∷ [])) [] pair_nested t.defined (refl, refl))
+          subst (λ b. Nested F root (opened t.pair (of_pair, 0, None) (t.key ∷ t.value ∷ []) ∷ opened m.0 (one_more m.1 (length w.done)) (replicate t.count t.pair) ∷ w.outer) b) (append-nil w.done) (entered (tuple (t.key ∷ t.value ∷ [])) [] of_pair pair_nested t.defined (refl, refl) pair_called)
 
       -- its key was written
-      pub awaits_entry : (own after : List ℕ) (key : EntryKey) (s : List ℕ) → q.last ≡ Some key → IsEntryKey es.key_kind key s → SaysFirst F t.key (key_json t.keys s) own [] → IsAbove t.keys t.before s → Member (shapes F) t.key own
+      pub awaits_entry : (own after : List ℕ) (key : EntryKey) (s : List ℕ) → last_steps m.1.0 ≡ place 1 ∷ [] → q.last ≡ Some key → IsEntryKey es.key_kind key s → SaysFirst F t.key (key_json t.keys s) own [] → IsAbove t.keys t.before s → Member (shapes F) t.key own
           → IsHalved F root bytes (w.done ++ own) after (t.value ∷ (replicate t.count t.pair ++ names_of_all w.around)) → new ≡ written ++ Token.key s ∷ []
           → IsRisen F bytes m left → left ≡ own ++ after → IsDueAs F t.pair [] (t.key ∷ t.value ∷ []) None → IsDueAs F t.key own [] None
-          → IsAwaiting F ns root bytes t.value (128 - length w.around) q ps (m.0, Some (length w.done), m.2) ms after new
-      awaits_entry own after key s last k says above member halved e rises joins pair begins =
+          → IsAwaiting F ns root bytes t.value (128 - length w.around) q ps (m.0, one_more m.1 (length w.done), m.2) ms after new
+      awaits_entry own after key s map last k says above member halved e rises joins pair begins =
           let rest = entries_rest t.keys t.key t.value t.pair t.count (Some s) in
           record {
             inner = rest;
@@ -126,10 +131,10 @@ module _ (F : List ℕ → Option Form) (ns : List Named) (root bytes : List ℕ
             room = room_for;
             halved = halved;
             value = t.pair;
-            before = Some (length w.done);
+            before = (of_pair, 1, Some (length w.done));
             beside = [];
-            outer = opened m.0 (Some (length w.done)) (replicate t.count t.pair) ∷ w.outer;
-            levels = no_place t.pair (Some (length (w.done ++ own))) (level rest (m.0, Some (length w.done), m.2) w.levels);
+            outer = opened m.0 (one_more m.1 (length w.done)) (replicate t.count t.pair) ∷ w.outer;
+            levels = entry_level t.pair (length (w.done ++ own)) rest (m.0, one_more m.1 (length w.done), m.2) map w.levels;
             nested = passed entry_nested member;
             rises = entry_checked F bytes root m w.inner rest t.pair t.key t.value own after w.done left names_there (behind_done w.done left w.halved.joined) rises joins pair begins w.rises;
             begun = begun_so F root _ _ new _ (w.done ++ own) e refl (key_written F root w.inner rest w.around t.value (Token.key s ∷ []) ((t.key, key_json t.keys s) ∷ []) own (128 - length w.around) written w.done room_for
@@ -146,9 +151,9 @@ module _ (F : List ℕ → Option Form) (ns : List Named) (root bytes : List ℕ
 
   module _ (x : List ℕ) (n : ℕ) (p : Place) (ps : List Place) (m : Mark) (ms : List Mark) (left : List ℕ) (written : List Token) (a : IsAwaiting F ns root bytes x n p ps m ms left written) (own after : List ℕ) (old new : Output) where
     -- a value was written whole
-    pub leaf_writes : (k : ℕ) (zeros : List (List ℕ)) → k ≤ n → Nested (shapes F) root (opened a.value (Some (length a.done)) a.beside ∷ a.outer) (a.done ++ own) → (leaf : WritesLeaf F k x own old new) → ((y : List ℕ) → IsIn y zeros → HasNoBytes F y) → IsHalved F root bytes (a.done ++ own) after (zeros ++ names_of_all (a.inner ∷ a.around)) → IsCheckedTo F root bytes [] (m ∷ ms) (a.inner ∷ a.around) after → IsWriting F ns root bytes p ps m ms after (written ++ json_tokens leaf.json)
+    pub leaf_writes : (k : ℕ) (zeros : List (List ℕ)) → k ≤ n → Nested F root (opened a.value (one_more a.before (length a.done)) a.beside ∷ a.outer) (a.done ++ own) → (leaf : WritesLeaf F k x own old new) → ((y : List ℕ) → IsIn y zeros → HasNoBytes F y) → IsHalved F root bytes (a.done ++ own) after (zeros ++ names_of_all (a.inner ∷ a.around)) → IsCheckedTo F root bytes [] (m ∷ ms) (a.inner ∷ a.around) after → IsWriting F ns root bytes p ps m ms after (written ++ json_tokens leaf.json)
     leaf_writes k zeros l nested leaf z h rises =
-        let s = settled (shapes F) root nested a.levels in
+        let s = settled F root nested a.levels in
         record {
           inner = a.inner;
           around = a.around;
@@ -165,8 +170,8 @@ module _ (F : List ℕ → Option Form) (ns : List Named) (root bytes : List ℕ
         }
 
     -- or its beginning
-    pub front_writes : (d : Shape) (r : Rest) (q : Place) (qs : List Place) → length a.around < 128 → shapes F x ≡ Some d → Opens (shapes F) d own (names_of_rest r) → IsRest F ns q r → (f : WritesFront F x own r old new) → qs ≡ ps ++ p ∷ [] → IsHalved F root bytes (a.done ++ own) after (names_of_rest r ++ names_of_all (a.inner ∷ a.around)) → (keys : Option (List ℕ)) → left ≡ own ++ after → IsDueAs F x own (names_of_rest r) keys → IsWriting F ns root bytes q qs (x, None, keys) (m ∷ ms) after (written ++ f.front)
-    front_writes d r q qs l c o k f e h keys joins due =
+    pub front_writes : (f : Form) (r : Rest) (q : Place) (qs : List Place) → length a.around < 128 → F x ≡ Some f → Opens (shapes F) (shape_of_form f) own (names_of_rest r) → AreCalled f own q.parts (names_of_rest r) → IsRest F ns q r → (front : WritesFront F x own r old new) → qs ≡ ps ++ p ∷ [] → IsHalved F root bytes (a.done ++ own) after (names_of_rest r ++ names_of_all (a.inner ∷ a.around)) → (keys : Option (List ℕ)) → left ≡ own ++ after → IsDueAs F x own (names_of_rest r) keys → IsWriting F ns root bytes q qs (x, (q.parts, 0, None), keys) (m ∷ ms) after (written ++ front.front)
+    front_writes f r q qs l c o called k front e h keys joins due =
         record {
           inner = r;
           around = a.inner ∷ a.around;
@@ -175,11 +180,11 @@ module _ (F : List ℕ → Option Form) (ns : List Named) (root bytes : List ℕ
           there = subst (λ (qs : List Place). AreRests F ns qs (a.inner ∷ a.around)) (sym e) (each_pushed (IsRest F ns) ps a.around p a.inner a.there a.here);
           room = omega (arith, l);
           halved = h;
-          outer = opened a.value (Some (length a.done)) a.beside ∷ a.outer;
+          outer = opened a.value (one_more a.before (length a.done)) a.beside ∷ a.outer;
           levels = a.levels;
-          nested = entered d own a.nested c o;
-          rises = front_checked F bytes root x own after left r keys joins due a.rises;
-          begun = front_written F root r (a.inner ∷ a.around) x n f.front own written a.done (let m = a.room in omega (arith, m)) f.whole a.begun;
+          nested = entered f own q.parts a.nested c o called;
+          rises = front_checked F bytes root x own after left r q.parts keys joins due a.rises;
+          begun = front_written F root r (a.inner ∷ a.around) x n front.front own written a.done (let m = a.room in omega (arith, m)) front.whole a.begun;
         }
 
   module _ (p : Place) (ps : List Place) (m : Mark) (ms : List Mark) (left : List ℕ) (written new brackets : List Token) (w : IsWriting F ns root bytes p ps m ms left written) (none : names_of_rest w.inner ≡ []) (last : MayFollow w.inner (128 - length w.around) brackets []) (e : new ≡ written ++ brackets) where
@@ -197,7 +202,7 @@ module _ (F : List ℕ → Option Form) (ns : List Named) (root bytes : List ℕ
     end_writes q qs k ks f e =
         let t = each_popped (IsRest F ns) qs w.around q (subst (λ (ps : List Place). AreRests F ns ps w.around) f w.there) in
         let l = subst (λ (ks : List Mark). AreLevels (t.0 ∷ t.1) ks w.outer) e (subst (λ (rs : List Rest). AreLevels rs ms w.outer) t.4 w.levels) in
-        let s = settled (shapes F) root (subst (λ l. Nested (shapes F) root (opened m.0 m.1 l ∷ w.outer) w.done) none w.nested) (no_place m.0 m.1 l) in
+        let s = left_level F root (subst (λ l. Nested F root (opened m.0 m.1 l ∷ w.outer) w.done) none w.nested) l in
         record {
           inner = t.0;
           around = t.1;

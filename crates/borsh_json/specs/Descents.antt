@@ -27,12 +27,11 @@ module _ (F : List ℕ → Option Form) where
   abbrev pub HasKeys : List ℕ → List ℕ → List ℕ → Type 0
   HasKeys x e k = IsList F x e × ((IsSetName x e × (k ≡ e)) ⊎ ((v : List ℕ) × (F e ≡ Some (tuple (k ∷ v ∷ []))) × IsMapName x k v))
 
-  -- the bytes begin with a value of the set or map x, the order of whose keys is known. It has at most as many elements as four bytes can say; behind some of them come two more, of which the key of the second isn't above that of the first
-  pub record HasDescent (x bytes : List ℕ) : Type 0 where
+  -- the bytes begin with a value of the set or map x, the order of whose keys is known. It has at most as many elements as four bytes can say; behind so many of them come two more, of which the key of the second isn't above that of the first
+  pub record HasDescent (x bytes : List ℕ) (passed : ℕ) : Type 0 where
     pub e : List ℕ
     pub k : List ℕ
     pub count : ℕ
-    pub passed : ℕ
     pub middle : List ℕ
     pub first : List ℕ
     pub after : List ℕ

@@ -108,6 +108,15 @@ abbrev pub HasPath : List ℕ → List Step → PartError → Type 0
 HasPath root steps NoMemory = ⊤
 HasPath root steps (RefusedPart path refusal) = IsPath root steps path
 
+-- numbers of so many bytes each, of which an element at the end of the error's path isn't above the one before it
+abbrev pub IsFallOf : List ℕ → List Step → ℕ → Bool → List ℕ → PartError → Type 0
+IsFallOf root outer n signed bytes NoMemory = ⊤
+IsFallOf root outer n signed bytes (RefusedPart path refusal) = (i : ℕ) × IsPath root (outer ++ element_step i ∷ []) path × NumbersDescend n signed bytes i
+
+-- elements with an order are such numbers
+abbrev pub IsElementFall : List ℕ → List Step → FoundElements → List ℕ → PartError → Type 0
+IsElementFall root outer es bytes e = (found : Ordered) × (es.order ≡ Some found) × ((signed : Bool) → AreOrderedNumbers found es.size signed bytes → IsFallOf root outer es.size signed bytes e)
+
 -- the steps to what a part's error is of: the part, or an element of it
 abbrev pub error_steps : List Step → ReadError → List Step
 error_steps steps OutOfMemory = steps

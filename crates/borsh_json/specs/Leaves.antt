@@ -73,16 +73,22 @@ module _ (F : List ℕ → Option Form) where
   abbrev pub RefusesValue : List ℕ → List ℕ → WriteError → Type 0
   RefusesValue x own OutOfMemory = ⊤
   RefusesValue x own (Refused refusal) = RefusesOwn F refusal x own
-  RefusesValue x own (Element index refusal) = RefusesElement F refusal x own
+  RefusesValue x own (Element index refusal) = RefusesElement F index refusal x own
 
-  -- the same of an element, whose index the error has
-  abbrev pub RefusesAt : List ℕ → List ℕ → WriteError → Type 0
-  RefusesAt x own OutOfMemory = ⊤
-  RefusesAt x own (Refused refusal) = ⊥
-  RefusesAt x own (Element index refusal) = RefusesOwn F refusal x own
+  -- the same of the element at an index, which the error has
+  abbrev pub RefusesAt : ℕ → List ℕ → List ℕ → WriteError → Type 0
+  RefusesAt n x own OutOfMemory = ⊤
+  RefusesAt n x own (Refused refusal) = ⊥
+  RefusesAt n x own (Element index refusal) = (index ≡ n) × RefusesOwn F refusal x own
 
-  abbrev pub IsElementWritten : List ℕ → List ℕ → Output → Output → Result (Unit {0}) WriteError → Type 0
-  IsElementWritten e own old new result = MatchResult result (λ _. WritesLeaf 0 e own old new) (λ error. RefusesAt e own error)
+  -- of a key, which has no elements
+  abbrev pub RefusesKey : List ℕ → List ℕ → WriteError → Type 0
+  RefusesKey x own OutOfMemory = ⊤
+  RefusesKey x own (Refused refusal) = RefusesOwn F refusal x own
+  RefusesKey x own (Element index refusal) = ⊥
+
+  abbrev pub IsElementWritten : ℕ → List ℕ → List ℕ → Output → Output → Result (Unit {0}) WriteError → Type 0
+  IsElementWritten n e own old new result = MatchResult result (λ _. WritesLeaf 0 e own old new) (λ error. RefusesAt n e own error)
 
   -- JSON of the name was written that says these bytes, or none can be
   abbrev pub IsWritten : ℕ → List ℕ → List ℕ → Output → Output → Result (Unit {0}) WriteError → Type 0
@@ -92,7 +98,7 @@ module _ (F : List ℕ → Option Form) where
   abbrev pub IsKeyWritten : List ℕ → KeyKind → Keys → List ℕ → Output → Output → Result EntryKey WriteError → Type 0
   IsKeyWritten k kind keys own old new result = MatchResult result
       (λ key. (s : List ℕ) × IsEntryKey kind key s × Adds (token.key s ∷ []) old new × SaysFirst F k (key_json keys s) own [])
-      (λ e. RefusesValue k own e)
+      (λ e. RefusesKey k own e)
 
   -- the own bytes of a value of the name, which has this definition and these parts
   abbrev pub IsOpenedAs : List ℕ → Form → List ℕ → List (List ℕ) → Type 0

@@ -11,8 +11,6 @@ use Rattle.borsh_plan.specs.declared.named.Named.{Named}
 use Rattle.borsh_json.specs.declared.definitions.Definitions.{Definitions}
 use Rattle.borsh_json.specs.declared.definitions.Known.{Known}
 use Rattle.borsh_json.specs.declared.definitions.Known.TheVariants.{Order as KnownOrder}
-use Rattle.borsh_json.specs.declared.error.PartError.{PartError}
-use Rattle.borsh_json.specs.declared.error.PartError.TheVariants.{OutOfMemory as NoMemory, Refused as RefusedPart}
 use Rattle.borsh_json.specs.declared.formats.Collection.{Collection}
 use Rattle.borsh_json.specs.declared.kinds.Elements.{Elements}
 use Rattle.borsh_json.specs.declared.kinds.KeyKind.{KeyKind}
@@ -27,7 +25,7 @@ use Rattle.borsh_json.specs.declared.order.Pair.{Pair}
 use Rattle.borsh_json.specs.declared.order.Pending.{Pending}
 use Rattle.borsh_json.specs.declared.order.Pending.TheVariants.{Elements as TwoLists, Parts}
 use Rattle.borsh_json.specs.Forms.{Form, sequence, tuple}
-use Rattle.borsh_json.specs.Descents.{HasKeys, NumbersDescend}
+use Rattle.borsh_json.specs.Descents.{HasKeys}
 use Rattle.borsh_json.specs.Found.{HasForm, IsCollection, IsNamed, forms_of, names_of}
 use Rattle.borsh_json.specs.Ordered.{Order, single, numbers, text, array, list, parts, needs, OrdersBytes, HasOrder, IsOrdered, Ranked, a_value, elements, Compare}
 use Rattle.borsh_json.specs.Places.{AreKeysOf, IsAt, IsKindAt}
@@ -362,11 +360,3 @@ OrdersKeys found kind = (F : List ℕ → Option Form) (ns : List Named) (orders
 -- the bytes are so many each, and ordered as numbers
 abbrev pub AreOrderedNumbers : Ordered → ℕ → Bool → List ℕ → Type 0
 AreOrderedNumbers order n signed bytes = (order ≡ Number n signed) × (0 < n) × ((c : ℕ) × (length bytes ≡ c * n)) × All (λ b. b < 256) bytes
-
--- an order finds two of such bytes that don't ascend
-abbrev pub IsFallOf : ℕ → Bool → List ℕ → PartError → Type 0
-IsFallOf n signed bytes NoMemory = ⊤
-IsFallOf n signed bytes (RefusedPart path refusal) = (i : ℕ) × NumbersDescend n signed bytes i
-
-abbrev pub IsElementFall : Elements → List ℕ → PartError → Type 0
-IsElementFall es bytes e = (found : Ordered) × (es.order ≡ Some found) × ((signed : Bool) → AreOrderedNumbers found es.size signed bytes → IsFallOf es.size signed bytes e)

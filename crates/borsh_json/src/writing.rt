@@ -1,11 +1,11 @@
 // A value as JSON.
-ghost use Rattle.borsh_json.specs.Words.{Adds, AreKeysOf, BeginsNext, EntryOf, Form, FoundBytes, FoundElements, FoundKeyKind, FoundList, FoundNumbers, FoundPart, HasNoBytes, HasNode, Holds, IsAbove, IsAt, IsAwaitingAt, IsBegunOf, IsEntryKey, IsKeyPut, IsKindOf, IsLast, IsNoJsonReason, IsPartWritten, IsWritingAt, IsWrittenNext, Keys, KindHasOrder, KindTellsOrder, Member, NamedPlace, NoneFallsIn, Place, RefusesElements, RisesAt, ShowsNoJson, StopsBy, TellsAscent, TextRepresents, WritesJson, definitions_in, definitions_of, ends_of, form_of, forms_in, forms_of, map_of, names_of, root_of, shapes};
+ghost use Rattle.borsh_json.specs.Words.{Adds, AreKeysOf, BeginsNext, EntryOf, Form, FoundBytes, FoundElements, FoundKeyKind, FoundList, FoundNumbers, FoundPart, HasNoBytes, HasNode, Holds, IsAbove, IsAt, IsAwaitingAt, IsBegunOf, IsEntryKey, IsKeyPut, IsKindOf, IsLast, IsNoJsonReason, IsPartWritten, IsWritingAt, IsWrittenNext, Keys, KindHasOrder, KindTellsOrder, Member, NamedPlace, NoneFallsIn, Place, RefusesElements, RisesAt, ShowsNoJson, StopsBy, TellsAscent, TextRepresents, WritesJson, definitions_in, definitions_of, ends_of, form_of, forms_in, forms_of, map_of, names_of, root_of, shapes, steps_at, steps_through};
 ghost use Rattle.borsh_json.specs.Ascii.{IsInLine, IsPlain, IsSameJson};
 ghost use Rattle.borsh_json.specs.Printed.{HasShortNumbers, IsPrinted};
 ghost use Rattle.borsh_json.specs.declared.output.Layout.TheVariants.{Compact};
 ghost use Rattle.borsh_json.specs.declared.output.LongNumbers.TheVariants.{Quoted};
 ghost use Rattle.borsh_json.specs.declared.output.Characters.TheVariants.{Any, Ascii};
-ghost use Rattle.std.specs.Prelude.{◌≡◌, ◌<◌, [], ℕ, All, Decides, IfErr, IfOk, IfSome, IsUtf8, List, MatchResult, OnOk, Option, Some, length, string_bytes, true};
+ghost use Rattle.std.specs.Prelude.{◌≡◌, ◌<◌, ◌++◌, [], ℕ, All, Decides, IfErr, IfOk, IfSome, IsUtf8, List, MatchResult, OnOk, Option, Some, length, string_bytes, true};
 
 use crate::ascii::{in_ascii, is_ascii};
 use crate::error::{JsonError, PartResult, Refusal};
@@ -45,9 +45,10 @@ use std::collections::BTreeMap;
 /// but that of its layout; with quoted numbers no whole number has more than eleven characters. So no other bytes have it, they
 /// are a member of the root ([`crate::text_determines_bytes`]), and [`crate::from_json`] gives them back, but for `OutOfMemory`,
 /// `Ambiguous` and `TooDeep`. `NoMember` and `Ambiguous` are as of [`borsh_values::is_member`], and `NoValue` and `NotJson`
-/// aren't returned. After `Refused` they are a member with a part of this kind: `TooDeep`, a value inside of 128 others;
-/// `Descends`, a set or map of which two neighbours don't ascend in the known order of its keys; others, a value of the kind that
-/// the refusal names, which no JSON says. Left open: memory; which of such texts, and the paths of refusals: tested.
+/// aren't returned. After `Refused` they are a member, and the path leads from the root to a part of this kind: `TooDeep`, a value
+/// inside of 128 others; `Descends`, an element of a set or an entry of a map that isn't above the one before it in the known order
+/// of its keys; others, a value of the kind that the refusal names, which no JSON says. Left open: memory; which of such texts:
+/// tested.
 ///
 /// ```
 /// let text = to_json(alloc, "(u8, bool)", &definitions, &[7, 1], Style::COMPACT)?;
@@ -303,7 +304,8 @@ fn check_elements<'a>(
     node: &Node<'_, '_>,
 ) -> PartResult<'a, ()>
     ensures room { OnOk result ((es : FoundElements) → kind.entry ≡ FoundNumbers es → length position.now.outer.items < 128) }
-    ensures full { IfErr result (RefusesElements (length position.now.outer.items) kind.entry node.now) }
+    ensures full { let p = position.now in IfErr result (RefusesElements p.root.now
+        (steps_through p.outer.items ++ steps_at p.place) (length p.outer.items) kind.entry node.now) }
     ensures bytes { let f = form_of node.now.definition.now in
         OnOk result ((es : FoundElements) → kind.entry ≡ FoundBytes es → NoneFallsIn es f node.now.bytes.now) }
     ensures numbers { let f = form_of node.now.definition.now in

@@ -1,10 +1,13 @@
 use Rattle.std.proofs.Common.{◌≡◌, List, [], ◌∷◌, length, None, ℕ, refl, sym, ◌∙◌, ap, subst, arith, false}
 use Rattle.std.specs.Prelude.{Bool}
 use Rattle.borsh_plan.specs.Plan.{planned, root_of}
+use Rattle.borsh_plan.specs.declared.plan.Plan.{Plan}
 use Rattle.borsh_values.proofs.Bytes.{small_bytes}
 use Rattle.borsh_json.specs.Checked.{one, AreChecked}
 use Rattle.borsh_json.specs.Found.{forms_of, names_of}
 use Rattle.borsh_json.specs.Leaves.{Holds}
+use Rattle.std.specs.Borrow.{Bor}
+use Rattle.borsh_json.specs.declared.position.Parts.TheVariants.{Root}
 use Rattle.borsh_json.specs.declared.position.Place.{Place}
 use Rattle.borsh_json.specs.Writes.{AreEach, IsMarked, IsWhole, IsWriting, IsWrittenOn}
 use Rattle.borsh_json.proofs.Lockstep.{in_order}
@@ -26,11 +29,12 @@ loop-init c =
           tokens = [];
           holds = c.requires.empty;
           offset = (let z = c.new-walk.ensures.offset in let l = ap (λ b. length b) c.new-walk.ensures.left in omega (arith, z, l));
+          root = ap (λ (b : Bor (List ℕ)). b.now) p.ensures.root ∙ c.root.ensures ∙ ap (λ (l : Bor Plan). root_of l.now) c.plan-plan.ensures;
         };
-        mark = ([], None, None);
+        mark = ([], (Root, 0, None), None);
         marks = [];
-        state = subst (λ (l : List ℕ). IsWriting F ns root c.args.bytes.now p.result.place p.result.outer.items ([], None, None) [] l []) (sym c.new-walk.ensures.left) s;
-        here = root_marked d c.args.bytes.now p.result.place p.ensures.place.0 p.ensures.place.2;
+        state = subst (λ (l : List ℕ). IsWriting F ns root c.args.bytes.now p.result.place p.result.outer.items ([], (Root, 0, None), None) [] l []) (sym c.new-walk.ensures.left) s;
+        here = root_marked d c.args.bytes.now p.result.place p.ensures.place.0 p.ensures.place.1 p.ensures.place.2;
         around = subst (λ (ps : List Place). AreEach (IsMarked d c.args.bytes.now) ps []) (sym p.ensures.outer) refl;
       },
       refl,
