@@ -12,11 +12,14 @@ use Rattle.borsh_walks.specs.Definitions.{shape_of, definitions_in}
 use Rattle.borsh_json.specs.Forms.{Form, form_of, form_of_parts, forms_in, shape_of_form, shapes}
 use Rattle.borsh_json.specs.Represents.{TextSays}
 
+pub shaped : (o : Option Form) {f : Form} → o ≡ Some f → option_map shape_of_form o ≡ Some (shape_of_form f)
+shaped o e = ap (λ o. option_map shape_of_form o) e
+
 pub twice : {A B C : Type 0} (f : A → B) (g : B → C) (h : A → C) → ((a : A) → g (f a) ≡ h a) → (xs : List A) → map g (map f xs) ≡ map h xs
 twice f g h e [] = refl
 twice f g h e (x ∷ xs) = ap (λ y. y ∷ map g (map f xs)) (e x) ∙ ap (λ ys. h x ∷ ys) (twice f g h e xs)
 
-parts_are : (ps : List (List ℕ)) → shape_of_form (form_of_parts ps) ≡ product ps
+pub parts_are : (ps : List (List ℕ)) → shape_of_form (form_of_parts ps) ≡ product ps
 parts_are [] = refl
 parts_are (p ∷ []) = refl
 parts_are (p ∷ q ∷ ps) = refl

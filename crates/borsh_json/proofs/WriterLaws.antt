@@ -2,7 +2,6 @@
 use Rattle.std.proofs.Common.{◌≡◌, inl, inr, ℕ, suc, ◌+◌, ◌-◌, ◌<◌, ◌≤◌, List, [], ◌∷◌, ◌++◌, length, replicate, drop, Option, Some, None, refl, sym, ◌∙◌, ap, subst, arith, append-nil, length-append}
 use Rattle.std.proofs.Math.Seq.{drop-append_seam}
 use Rattle.std.specs.Prelude.{String, option_map, IfSome, MatchOption, Bool, true, false, Decides}
-use Rattle.std.specs.declared.cmp.Ordering.{Ordering}
 use Rattle.std.specs.declared.cmp.Ordering.TheVariants.{Less}
 use Rattle.std.specs.BTreeMap.{BTreeMap}
 use Rattle.std.specs.Borrow.{Bor}
@@ -55,7 +54,7 @@ use Rattle.borsh_json.specs.Frames.{Wanted, IsWanted, GivesPart, IsKey, IsEntryK
 use Rattle.borsh_json.specs.Descents.{HasDescent}
 use Rattle.borsh_json.specs.Inside.{IsInside}
 use Rattle.borsh_json.specs.NoJson.{HasNoJsonPart, IsOutOfOrder, RefusesBytes}
-use Rattle.borsh_json.specs.Orders.{HasKeyOrder, KindHasOrder, OrderedBy, ValuesCompare}
+use Rattle.borsh_json.specs.Orders.{HasKeyOrder, KindHasOrder, OrderedBy, IsNotBelow}
 use Rattle.borsh_json.specs.Leaves.{Holds, Adds, IsOpenedAs, WritesLeaf, RefusesValue}
 use Rattle.borsh_json.specs.Places.{IsAt, AreKeysOf, IsKindOf, lengths_of}
 use Rattle.borsh_json.specs.Represents.{SaysFirst, next_part}
@@ -66,7 +65,7 @@ use Rattle.borsh_values.proofs.WalkedLaws.{read_product}
 use Rattle.borsh_json.specs.Writes.{IsAbove, IsLast, IsBegunOf, IsWhole, IsWrittenOn, ends_of, Rest, IsRest, WritesFront, names_of_rest, names_of_all, leaf_depth, opened, Nested, passed, Mark, AreEach, IsNewPlace, IsAscending, IsKeyed, IsLastKey, IsComparing, IsMarked, IsRestOf, BeginsNext, TellsAscent, RisesAt, IsWriterOf, IsHalved, IsWriting, IsAwaiting, IsWrittenAs, Stops, IsWritingAt, IsAwaitingAt, IsFull, IsFullOrFalls, AscendsFrom, IsOfWrite}
 use Rattle.borsh_json.proofs.CheckedLaws.{IsDueAs, IsRisen, kind_free, same_only, product_due, pair_due, leaf_checked, zero_checked}
 use Rattle.borsh_json.proofs.FormsLaws.{shape_is, shapes_are}
-use Rattle.borsh_json.proofs.FallLaws.{neighbours, falls}
+use Rattle.borsh_json.proofs.FallLaws.{falls}
 use Rattle.borsh_json.proofs.NestedLaws.{read_leaf, inside_of, as_deep}
 use Rattle.borsh_json.proofs.WritingPlaces.{as_many, each_pushed, each_popped, key_tokens, TakesPart, TakesEntry, takes_part, takes_entry, place_ends}
 use Rattle.borsh_json.proofs.FormKinds.{form_known}
@@ -154,13 +153,13 @@ room_only n P (RefusedPart path r) f = inl f
 
 -- ---- order
 -- a place that was begun, in the order of its kind
-pub in_order : (d : Definitions) (bytes x : List ℕ) (keys : Option (List ℕ)) (kind : Found) (o : Option Ordered) (new : Option Ascent) → KindHasOrder (forms_of d) (names_of d) d.orders.items x kind → IfSome o (λ order. (es : FoundElements) × (kind ≡ ListKind es) × (es.order ≡ Some order)) → AscendsFrom o new → IsAscending d bytes new (x, None, keys)
+pub in_order : (d : Definitions) (bytes x : List ℕ) (keys : Option (List ℕ)) (kind : Found) (o : Option Ordered) (new : Option Ascent) → KindHasOrder (forms_of d) (names_of d) x kind → IfSome o (λ order. (es : FoundElements) × (kind ≡ ListKind es) × (es.order ≡ Some order)) → AscendsFrom o new → IsAscending d bytes new (x, None, keys)
 in_order d bytes x keys kind None new k h a = subst (λ (a : Option Ascent). IsAscending d bytes a (x, None, keys)) (sym a) tt
 in_order d bytes x keys kind (Some order) new k h a =
     let F = forms_of d in
     let ns = names_of d in
-    let l = subst (λ (kind : Found). KindHasOrder F ns d.orders.items x kind) h.1 k in
-    let o = subst (λ (o : Option Ordered). HasKeyOrder F ns d.orders.items x o) (h.2 ∙ ap (λ o. Some o) (sym a.2)) l in
+    let l = subst (λ (kind : Found). KindHasOrder F ns x kind) h.1 k in
+    let o = subst (λ (o : Option Ordered). HasKeyOrder F ns x o) (h.2 ∙ ap (λ o. Some o) (sym a.2)) l in
     subst (λ (a : Option Ascent). IsAscending d bytes a (x, None, keys)) (sym a.1) (o, a.3)
 
 -- its keys are those that are due
@@ -267,12 +266,12 @@ module _ (d : Definitions) (w new : Writing) (x : List ℕ) (f : Form) (own : Li
       }
 
 -- of a place that is begun nothing is known of parts yet
-pub new_marked : (d : Definitions) (bytes x : List ℕ) (keys : Option (List ℕ)) (f : Form) (kind : Found) (p q : Place) → IsNewPlace kind p → IsKindOf (forms_of d) (names_of d) x f kind → KindHasOrder (forms_of d) (names_of d) d.orders.items x kind → q.parts ≡ p.parts → q.last ≡ p.last → IsAscending d bytes q.ascent (x, None, keys) → IsComparing d bytes q.ascent keys → IsMarked d bytes q (x, None, keys)
+pub new_marked : (d : Definitions) (bytes x : List ℕ) (keys : Option (List ℕ)) (f : Form) (kind : Found) (p q : Place) → IsNewPlace kind p → IsKindOf (forms_of d) (names_of d) x f kind → KindHasOrder (forms_of d) (names_of d) x kind → q.parts ≡ p.parts → q.last ≡ p.last → IsAscending d bytes q.ascent (x, None, keys) → IsComparing d bytes q.ascent keys → IsMarked d bytes q (x, None, keys)
 new_marked d bytes x keys f kind p q h i k a b c g = (
   c,
   (λ es n e.
       let t = h.2 es n (sym a ∙ e) in
-      ((t.0, f, subst (λ (kind : Found). IsKindOf (forms_of d) (names_of d) x f kind) t.1 i, subst (λ (kind : Found). KindHasOrder (forms_of d) (names_of d) d.orders.items x kind) t.1 k), subst (λ (l : Option EntryKey). IsLastKey d bytes es l None) (sym (b ∙ h.1)) tt)),
+      ((t.0, f, subst (λ (kind : Found). IsKindOf (forms_of d) (names_of d) x f kind) t.1 i, subst (λ (kind : Found). KindHasOrder (forms_of d) (names_of d) x kind) t.1 k), subst (λ (l : Option EntryKey). IsLastKey d bytes es l None) (sym (b ∙ h.1)) tt)),
   g,
 )
 
@@ -366,7 +365,7 @@ struct_on C root x left names s c e done parts ps o r =
 module _ (d : Definitions) (w new : Writing) (x : List ℕ) (a : IsAwaitingAt d w x) (f : Form) (e : forms_of d x ≡ Some f) where
   -- the beginning of a struct was written
   pub struct_begun : (q : Place) → (HasNoBytes (forms_of d) x → ⊥) → new.walk ≡ w.walk → new.bytes ≡ w.bytes → length w.position.outer.items < 128
-      → (kind : Found) → IsKindOf (forms_of d) (names_of d) x f kind → KindHasOrder (forms_of d) (names_of d) d.orders.items x kind → (r : Rest) → IsRest (forms_of d) (names_of d) q r → WritesFront (forms_of d) x [] r w.out new.out → shape_of_form f ≡ product (names_of_rest r) → IsNewPlace kind q
+      → (kind : Found) → IsKindOf (forms_of d) (names_of d) x f kind → KindHasOrder (forms_of d) (names_of d) x kind → (r : Rest) → IsRest (forms_of d) (names_of d) q r → WritesFront (forms_of d) x [] r w.out new.out → shape_of_form f ≡ product (names_of_rest r) → IsNewPlace kind q
       → new.position.place ≡ q → new.position.outer.items ≡ w.position.outer.items ++ w.position.place ∷ [] → IsWritingAt d new new.position.place
   struct_begun q full walk same room kind i k r h t s z p o =
       let F = forms_of d in
@@ -427,7 +426,7 @@ module _ (d : Definitions) (i : ℕ) (p q : Place) (part : FoundPart) (b : IsBeg
     where
       next_ascent : (old new : Option Ascent) → IsAscending d bytes old m → BeginsNext old i new → IsAscending d bytes new (m.0, Some done, m.2)
       next_ascent None new h n = subst (λ (a : Option Ascent). IsAscending d bytes a (m.0, Some done, m.2)) (sym n) tt
-      next_ascent (Some a) new h n = subst (λ (a : Option Ascent). IsAscending d bytes a (m.0, Some done, m.2)) (sym n.1) (subst (λ (o : Ordered). HasKeyOrder (forms_of d) (names_of d) d.orders.items m.0 (Some o)) (sym n.2) h.0, n.3 ∙ ap (λ i. Some i) e)
+      next_ascent (Some a) new h n = subst (λ (a : Option Ascent). IsAscending d bytes a (m.0, Some done, m.2)) (sym n.1) (subst (λ (o : Ordered). HasKeyOrder (forms_of d) (names_of d) m.0 (Some o)) (sym n.2) h.0, n.3 ∙ ap (λ i. Some i) e)
 
   -- in the same order
   its_turn : (bytes : List ℕ) (keys : Option (List ℕ)) → IsComparing d bytes p.ascent keys → IsComparing d bytes q.ascent keys
@@ -467,23 +466,20 @@ pub next_falls : (d : Definitions) (w : Writing) (p : Place) (a : IsWritingAt d 
 next_falls d w p a z zs names ascends off None h t = let q : true ≡ false = sym t ∙ off in cc
 next_falls d w p a z zs names ascends off (Some x) h t = go x.last h.1 t
   where
-    go : (last : Option ℕ) → last ≡ a.mark.1 → MatchOption last (ascends ≡ true) (λ i. (k : List ℕ) (r : Ordering) → OrderedBy d k x.order → ValuesCompare d k (drop i w.bytes.now) (drop w.walk.offset w.bytes.now) r → Decides ascends (r ≡ Less)) → IsOutOfOrder (forms_of d) (root_of d.plan.now) w.bytes.now
+    go : (last : Option ℕ) → last ≡ a.mark.1 → MatchOption last (ascends ≡ true) (λ i. (k : List ℕ) → OrderedBy d k x.order → MatchBool ascends (IsNotBelow d k (drop i w.bytes.now) (drop w.walk.offset w.bytes.now) → ⊥) (IsNotBelow d k (drop i w.bytes.now) (drop w.walk.offset w.bytes.now))) → IsOutOfOrder (forms_of d) (root_of d.plan.now) w.bytes.now
     go None e t = let q : true ≡ false = sym t ∙ off in cc
     go (Some i) e t =
-        let F = forms_of d in
         let s = a.state in
         let k = h.0.0 in
-        let n = neighbours d w p a z zs names k x.order h.0.1 i (sym e) in
         let left : w.walk.left.now ≡ drop w.walk.offset w.bytes.now = sym (ap (λ j. drop j w.bytes.now) (at_offset d w p a) ∙ last_there w.bytes.now s.done w.walk.left.now w.walk.left.now s.halved.joined refl) in
-        let there = subst (λ b. ValuesCompare d k (drop i w.bytes.now) b n.0) left n.1 in
-        let tells = t k n.0 h.0.1.2 there in
-        falls d w p a z zs names k x.order h.0.1 i (sym e) n.0 n.1 (λ l. let q : true ≡ false = sym (tells.1 l) ∙ off in cc)
+        let tells : IsNotBelow d k (drop i w.bytes.now) (drop w.walk.offset w.bytes.now) = subst (λ b. MatchBool b (IsNotBelow d k (drop i w.bytes.now) (drop w.walk.offset w.bytes.now) → ⊥) (IsNotBelow d k (drop i w.bytes.now) (drop w.walk.offset w.bytes.now))) off (t k h.0.1.2) in
+        falls d w p a z zs names k x.order h.0.1 i (sym e) (subst (λ b. IsNotBelow d k (drop i w.bytes.now) b) (sym left) tells)
 
 pub rises_so : (d : Definitions) (w : Writing) (p : Place) (ascent : Option Ascent) (above : Bool) → ascent ≡ p.ascent → above ≡ true → TellsAscent d w.bytes.now ascent w.walk.offset above → RisesAt d w p
 rises_so d w p ascent above e t h = subst (λ (a : Option Ascent). TellsAscent d w.bytes.now a w.walk.offset true) e (subst (λ b. TellsAscent d w.bytes.now ascent w.walk.offset b) t h)
 
 abbrev Before : Definitions → Writing → List ℕ → Option ℕ → Type 0
-Before d w k s = IfSome (option_map (λ i. drop i w.bytes.now) s) (λ earlier. (r : Ordering) → ValuesCompare d k earlier w.walk.left.now r → r ≡ Less)
+Before d w k s = IfSome (option_map (λ i. drop i w.bytes.now) s) (λ earlier. IsNotBelow d k earlier w.walk.left.now → ⊥)
 
 -- the next part is above the last one
 pub part_rises : (d : Definitions) (w : Writing) (p : Place) (a : IsWritingAt d w p) → RisesAt d w p → IsRisen (forms_of d) w.bytes.now a.mark w.walk.left.now
@@ -492,9 +488,9 @@ part_rises d w p a tells k e = go p.ascent a.here.0 (subst (λ (o : Option (List
     left : w.walk.left.now ≡ drop w.walk.offset w.bytes.now
     left = sym (ap (λ j. drop j w.bytes.now) (at_offset d w p a) ∙ last_there w.bytes.now a.state.done w.walk.left.now w.walk.left.now a.state.halved.joined refl)
 
-    by : (x : Ascent) → OrderedBy d k x.order → (last : Option ℕ) → last ≡ a.mark.1 → MatchOption last (true ≡ true) (λ i. (k : List ℕ) (r : Ordering) → OrderedBy d k x.order → ValuesCompare d k (drop i w.bytes.now) (drop w.walk.offset w.bytes.now) r → Decides true (r ≡ Less)) → Before d w k a.mark.1
+    by : (x : Ascent) → OrderedBy d k x.order → (last : Option ℕ) → last ≡ a.mark.1 → MatchOption last (true ≡ true) (λ i. (k : List ℕ) → OrderedBy d k x.order → IsNotBelow d k (drop i w.bytes.now) (drop w.walk.offset w.bytes.now) → ⊥) → Before d w k a.mark.1
     by x o None q t = subst (Before d w k) q tt
-    by x o (Some i) q t = subst (Before d w k) q (λ r v. (t k r o (subst (λ b. ValuesCompare d k (drop i w.bytes.now) b r) left v)).0 refl)
+    by x o (Some i) q t = subst (Before d w k) q (λ v. t k o (subst (λ b. IsNotBelow d k (drop i w.bytes.now) b) left v))
 
     go : (ascent : Option Ascent) → IsAscending d w.bytes.now ascent a.mark → IsComparing d w.bytes.now ascent (Some k) → TellsAscent d w.bytes.now ascent w.walk.offset true → Before d w k a.mark.1
     go None h c t = absurd c

@@ -1,5 +1,5 @@
 -- What was written of a value, and the JSON that may still follow: the invariant of the writer's loop.
-use Rattle.std.specs.Prelude.{◌≡◌, ◌⊎◌, ⊤, ℕ, suc, ◌+◌, ◌≤◌, List, [], ◌∷◌, ◌++◌, length, map, replicate, drop, Bool, true, false, Decides, Option, Some, None, Result, MatchResult, MatchOption, IfSome, option_map}
+use Rattle.std.specs.Prelude.{◌≡◌, ◌⊎◌, ⊤, ℕ, suc, ◌+◌, ◌≤◌, List, [], ◌∷◌, ◌++◌, length, map, replicate, drop, Bool, true, false, Decides, MatchBool, Option, Some, None, Result, MatchResult, MatchOption, IfSome, option_map}
 use Rattle.std.specs.declared.cmp.Ordering.{Ordering as Comparison}
 use Rattle.std.specs.declared.cmp.Ordering.TheVariants.{Less}
 use Rattle.std.specs.Borrow.{Bor}
@@ -14,7 +14,6 @@ use Rattle.borsh_values.specs.Membership.{IsUndecided}
 use Rattle.borsh_plan.specs.declared.named.Named.{Named}
 use Rattle.borsh_values.specs.declared.nodes.Node.{Node}
 use Rattle.borsh_json.specs.declared.definitions.Definitions.{Definitions}
-use Rattle.borsh_json.specs.declared.definitions.Known.{Known}
 use Rattle.borsh_json.specs.declared.error.Refusal.TheVariants.{TooDeep, Descends}
 use Rattle.borsh_json.specs.declared.error.PartError.{PartError}
 use Rattle.borsh_json.specs.declared.error.PartError.TheVariants.{OutOfMemory as NoPartMemory, Refused as RefusedPart}
@@ -42,7 +41,7 @@ use Rattle.borsh_json.specs.Forms.{Form, form_of, shape_of_form, shapes, HasNoBy
 use Rattle.borsh_json.specs.Frames.{Wanted, IsWanted, IsEntryKey, IsOf, GivesPart, NoneFalls}
 use Rattle.borsh_json.specs.Found.{forms_of, names_of}
 use Rattle.borsh_json.specs.Places.{IsAt, AreKeysOf, IsKindOf}
-use Rattle.borsh_json.specs.Orders.{HasKeyOrder, KindHasOrder, OrderedBy, ValuesCompare}
+use Rattle.borsh_json.specs.Orders.{HasKeyOrder, KindHasOrder, IsNotBelow, OrderedBy}
 use Rattle.borsh_json.specs.Represents.{SaysFirst, HaveBytes}
 use Rattle.borsh_json.specs.InOrder.{InOrder}
 use Rattle.borsh_json.specs.Leaves.{Holds, Adds, IsOpenedAs, RefusesValue, WritesLeaf}
@@ -358,7 +357,7 @@ module _ (d : Definitions) (bytes : List ℕ) where
   -- the keys of the value k ascend in this order, and its last part begins there
   abbrev pub IsAscending : Option Ascent → Mark → Type 0
   IsAscending None m = ⊤
-  IsAscending (Some a) m = HasKeyOrder (forms_of d) (names_of d) d.orders.items m.0 (Some a.order) × (a.last ≡ m.1)
+  IsAscending (Some a) m = HasKeyOrder (forms_of d) (names_of d) m.0 (Some a.order) × (a.last ≡ m.1)
 
   -- the last entry of these begins there with bytes that its key says
   abbrev pub IsLastKey : FoundEntries → Option EntryKey → Option ℕ → Type 0
@@ -370,7 +369,7 @@ module _ (d : Definitions) (bytes : List ℕ) where
 
   -- the value is a map of these entries, whose keys ascend
   abbrev pub IsMapOf : List ℕ → FoundEntries → Type 0
-  IsMapOf x es = (order : Ordered) × (f : Form) × IsKindOf (forms_of d) (names_of d) x f (Map es order) × KindHasOrder (forms_of d) (names_of d) d.orders.items x (Map es order)
+  IsMapOf x es = (order : Ordered) × (f : Form) × IsKindOf (forms_of d) (names_of d) x f (Map es order) × KindHasOrder (forms_of d) (names_of d) x (Map es order)
 
   -- where the place's parts are entries, the value is such a map
   abbrev pub IsKeyed : Parts → Option EntryKey → Mark → Type 0
@@ -465,8 +464,8 @@ NoneFallsIn es f own = (bytes : List ℕ) → AreElementsOf (shape_of_form f) ow
 -- the refusal is right of the own bytes of a value of a kind
 abbrev pub RefusesElements : ℕ → Found → Node → PartError → Type 0
 RefusesElements depth kind n e =
-    (F : List ℕ → Option Form) (ns : List Named) (orders : List Known) (x : List ℕ) (parts : List (List ℕ)) (after : List ℕ)
-    → IsOpenedAs F x (form_of n.definition.now) n.bytes.now parts → IsKindOf F ns x (form_of n.definition.now) kind → KindHasOrder F ns orders x kind → IsFullOrFalls depth (HasDescent F x (n.bytes.now ++ after)) e
+    (F : List ℕ → Option Form) (ns : List Named) (x : List ℕ) (parts : List (List ℕ)) (after : List ℕ)
+    → IsOpenedAs F x (form_of n.definition.now) n.bytes.now parts → IsKindOf F ns x (form_of n.definition.now) kind → KindHasOrder F ns x kind → IsFullOrFalls depth (HasDescent F x (n.bytes.now ++ after)) e
 
 -- the next part begins at the offset, where parts have to ascend
 abbrev pub BeginsNext : Option Ascent → ℕ → Option Ascent → Type 0
@@ -476,7 +475,7 @@ BeginsNext (Some a) i new = (b : Ascent) × (new ≡ Some b) × (b.order ≡ a.o
 -- whether it is above the one before, if there is one
 abbrev pub TellsAscent : Definitions → List ℕ → Option Ascent → ℕ → Bool → Type 0
 TellsAscent d bytes None j ascends = ascends ≡ true
-TellsAscent d bytes (Some a) j ascends = MatchOption a.last (ascends ≡ true) (λ i. (k : List ℕ) (r : Comparison) → OrderedBy d k a.order → ValuesCompare d k (drop i bytes) (drop j bytes) r → Decides ascends (r ≡ Less))
+TellsAscent d bytes (Some a) j ascends = MatchOption a.last (ascends ≡ true) (λ i. (k : List ℕ) → OrderedBy d k a.order → MatchBool ascends (IsNotBelow d k (drop i bytes) (drop j bytes) → ⊥) (IsNotBelow d k (drop i bytes) (drop j bytes)))
 
 -- the next part of the place is above the last one, where parts have to ascend
 abbrev pub RisesAt : Definitions → Writing → Place → Type 0

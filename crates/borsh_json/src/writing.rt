@@ -268,7 +268,7 @@ impl<'a, 'l, 'b> Writing<'a, 'l, 'b> {
     ) -> Result<(), JsonError<'a>>
         ensures part { let F = forms_of json.now in let ns = names_of json.now in
             (x : List ℕ) (f : Form) → IsAt ns at x → F x ≡ Some f →
-            IsKindOf F ns x f kind.entry → KindHasOrder F ns json.now.orders.items x kind.entry →
+            IsKindOf F ns x f kind.entry → KindHasOrder F ns x kind.entry →
             KindTellsOrder F x kind.entry → (HasNoBytes F x → ⊥) → HasNode kind.entry →
             IsAwaitingAt json.now self.old x → IsPartWritten json.now self.old self.new result }
         ensures bytes { self.new.bytes ≡ self.old.bytes }

@@ -37,7 +37,7 @@ returns-in_err-check_elements-clause-part c x f i e kind order tells full has a 
     let kd = subst (λ (f : Form). IsKindOf F ns x f c.args.kind) (node_form d w walk c.args.at x l i o n c.in-Some.is t f e) kind in
     let q = c.from_residual-in_err-check_elements in
     let p = err_from_is_err_and q.result q.ensures.1 in
-    rw (p.1, p.2) (stops_either (forms_of d) (root_of d.plan.now) w.bytes.now (length w.position.outer.items) a.state.done n.bytes.now walk.left.now w.walk.left.now x h.bytes c.in_err-check_elements.field-0.0 (is_deep d w x a) (c.in_err-check_elements.ensures.full (forms_of d) (names_of d) d.orders.items x h.parts walk.left.now op kd order))
+    rw (p.1, p.2) (stops_either (forms_of d) (root_of d.plan.now) w.bytes.now (length w.position.outer.items) a.state.done n.bytes.now walk.left.now w.walk.left.now x h.bytes c.in_err-check_elements.field-0.0 (is_deep d w x a) (c.in_err-check_elements.ensures.full (forms_of d) (names_of d) x h.parts walk.left.now op kd order))
 
 pub returns-in_err-enter-in-Ok-Some-clause-part : goal.returns-in_err-enter-in-Ok-Some-clause-part
 returns-in_err-enter-in-Ok-Some-clause-part c x f i e kind order tells full has a =
