@@ -186,7 +186,7 @@ pub extern "C" fn borsh_c_to_json(
 }
 
 /// Gives the bytes of the value that `json` says, which is UTF-8. Determined: after code 0 `json` says the bytes, a member of the root,
-/// and no others, and the keys of its sets and maps ascend where their order is known; the other codes as of [`borsh_c_to_json`], but after 1 `json` isn't UTF-8, or there is a reason of those that
+/// and no others, and the keys of its sets and maps ascend as far as their order is told; the other codes as of [`borsh_c_to_json`], but after 1 `json` isn't UTF-8, or there is a reason of those that
 /// `borsh_json::from_json` has, and an offset only if it isn't JSON. Left open: as there; the offset.
 ///
 /// ```c

@@ -76,7 +76,7 @@ impl<'a, 'k> Place<'a, 'k> {
         }
     }
 
-    /// The same place, whose parts have to ascend where their order is known.
+    /// The same place, whose parts have to ascend in an order, if there is one.
     pub fn in_order(self, order: Option<Ordered>) -> Place<'a, 'k>
         ensures same { (result.parts ≡ self.entry.parts) × (result.begun ≡ self.entry.begun) × (result.last ≡ self.entry.last) }
         ensures ascent { AscendsFrom order result.ascent }

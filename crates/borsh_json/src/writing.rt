@@ -37,16 +37,17 @@ use std::collections::BTreeMap;
 ///
 /// Refused with their path are bytes that the type itself would refuse (a `bool` of 2, a `String` that isn't UTF-8, a non-zero
 /// number of 0, a NaN, a set or map whose keys don't ascend), two fields or variants of one name, lists with a length whose
-/// elements and maps whose keys have no bytes, and values that nest more than 128 deep. The order of keys is known of numbers,
-/// `bool`, texts, and of tuples, arrays, lists, ordered sets and maps, and options of these, and not of structs and enums.
+/// elements and maps whose keys have no bytes, and values that nest more than 128 deep. The order of keys is told of numbers,
+/// `bool`, texts, and of tuples, arrays, lists, ordered sets and maps, and options of these; of structs, enums and others only
+/// that two are the same.
 ///
-/// Determined: after `Ok` the text is JSON that says these bytes, and in which keys ascend where their order is known, of the
+/// Determined: after `Ok` the text is JSON that says these bytes, and in which keys ascend as far as their order is told, of the
 /// characters of the style; a compact one is one line, without control characters; where any are allowed, it has no white space
 /// but that of its layout; with quoted numbers no whole number has more than eleven characters. So no other bytes have it, they
 /// are a member of the root ([`crate::text_determines_bytes`]), and [`crate::from_json`] gives them back, but for `OutOfMemory`,
 /// `Ambiguous` and `TooDeep`. `NoMember` and `Ambiguous` are as of [`borsh_values::is_member`], and `NoValue` and `NotJson`
 /// aren't returned. After `Refused` they are a member with a part of this kind: `TooDeep`, a value inside of 128 others;
-/// `Descends`, a set or map of which two neighbours don't ascend in the known order of its keys; others, a value of the kind that
+/// `Descends`, a set or map of which two neighbours don't ascend, as far as the order of its keys is told; others, a value of the kind that
 /// the refusal names, which no JSON says. Left open: memory; which of such texts, and the paths of refusals: tested.
 ///
 /// ```
@@ -285,7 +286,7 @@ impl<'a, 'l, 'b> Writing<'a, 'l, 'b> {
     }
 }
 
-/// How a list's parts ascend that are written one by one, where that is known.
+/// How a list's parts ascend that are written one by one, if they have to.
 fn order_of(kind: Kind<'_>) -> Option<Ordered>
     ensures list { IfSome result (λ order. (es : FoundElements) × (kind.entry ≡ FoundList es) × (es.order ≡ Some order)) }
     ensures all { (es : FoundElements) → kind.entry ≡ FoundList es → result ≡ es.order }
