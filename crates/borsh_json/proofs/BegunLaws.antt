@@ -26,7 +26,7 @@ use Rattle.borsh_json.specs.declared.position.Place.{Place}
 use Rattle.borsh_json.specs.declared.sources.EntryKey.{EntryKey}
 use Rattle.borsh_json.specs.Forms.{Form, sequence, shape_of_form, shapes}
 use Rattle.borsh_json.specs.Frames.{Wanted}
-use Rattle.borsh_json.specs.Leaves.{IsOpenedAs, RefusesValue}
+use Rattle.borsh_json.specs.Leaves.{IsOpenedAs, RefusesValue, long_of}
 use Rattle.borsh_json.specs.NoJson.{IsNoJson}
 use Rattle.borsh_json.specs.Places.{IsAt, IsUnsayable, IsListOf, IsKindOf, lengths_of}
 use Rattle.borsh_json.specs.Table.{Lengths, list, entries, row, inner, fields, RepeatsName}
@@ -53,12 +53,12 @@ module _ (F : List ℕ → Option Form) (ns : List Named) (x : List ℕ) (f : Fo
       (subst (λ (l : Option EntryKey). IsRestOf F ns parts 0 l r) (sym c) i))
 
   -- the bracket of a place was written, or there was no memory for it
-  pub value_begun : (kind : Found) (own : List ℕ) (parts : Parts) (r : Rest) (old new : Output) (result : Result (Option Place) WriteError) → ((es : FoundEntries) (n : ℕ) → parts ≡ MapEntries es n → (order : Ordered) × (kind ≡ MapKind es order)) → ((es : FoundElements) → kind ≡ ListKind es → es.is_refused ≡ false) → IsRestOf F ns parts 0 None r → IsFront F x own r (begins_of parts) → Opens (shapes F) (shape_of_form f) own (names_of_rest r) → BeginsAt parts old new result → WritesValue F ns kind x f own old new result
+  pub value_begun : (kind : Found) (own : List ℕ) (parts : Parts) (r : Rest) (old new : Output) (result : Result (Option Place) WriteError) → ((es : FoundEntries) (n : ℕ) → parts ≡ MapEntries es n → (order : Ordered) × (kind ≡ MapKind es order)) → ((es : FoundElements) → kind ≡ ListKind es → es.is_refused ≡ false) → IsRestOf F ns parts 0 None r → IsFront F (long_of old) x own r (begins_of parts) → Opens (shapes F) (shape_of_form f) own (names_of_rest r) → BeginsAt parts old new result → WritesValue F ns kind x f own old new result
   value_begun kind own parts r old new (Ok None) m l i w o b = absurd b
   value_begun kind own parts r old new (Ok (Some p)) m l i w o b = (r, new_place parts p r b.0 b.1 b.2 i, front_written F x own r (begins_of parts) old new w b.3, o, (b.4, b.2, (λ es n e. m es n (sym b.0 ∙ e)), l))
   value_begun kind own parts r old new (Err e) m l i w o b = subst (λ (e : WriteError). RefusesValue F x own e) (sym b) tt
 
-  struct_begun : (kind : Found) (parts : Parts) (r : Rest) (old new : Output) (result : Result (Option Place) WriteError) → ((es : FoundEntries) (n : ℕ) → parts ≡ MapEntries es n → ⊥) → ((es : FoundElements) → kind ≡ ListKind es → ⊥) → IsRestOf F ns parts 0 None r → IsFront F x [] r (begins_of parts) → shape_of_form f ≡ product (names_of_rest r) → BeginsAt parts old new result → WritesStruct F ns x f kind old new result
+  struct_begun : (kind : Found) (parts : Parts) (r : Rest) (old new : Output) (result : Result (Option Place) WriteError) → ((es : FoundEntries) (n : ℕ) → parts ≡ MapEntries es n → ⊥) → ((es : FoundElements) → kind ≡ ListKind es → ⊥) → IsRestOf F ns parts 0 None r → IsFront F (long_of old) x [] r (begins_of parts) → shape_of_form f ≡ product (names_of_rest r) → BeginsAt parts old new result → WritesStruct F ns x f kind old new result
   struct_begun kind parts r old new (Ok None) m l i w s b = absurd b
   struct_begun kind parts r old new (Ok (Some p)) m l i w s b = (r, new_place parts p r b.0 b.1 b.2 i, front_written F x [] r (begins_of parts) old new w b.3, s, (b.4, b.2, (λ es n e. absurd (m es n (sym b.0 ∙ e))), λ es e. absurd (l es e)))
   struct_begun kind parts r old new (Err e) m l i w s b = subst (λ (e : WriteError). RefusesValue F x [] e) (sym b) tt
@@ -72,7 +72,7 @@ module _ (F : List ℕ → Option Form) (ns : List Named) (x : List ℕ) (f : Fo
         let same = second_map refs in
         struct_begun (RowKind n) (Row at n) r old new result (λ es n e. cc) (λ es e. cc)
         (map (λ y. ([], y)) refs, (x, f, i, d, k.1, refl), refl)
-        (subst (λ (xs : List (List ℕ)). IsFront F x [] (items_rest xs) (Token.begin_array ∷ [])) (sym same) (row_front F x [] refs k.0 refl))
+        (subst (λ (xs : List (List ℕ)). IsFront F (long_of old) x [] (items_rest xs) (Token.begin_array ∷ [])) (sym same) (row_front F x [] refs k.0 refl))
         (form_known F (row refs) f k.0 d (λ e. cc) ∙ ap product (sym same)) b
 
     newtype_begun : (p : ℕ) → IsKindOf F ns x f (NewtypeKind p) → BeginsAt (Newtype p) old new result → WritesStruct F ns x f (NewtypeKind p) old new result

@@ -20,11 +20,11 @@ use Rattle.borsh_json.proofs.NumberLaws.{value_of}
 use Rattle.borsh_json.proofs.OpeningLaws.{one_string}
 use Rattle.borsh_json.proofs.RepresentsLaws.{kind_one, kind_small, short}
 
-as_number : (b : Bool) (s t : List ℕ) → (if b then number s else string s) ≡ number t → s ≡ t
+as_number : (b : Bool) (s t : List ℕ) → (if b then string s else number s) ≡ number t → s ≡ t
 as_number true s t e = cc
 as_number false s t e = cc
 
-as_string : (b : Bool) (s t : List ℕ) → (if b then number s else string s) ≡ string t → s ≡ t
+as_string : (b : Bool) (s t : List ℕ) → (if b then string s else number s) ≡ string t → s ≡ t
 as_string true s t e = cc
 as_string false s t e = cc
 
@@ -43,7 +43,7 @@ module _ (F : List ℕ → Option Form) (k : List ℕ) where
   number_bytes : (n : ℕ) (signed non_zero : Bool) (s own : List ℕ) → HasKind F k (whole n signed non_zero) → SaysFirst F k (key_json (numbers n) s) own [] → (z : ℤ) × InRange n signed z × (own ≡ tag n z) × (signed_digits_value 10 s ≡ z)
   number_bytes n signed non_zero s own h f =
       let r = subst (λ kind. Says F kind (key_json (numbers n) s) own []) (kind_one F f.1 h) f.2 in
-      let e : s ≡ r.0 = elim r.1 [ inl p ↦ as_number (nat_le n 8) s r.0 p.1 | inr p ↦ as_string (nat_le n 8) s r.0 p.1 ] in
+      let e : s ≡ r.0 = elim r.1 [ inl p ↦ as_number (nat_le 8 n) s r.0 p.1 | inr p ↦ as_string (nat_le 8 n) s r.0 p.1 ] in
       let w = r.2 in
       (w.0, w.3, w.2, ap (λ s. signed_digits_value 10 s) (e ∙ w.1) ∙ value_of w.0 (short n signed w.0 (kind_small F h n signed non_zero refl) w.3))
 

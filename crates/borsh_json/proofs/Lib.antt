@@ -57,6 +57,7 @@ pub mod RankLaws
 pub mod DescentLaws
 pub mod KeyRanks
 pub mod SaidRanks
+pub mod WrittenLaws
 pub mod InOrderLaws
 pub mod AscentLaws
 pub mod PackedDescent

@@ -18,18 +18,20 @@ use Rattle.borsh_json.specs.declared.error.WriteError.{WriteError}
 use Rattle.borsh_json.specs.declared.error.WriteError.TheVariants.{OutOfMemory, Refused, Element}
 use Rattle.borsh_json.specs.declared.kinds.Elements.{Elements}
 use Rattle.borsh_json.specs.declared.kinds.Kind.TheVariants.{Numbers}
+use Rattle.borsh_json.specs.declared.output.LongNumbers.{LongNumbers}
 use Rattle.borsh_json.specs.declared.output.Output.{Output}
 use Rattle.borsh_json.specs.Forms.{Form, primitive, sequence, tuple, newtype, unnamed, named, choice, form_of, shape_of_form, shapes, IsByte}
-use Rattle.borsh_json.specs.Leaves.{Adds, HasSize, Holds, IsOpenedAs, RefusesAt, RefusesValue, WritesLeaf}
+use Rattle.borsh_json.specs.Leaves.{Adds, HasSize, Holds, IsOpenedAs, RefusesAt, RefusesValue, WritesLeaf, long_of, AreWritten}
 use Rattle.borsh_json.specs.NoJson.{IsNoJson}
 use Rattle.borsh_json.specs.Places.{IsAt, IsKindOf, IsListOf, lengths_of}
-use Rattle.borsh_json.specs.Represents.{SaysFirst, HaveBytes, next_part}
+use Rattle.borsh_json.specs.Represents.{SaysFirst, HaveBytes}
 use Rattle.borsh_json.specs.Table.{Lengths, Kind, no_bytes, truth, whole, float, raw, utf8, byte_list, list, row, inner, fields, optional, variants, entries, a_text, some_bytes, an_object, some_elements, nullable, by_name, primitive_kind, DefinedKind, HasKind, IsHex, IsPrefixed, Part, Says, list_parts}
 use Rattle.borsh_json.proofs.FormsLaws.{shape_is}
 use Rattle.borsh_json.proofs.FoundLaws.{full_primitive}
 use Rattle.borsh_json.proofs.LeafLaws.{defined, float_length, front_one, no_json, primitive_sized, tag_length, tag_one}
 use Rattle.borsh_json.proofs.ReaderLaws.{uncons}
 use Rattle.borsh_json.proofs.RepresentsLaws.{kind_one}
+use Rattle.borsh_json.proofs.WrittenLaws.{next_written}
 
 drop_front : (xs ys : List ℕ) (n : ℕ) → length xs ≡ n → drop n (xs ++ ys) ≡ ys
 drop_front [] ys zero e = refl
@@ -39,10 +41,10 @@ drop_front (x ∷ xs) ys (suc n) e = drop_front xs ys n (omega arith)
 
 -- ---- tokens
 pub none_added : (out : Output) → Adds [] out out
-none_added out before h = subst (λ ts. Holds out ts) (sym (append-nil before)) h
+none_added out = (refl, λ before h. subst (λ ts. Holds out ts) (sym (append-nil before)) h)
 
 pub added : (xs ys : List Token) (a b c : Output) → Adds xs a b → Adds ys b c → Adds (xs ++ ys) a c
-added xs ys a b c f g before h = subst (λ ts. Holds c ts) (append_assoc before xs ys) (g (before ++ xs) (f before h))
+added xs ys a b c f g = (g.0 ∙ f.0, λ before h. subst (λ ts. Holds c ts) (append_assoc before xs ys) (g.1 (before ++ xs) (f.1 before h)))
 
 -- ---- lengths
 -- a length is the only one, or its prefix tells it
@@ -199,13 +201,13 @@ items_more F e k size h l j a qs s = sized k l (subst (λ k. Says F k j a qs) (k
     sized (entries m keys d v) l s = absurd l
 
 -- these bytes are elements, so many of all; behind what was written any items that may follow make an array
-pub record IsArrayWith (F : List ℕ → Option Form) (e done : List ℕ) (n : ℕ) (written : List Token) (js : Items) : Type 0 where
+pub record IsArrayWith (F : List ℕ → Option Form) (long : LongNumbers) (e done : List ℕ) (n : ℕ) (written : List Token) (js : Items) : Type 0 where
   pub all : Items
   pub tokens : written ++ items_tokens js ≡ token.begin_array ∷ items_tokens all
   pub numbers : ItemsHaveNumbers js → ItemsHaveNumbers all
   pub nests : items_depth all ≤ items_depth js
   pub count : length (list_parts e all) ≡ n + length (list_parts e js)
-  pub says : (ps : List Part) (bs : List ℕ) → HaveBytes F (list_parts e js ++ ps) bs → HaveBytes F (list_parts e all ++ ps) (done ++ bs)
+  pub says : (ps : List Part) (bs : List ℕ) → AreWritten F long (list_parts e js ++ ps) bs → AreWritten F long (list_parts e all ++ ps) (done ++ bs)
 
 pub record IsListing (F : List ℕ → Option Form) (e : List ℕ) (size : ℕ) (all rest : List ℕ) (old now : Output) : Type 0 where
   pub done : List ℕ
@@ -214,7 +216,7 @@ pub record IsListing (F : List ℕ → Option Form) (e : List ℕ) (size : ℕ) 
   pub size_of : length done ≡ count * size
   pub written : List Token
   pub adds : Adds written old now
-  pub begun : (js : Items) → IsArrayWith F e done count written js
+  pub begun : (js : Items) → IsArrayWith F (long_of old) e done count written js
 
 module _ (F : List ℕ → Option Form) (e : List ℕ) (size : ℕ) (all : List ℕ) (old now : Output) where
   pub listing_start : Adds (token.begin_array ∷ []) old now → IsListing F e size all all old now
@@ -249,7 +251,7 @@ module _ (F : List ℕ → Option Form) (e : List ℕ) (size : ℕ) (all : List 
       numbers = λ h. b.numbers (w.numbers, h);
       nests = (let d = w.nests in let m = b.nests in omega (arith, d, m));
       count = (let c = b.count in omega (arith, c));
-      says = λ ps bs h. subst (λ (l : List ℕ). HaveBytes F (list_parts e b.all ++ ps) l) (sym (append_assoc g.done piece bs)) (b.says ps (piece ++ bs) (w.says (list_parts e js ++ ps) bs h));
+      says = λ ps bs h. subst (λ (l : List ℕ). AreWritten F (long_of old) (list_parts e b.all ++ ps) l) (sym (append_assoc g.done piece bs)) (b.says ps (piece ++ bs) (subst (λ long. AreWritten F long (list_parts e js ++ ps) bs → AreWritten F long ((e, w.json) ∷ (list_parts e js ++ ps)) (piece ++ bs)) g.adds.0 (w.says (list_parts e js ++ ps) bs) h));
     });
   }
 
@@ -281,7 +283,7 @@ module _ (F : List ℕ → Option Form) (e : List ℕ) (size : ℕ) (all : List 
             let first = tag l.width (pos n) ++ [] in
             let s : Says F (list l e) (array b.all) first (list_parts e b.all) = (b.all, refl, refl, (subst (λ k. l.least ≤ k) same i.1, subst (λ k. k ≤ l.greatest) same i.2, refl)) in
             let q : first ++ (g.done ++ bs) ≡ own ++ bs = ap (λ l. l ++ (g.done ++ bs)) (append-nil (tag l.width (pos n))) ∙ sym (append_assoc (tag l.width (pos n)) g.done bs) ∙ ap (λ o. o ++ bs) (sym w) in
-            subst (λ (l : List ℕ). HaveBytes F ((x, array b.all) ∷ ps) l) q (next_part (list l e) first (list_parts e b.all) h s (b.says ps bs r));
+            subst (λ (l : List ℕ). AreWritten F (long_of old) ((x, array b.all) ∷ ps) l) q (next_written F (list l e) first (list_parts e b.all) h s (λ e s q. cc) (b.says ps bs r));
       }
     where
       counted : (k m : ℕ) → 1 ≤ size → k * size ≡ m * size → k ≡ m

@@ -27,6 +27,7 @@ use Rattle.borsh_json.proofs.DescentLaws.{all_left, all_right}
 use Rattle.borsh_json.proofs.FormKinds.{map_elements, form_known}
 use Rattle.borsh_json.proofs.FoundLaws.{full_list, full_primitive, list_element, zero_part}
 use Rattle.borsh_json.proofs.InOrderLaws.{items_said, keys_one, whole_in_order}
+use Rattle.borsh_json.proofs.WrittenLaws.{divided}
 use Rattle.borsh_json.proofs.LeafLaws.{primitive_sized, float_length}
 use Rattle.borsh_json.proofs.NameLaws.{packed_primitive}
 use Rattle.borsh_json.proofs.OrderLaws.{clash, numbers_step}
@@ -537,12 +538,8 @@ module _ (F : List ℕ → Option Form) where
     all_in_order none_left k small = tt
     all_in_order (next_part {x = x} {bs = bs} {j = j} {ps = ps} kind own qs h s r) k small =
         let t = all_in_order r (onward k (kind, h, s) r small refl) (behind own bs small) in
-        let d = divided qs ps t in
+        let d = divided F (λ x i. (index : ℕ) → Falls F x i index → ⊥) qs ps t in
         (whole_in_order F x j own qs (kind, h, s) d.0 (rises k (kind, h, s) r small refl), d.1)
-      where
-        divided : (qs ps : List Part) → AreInOrder F (qs ++ ps) → AreInOrder F qs × AreInOrder F ps
-        divided [] ps t = (tt, t)
-        divided (q ∷ qs) ps t = let d = divided qs ps t.1 in ((t.0, d.0), d.1)
 
   -- JSON that says bytes that were checked has what has to ascend in order
   pub in_order : (root : List ℕ) (j : Json) (bytes : List ℕ) → AreBytes bytes → HaveBytes F ((root, j) ∷ []) bytes → AreChecked F (one root ∷ []) bytes → InOrder F root j

@@ -161,7 +161,7 @@ module _ (F : List ℕ → Option Form) (ns : List Named) (x : List ℕ) (j : Js
     number_said : (s : List ℕ) → SaysOwn F k (key_json keys s) → (own : List ℕ) × IsWhole n.size n.is_signed n.is_non_zero s own
     number_said s d =
         let g = said F ns k (key_json keys s) (whole n.size n.is_signed n.is_non_zero) w d in
-        let a : IsNumber n.size s (key_json keys s) = subst (λ (q : Keys). IsNumber n.size s (key_json q s)) (sym q) (key_number n.size s (nat_le n.size 8) (tells n.size) refl) in
+        let a : IsNumber n.size s (key_json keys s) = subst (λ (q : Keys). IsNumber n.size s (key_json q s)) (sym q) (key_number n.size s (nat_le 8 n.size) (tells n.size) refl) in
         (g.0, subst (λ (s : List ℕ). IsWhole n.size n.is_signed n.is_non_zero s g.0) (number_one n.size g.2.0 s (key_json keys s) g.2.1 a) g.2.2)
 
     pub numbers_fail : (e : ReadError) → ShowsRead (IsKeyReason j) e ((((ms : Members) × (j ≡ object ms) × HaveOneEach (entries_of ms)) → ⊥) ⊎ HasNoNumber n j) → FailsRead F x j e

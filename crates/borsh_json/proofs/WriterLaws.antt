@@ -56,9 +56,9 @@ use Rattle.borsh_json.specs.Descents.{HasDescent}
 use Rattle.borsh_json.specs.Inside.{IsInside}
 use Rattle.borsh_json.specs.NoJson.{HasNoJsonPart, IsOutOfOrder, RefusesBytes}
 use Rattle.borsh_json.specs.Orders.{HasKeyOrder, KindHasOrder, OrderedBy, ValuesCompare}
-use Rattle.borsh_json.specs.Leaves.{Holds, Adds, IsOpenedAs, WritesLeaf, RefusesValue}
+use Rattle.borsh_json.specs.Leaves.{Holds, Adds, IsOpenedAs, WritesLeaf, RefusesValue, long_of}
 use Rattle.borsh_json.specs.Places.{IsAt, AreKeysOf, IsKindOf, lengths_of}
-use Rattle.borsh_json.specs.Represents.{SaysFirst, next_part}
+use Rattle.borsh_json.specs.Represents.{SaysFirst}
 use Rattle.borsh_json.specs.Table.{Keys, Kind, no_bytes, whole, utf8, HasKind, key_order, key_json}
 use Rattle.borsh_walks.proofs.Laws.{zero_member}
 use Rattle.borsh_values.proofs.MemberLaws.{opens_member, members_head}
@@ -71,6 +71,7 @@ use Rattle.borsh_json.proofs.NestedLaws.{read_leaf, inside_of, as_deep}
 use Rattle.borsh_json.proofs.WritingPlaces.{as_many, each_pushed, each_popped, key_tokens, TakesPart, TakesEntry, takes_part, takes_entry, place_ends}
 use Rattle.borsh_json.proofs.FormKinds.{form_known}
 use Rattle.borsh_json.proofs.StopLaws.{about_some}
+use Rattle.borsh_json.proofs.WrittenLaws.{next_written}
 use Rattle.borsh_json.proofs.WritingSteps.{only_in, halved_on, leaf_writes, front_writes, awaits, entry_halved, entry_nested, awaits_entry, end_writes, end_whole}
 
 -- ---- nodes
@@ -230,15 +231,15 @@ module _ (d : Definitions) (w new : Writing) (x : List ℕ) (f : Form) (own : Li
       let written = a.writer.tokens ++ json_tokens h.0.json in
       let k = halved_on F ns root w.bytes.now x (shape_of_form f) s.done w.walk.left.now own new.walk.left.now h.1 (names_of_all (s.inner ∷ s.around)) bytes (λ r. onward s.done h.1 (names_of_all (s.inner ∷ s.around)) h.2 r) s.halved in
       let n = read_leaf (shapes F) root own (names_of_all (s.inner ∷ s.around)) (shape_of_form f) s.nested c h.2 h.3 k.read.1 in
-      let t = leaf_writes F ns root w.bytes.now x a.room w.position.place w.position.outer.items a.mark a.marks w.walk.left.now a.writer.tokens s own new.walk.left.now w.out new.out (leaf_depth kind) h.1 l n h.0 h.3 k (leaf_checked F w.bytes.now root x own new.walk.left.now w.walk.left.now h.1 bytes h.3 due s.rises) in
+      let t = leaf_writes F ns root w.bytes.now x a.room w.position.place w.position.outer.items a.mark a.marks w.walk.left.now a.writer.tokens s own new.walk.left.now w.out new.out a.writer.kept (leaf_depth kind) h.1 l n h.0 h.3 k (leaf_checked F w.bytes.now root x own new.walk.left.now w.walk.left.now h.1 bytes h.3 due s.rises) in
       record {
-        writer = record { plan = plan; tokens = written; holds = h.0.adds a.writer.tokens a.writer.holds; offset = moved w new own a.writer.offset same bytes next };
+        writer = record { plan = plan; long = a.writer.long; kept = h.0.adds.0 ∙ a.writer.kept; tokens = written; holds = h.0.adds.1 a.writer.tokens a.writer.holds; offset = moved w new own a.writer.offset same bytes next };
         mark = a.mark;
         marks = a.marks;
         state =
-            subst (λ (b : Bor (List ℕ)). IsWriting F ns root b.now new.position.place new.position.outer.items a.mark a.marks new.walk.left.now written) (sym same)
-            (subst (λ (q : Place). IsWriting F ns root w.bytes.now q new.position.outer.items a.mark a.marks new.walk.left.now written) (sym p)
-            (subst (λ (qs : List Place). IsWriting F ns root w.bytes.now w.position.place qs a.mark a.marks new.walk.left.now written) (sym o) t));
+            subst (λ (b : Bor (List ℕ)). IsWriting F ns a.writer.long root b.now new.position.place new.position.outer.items a.mark a.marks new.walk.left.now written) (sym same)
+            (subst (λ (q : Place). IsWriting F ns a.writer.long root w.bytes.now q new.position.outer.items a.mark a.marks new.walk.left.now written) (sym p)
+            (subst (λ (qs : List Place). IsWriting F ns a.writer.long root w.bytes.now w.position.place qs a.mark a.marks new.walk.left.now written) (sym o) t));
         here = still_marked d w.bytes new.bytes same w.position.place new.position.place a.mark p a.here;
         around = still_around d w.bytes new.bytes same w.position.outer.items new.position.outer.items a.marks o a.around;
       }
@@ -254,14 +255,14 @@ module _ (d : Definitions) (w new : Writing) (x : List ℕ) (f : Form) (own : Li
       let r = h.0 in
       let k = halved_on F ns root w.bytes.now x (shape_of_form f) s.done w.walk.left.now own new.walk.left.now (names_of_rest r) (names_of_all (s.inner ∷ s.around)) bytes (λ t. onward s.done (names_of_rest r) (names_of_all (s.inner ∷ s.around)) h.3 t) s.halved in
       let l = as_many (IsRest F ns) w.position.outer.items s.around s.there in
-      let t = front_writes F ns root w.bytes.now x a.room w.position.place w.position.outer.items a.mark a.marks w.walk.left.now a.writer.tokens s own new.walk.left.now w.out new.out (shape_of_form f) r q new.position.outer.items (omega (arith, l, room)) c h.3 h.1 h.2 o k keys bytes due in
+      let t = front_writes F ns root w.bytes.now x a.room w.position.place w.position.outer.items a.mark a.marks w.walk.left.now a.writer.tokens s own new.walk.left.now w.out new.out a.writer.kept (shape_of_form f) r q new.position.outer.items (omega (arith, l, room)) c h.3 h.1 h.2 o k keys bytes due in
       record {
-        writer = record { plan = plan; tokens = written; holds = h.2.adds a.writer.tokens a.writer.holds; offset = moved w new own a.writer.offset same bytes next };
+        writer = record { plan = plan; long = a.writer.long; kept = h.2.adds.0 ∙ a.writer.kept; tokens = written; holds = h.2.adds.1 a.writer.tokens a.writer.holds; offset = moved w new own a.writer.offset same bytes next };
         mark = (x, None, keys);
         marks = a.mark ∷ a.marks;
         state =
-            subst (λ (b : Bor (List ℕ)). IsWriting F ns root b.now new.position.place new.position.outer.items (x, None, keys) (a.mark ∷ a.marks) new.walk.left.now written) (sym same)
-            (subst (λ (z : Place). IsWriting F ns root w.bytes.now z new.position.outer.items (x, None, keys) (a.mark ∷ a.marks) new.walk.left.now written) (sym p) t);
+            subst (λ (b : Bor (List ℕ)). IsWriting F ns a.writer.long root b.now new.position.place new.position.outer.items (x, None, keys) (a.mark ∷ a.marks) new.walk.left.now written) (sym same)
+            (subst (λ (z : Place). IsWriting F ns a.writer.long root w.bytes.now z new.position.outer.items (x, None, keys) (a.mark ∷ a.marks) new.walk.left.now written) (sym p) t);
         here = still_marked d w.bytes new.bytes same q new.position.place (x, None, keys) p z;
         around = still_around d w.bytes new.bytes same (w.position.outer.items ++ w.position.place ∷ []) new.position.outer.items (a.mark ∷ a.marks) o (each_pushed (IsMarked d w.bytes.now) w.position.outer.items a.marks w.position.place a.mark a.around a.here);
       }
@@ -312,11 +313,13 @@ module _ (d : Definitions) (w : Writing) (x : List ℕ) (a : IsAwaitingAt d w x)
   room_awaiting = let l = as_many (IsRest (forms_of d) (names_of d)) w.position.outer.items a.state.around a.state.there in let m = a.state.room in omega (arith, l, m)
 
 -- nothing was walked
-abbrev writer_still : (d : Definitions) (w new : Writing) → IsWriterOf d w → new.walk ≡ w.walk → new.bytes ≡ w.bytes → (tokens : List Token) → Holds new.out tokens → IsWriterOf d new
-writer_still d w new a walk same tokens holds = record {
+abbrev writer_still : (d : Definitions) (w new : Writing) (a : IsWriterOf d w) → new.walk ≡ w.walk → new.bytes ≡ w.bytes → (ts : List Token) → Adds ts w.out new.out → IsWriterOf d new
+writer_still d w new a walk same ts adds = record {
   plan = subst (λ (k : Walker). k.plan.now ≡ d.plan.now) (sym walk) a.plan;
-  tokens = tokens;
-  holds = holds;
+  long = a.long;
+  kept = adds.0 ∙ a.kept;
+  tokens = a.tokens ++ ts;
+  holds = adds.1 a.tokens a.holds;
   offset = subst (λ (k : Walker). k.offset + length k.left.now ≡ length new.bytes.now) (sym walk) (a.offset ∙ ap (λ (b : Bor (List ℕ)). length b.now) (sym same));
 }
 
@@ -340,20 +343,20 @@ module _ (d : Definitions) (w new : Writing) (x : List ℕ) (a : IsAwaitingAt d 
       let s = a.state in
       let written = a.writer.tokens ++ Token.null ∷ [] in
       let names = names_of_all (s.inner ∷ s.around) in
-      let leaf : WritesLeaf F 0 x [] w.out new.out = record { json = null; adds = t; numbers = tt; nests = omega arith; says = λ ps bs h. next_part no_bytes [] [] (inl (z, refl)) (refl, refl, refl) h } in
+      let leaf : WritesLeaf F 0 x [] w.out new.out = record { json = null; adds = t; numbers = tt; nests = omega arith; says = λ ps bs h. next_written F no_bytes [] [] (inl (z, refl)) (refl, refl, refl) (λ e s q. cc) h } in
       let h = subst (λ b. IsHalved F root w.bytes.now b w.walk.left.now (x ∷ names)) (sym (append-nil s.done)) s.halved in
       let head = members_head (shapes F) s.halved.read.1 in
       let n = passed s.nested (subst (λ b. Member (shapes F) x b) (zero_member (shapes F) head.2 z) head.2) in
-      let k = leaf_writes F ns root w.bytes.now x a.room w.position.place w.position.outer.items a.mark a.marks w.walk.left.now a.writer.tokens s [] w.walk.left.now w.out new.out 0 (x ∷ []) (omega arith) n leaf (λ y i. subst (λ y. HasNoBytes F y) (only_in y x i) z) h (zero_checked F w.bytes.now root x w.walk.left.now z s.rises) in
+      let k = leaf_writes F ns root w.bytes.now x a.room w.position.place w.position.outer.items a.mark a.marks w.walk.left.now a.writer.tokens s [] w.walk.left.now w.out new.out a.writer.kept 0 (x ∷ []) (omega arith) n leaf (λ y i. subst (λ y. HasNoBytes F y) (only_in y x i) z) h (zero_checked F w.bytes.now root x w.walk.left.now z s.rises) in
       record {
-        writer = writer_still d w new a.writer walk same written (t a.writer.tokens a.writer.holds);
+        writer = writer_still d w new a.writer walk same (Token.null ∷ []) t;
         mark = a.mark;
         marks = a.marks;
         state =
-            subst (λ (b : Bor (List ℕ)). IsWriting F ns root b.now new.position.place new.position.outer.items a.mark a.marks new.walk.left.now written) (sym same)
-            (subst (λ (k : Walker). IsWriting F ns root w.bytes.now new.position.place new.position.outer.items a.mark a.marks k.left.now written) (sym walk)
-            (subst (λ (q : Place). IsWriting F ns root w.bytes.now q new.position.outer.items a.mark a.marks w.walk.left.now written) (sym p)
-            (subst (λ (qs : List Place). IsWriting F ns root w.bytes.now w.position.place qs a.mark a.marks w.walk.left.now written) (sym o) k)));
+            subst (λ (b : Bor (List ℕ)). IsWriting F ns a.writer.long root b.now new.position.place new.position.outer.items a.mark a.marks new.walk.left.now written) (sym same)
+            (subst (λ (k : Walker). IsWriting F ns a.writer.long root w.bytes.now new.position.place new.position.outer.items a.mark a.marks k.left.now written) (sym walk)
+            (subst (λ (q : Place). IsWriting F ns a.writer.long root w.bytes.now q new.position.outer.items a.mark a.marks w.walk.left.now written) (sym p)
+            (subst (λ (qs : List Place). IsWriting F ns a.writer.long root w.bytes.now w.position.place qs a.mark a.marks w.walk.left.now written) (sym o) k)));
         here = still_marked d w.bytes new.bytes same w.position.place new.position.place a.mark p a.here;
         around = still_around d w.bytes new.bytes same w.position.outer.items new.position.outer.items a.marks o a.around;
       }
@@ -517,14 +520,14 @@ key_begun d w new p part a b n tells t walk position bytes =
       h.name,
       h.named,
       record {
-        writer = writer_still d w new a.writer walk bytes written (t a.writer.tokens a.writer.holds);
+        writer = writer_still d w new a.writer walk bytes (key_tokens part.key) t;
         room = 128 - length s.around;
         mark = m;
         marks = a.marks;
         state =
-            subst (λ (b : Bor (List ℕ)). IsAwaiting F ns root b.now h.name (128 - length s.around) new.position.place new.position.outer.items m a.marks new.walk.left.now written) (sym bytes)
-            (subst (λ (k : Walker). IsAwaiting F ns root w.bytes.now h.name (128 - length s.around) new.position.place new.position.outer.items m a.marks k.left.now written) (sym walk)
-            (subst (λ (k : Position). IsAwaiting F ns root w.bytes.now h.name (128 - length s.around) k.place k.outer.items m a.marks w.walk.left.now written) (sym position) r));
+            subst (λ (b : Bor (List ℕ)). IsAwaiting F ns a.writer.long root b.now h.name (128 - length s.around) new.position.place new.position.outer.items m a.marks new.walk.left.now written) (sym bytes)
+            (subst (λ (k : Walker). IsAwaiting F ns a.writer.long root w.bytes.now h.name (128 - length s.around) new.position.place new.position.outer.items m a.marks k.left.now written) (sym walk)
+            (subst (λ (k : Position). IsAwaiting F ns a.writer.long root w.bytes.now h.name (128 - length s.around) k.place k.outer.items m a.marks w.walk.left.now written) (sym position) r));
         here = still_marked d w.bytes new.bytes bytes q new.position.place m (ap (λ (k : Position). k.place) position) here;
         around = still_around d w.bytes new.bytes bytes w.position.outer.items new.position.outer.items a.marks (ap (λ (k : Position). k.outer.items) position) a.around;
       },
@@ -574,13 +577,13 @@ module _ (d : Definitions) (w new : Writing) (p : Place) (part : FoundPart) (es 
           t.value,
           t.named,
           record {
-            writer = record { plan = plan; tokens = written; holds = adds a.writer.tokens a.writer.holds; offset = moved w new n.bytes.now a.writer.offset bytes node.bytes node.next };
+            writer = record { plan = plan; long = a.writer.long; kept = adds.0 ∙ a.writer.kept; tokens = written; holds = adds.1 a.writer.tokens a.writer.holds; offset = moved w new n.bytes.now a.writer.offset bytes node.bytes node.next };
             room = 128 - length v.around;
             mark = k2;
             marks = a.marks;
             state =
-                subst (λ (b : Bor (List ℕ)). IsAwaiting F ns root b.now t.value (128 - length v.around) new.position.place new.position.outer.items k2 a.marks new.walk.left.now written) (sym bytes)
-                (subst (λ (l : List Place). IsAwaiting F ns root w.bytes.now t.value (128 - length v.around) new.position.place l k2 a.marks new.walk.left.now written) (sym outer) r);
+                subst (λ (b : Bor (List ℕ)). IsAwaiting F ns a.writer.long root b.now t.value (128 - length v.around) new.position.place new.position.outer.items k2 a.marks new.walk.left.now written) (sym bytes)
+                (subst (λ (l : List Place). IsAwaiting F ns a.writer.long root w.bytes.now t.value (128 - length v.around) new.position.place l k2 a.marks new.walk.left.now written) (sym outer) r);
             here = still_marked d w.bytes new.bytes bytes new.position.place new.position.place k2 refl here;
             around = still_around d w.bytes new.bytes bytes w.position.outer.items new.position.outer.items a.marks outer a.around;
           },
@@ -608,12 +611,12 @@ place_ended d w new p a g t walk bytes true left all =
     let f = each_popped (IsMarked d w.bytes.now) new.position.outer.items a.marks new.position.place (subst (λ (ps : List Place). AreEach (IsMarked d w.bytes.now) ps a.marks) (left refl) a.around) in
     let r = end_writes F ns root w.bytes.now p w.position.outer.items a.mark a.marks w.walk.left.now a.writer.tokens written (ends_of p.parts) s e.0 e.1 refl new.position.place new.position.outer.items f.0 f.1 (left refl) f.4 in
     record {
-      writer = writer_still d w new a.writer walk bytes written (t a.writer.tokens a.writer.holds);
+      writer = writer_still d w new a.writer walk bytes (ends_of p.parts) t;
       mark = f.0;
       marks = f.1;
       state =
-          subst (λ (b : Bor (List ℕ)). IsWriting F ns root b.now new.position.place new.position.outer.items f.0 f.1 new.walk.left.now written) (sym bytes)
-          (subst (λ (k : Walker). IsWriting F ns root w.bytes.now new.position.place new.position.outer.items f.0 f.1 k.left.now written) (sym walk) r);
+          subst (λ (b : Bor (List ℕ)). IsWriting F ns a.writer.long root b.now new.position.place new.position.outer.items f.0 f.1 new.walk.left.now written) (sym bytes)
+          (subst (λ (k : Walker). IsWriting F ns a.writer.long root w.bytes.now new.position.place new.position.outer.items f.0 f.1 k.left.now written) (sym walk) r);
       here = still_marked d w.bytes new.bytes bytes new.position.place new.position.place f.0 refl f.2;
       around = still_around d w.bytes new.bytes bytes new.position.outer.items new.position.outer.items f.1 refl f.3;
     }
@@ -627,8 +630,8 @@ place_ended d w new p a g t walk bytes false left all =
     let r = end_whole F ns root w.bytes.now p w.position.outer.items a.mark a.marks w.walk.left.now a.writer.tokens written (ends_of p.parts) s e.0 e.1 refl (all refl) (subst (λ (ps : List Place). AreEach (IsMarked d w.bytes.now) ps a.marks) (all refl) a.around) in
     record {
       tokens = written;
-      holds = t a.writer.tokens a.writer.holds;
-      whole = subst (λ (b : Bor (List ℕ)). IsWhole F root written b.now) (sym bytes) r.0;
+      holds = t.1 a.writer.tokens a.writer.holds;
+      whole = subst (λ (b : Bor (List ℕ)). IsWhole F (long_of new.out) root written b.now) (sym bytes) (subst (λ long. IsWhole F long root written w.bytes.now) (sym (t.0 ∙ a.writer.kept)) r.0);
       rises = subst (λ (b : Bor (List ℕ)). AreChecked F (one root ∷ []) b.now) (sym bytes) r.1;
     }
 

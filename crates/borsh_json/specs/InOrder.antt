@@ -51,6 +51,10 @@ module _ (F : List ℕ → Option Form) where
       whole_value : IsReached 0 [] [] (root, j)
       part_of : {n : ℕ} {path : List Step} {before mid x : List ℕ} {i : Json} {ps : List Part} {p : Part} (kind : Kind) (own : List ℕ) (steps : List Step) → IsReached n path before (x, i) → HasKind F x kind → BeginsParts kind i own (ps ++ p ∷ []) → HaveBytes F ps mid → AreSteps kind i (length ps) steps → IsReached (suc n) (path ++ steps) (before ++ (own ++ mid)) p
 
+  -- P holds of the JSON of each part that a path leads to
+  abbrev pub IsEach : (List ℕ → Json → Type 0) → List ℕ → Json → Type 0
+  IsEach P root j = (n : ℕ) (path : List Step) (before x : List ℕ) (i : Json) → IsReached root j n path before (x, i) → P x i
+
   -- ---- what ascends
 
   -- of a set of bytes, their digits: the byte at the index isn't greater than the one before it
@@ -85,7 +89,7 @@ module _ (F : List ℕ → Option Form) where
 
   -- JSON of the name, in which no path leads to a set or map of which an element falls; the keys of objects ascend by the table
   abbrev pub InOrder : List ℕ → Json → Type 0
-  InOrder root j = (n : ℕ) (path : List Step) (before x : List ℕ) (i : Json) → IsReached root j n path before (x, i) → (index : ℕ) → Falls x i index → ⊥
+  InOrder = IsEach (λ x i. (index : ℕ) → Falls x i index → ⊥)
 
   -- the text is JSON that says the bytes, these are a member of the root, and what has to ascend does
   abbrev pub TextRepresents : List ℕ → List ℕ → List ℕ → Type 0

@@ -229,10 +229,10 @@ abbrev pub key_order : Keys → Entry → Entry → Ordering
 key_order texts a b = slice_cmp nat_cmp a.0 b.0
 key_order (numbers n) a b = int_cmp (signed_digits_value 10 a.0) (signed_digits_value 10 b.0)
 
--- the JSON of a key, as that of another value of its type: a string, or a number where it has at most 8 bytes
+-- the JSON of a key, as that of another value of its type: a string, or a number where it has less than 8 bytes
 abbrev pub key_json : Keys → List ℕ → Json
 key_json texts k = string k
-key_json (numbers n) k = if nat_le n 8 then number k else string k
+key_json (numbers n) k = if nat_le 8 n then string k else number k
 
 -- each key and its value, as parts
 abbrev pub entry_parts : Keys → List ℕ → List ℕ → List Entry → List Part

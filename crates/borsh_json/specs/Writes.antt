@@ -29,6 +29,7 @@ use Rattle.borsh_json.specs.declared.kinds.Kind.{Kind as Found}
 use Rattle.borsh_json.specs.declared.kinds.Kind.TheVariants.{Number, Bool as Truth, Text, Bytes, Float, ByteList, Numbers, List as ListKind, Map, Row as RowKind, Newtype as NewtypeKind, Object as ObjectKind, Optional, Choice, Repeated}
 use Rattle.borsh_json.specs.declared.order.Ascent.{Ascent}
 use Rattle.borsh_json.specs.declared.order.Ordered.{Ordered}
+use Rattle.borsh_json.specs.declared.output.LongNumbers.{LongNumbers}
 use Rattle.borsh_json.specs.declared.output.Output.{Output}
 use Rattle.borsh_json.specs.declared.position.Parts.{Parts}
 use Rattle.borsh_json.specs.declared.position.Parts.TheVariants.{Root, List as Elements, Row, Object, Entries as MapEntries, Newtype, Some as Present, Variant}
@@ -43,9 +44,9 @@ use Rattle.borsh_json.specs.Frames.{Wanted, IsWanted, IsEntryKey, IsOf, GivesPar
 use Rattle.borsh_json.specs.Found.{forms_of, names_of}
 use Rattle.borsh_json.specs.Places.{IsAt, AreKeysOf, IsKindOf}
 use Rattle.borsh_json.specs.Orders.{HasKeyOrder, KindHasOrder, OrderedBy, ValuesCompare}
-use Rattle.borsh_json.specs.Represents.{SaysFirst, HaveBytes}
+use Rattle.borsh_json.specs.Represents.{SaysFirst}
 use Rattle.borsh_json.specs.InOrder.{InOrder}
-use Rattle.borsh_json.specs.Leaves.{Holds, Adds, IsOpenedAs, RefusesValue, WritesLeaf}
+use Rattle.borsh_json.specs.Leaves.{Holds, Adds, IsOpenedAs, RefusesValue, WritesLeaf, long_of, AreWritten}
 use Rattle.borsh_json.specs.NoJson.{RefusesBytes}
 use Rattle.borsh_json.specs.Table.{Keys, Part, row_parts, Entry, entries_of, entry_parts, key_json, key_order}
 
@@ -203,12 +204,12 @@ module _ (F : List ℕ → Option Form) where
     pub checked : AreChecked F (map one xs ++ dues) left → AreChecked F (one root ∷ []) bytes
 
   -- these tokens are JSON of the root that can be printed and read, and says these bytes
-  abbrev pub IsWhole : List ℕ → List Token → List ℕ → Type 0
-  IsWhole root ts bs = (j : Json) × (ts ≡ json_tokens j) × HasNumbers j × (depth j ≤ 128) × HaveBytes F ((root, j) ∷ []) bs
+  abbrev pub IsWhole : LongNumbers → List ℕ → List Token → List ℕ → Type 0
+  IsWhole long root ts bs = (j : Json) × (ts ≡ json_tokens j) × HasNumbers j × (depth j ≤ 128) × AreWritten F long ((root, j) ∷ []) bs
 
   -- tokens were written of so many bytes, and with any that P holds of they are JSON of the root
-  abbrev pub Begins : List ℕ → (List Token → List Part → Type 0) → List Token → List ℕ → Type 0
-  Begins root P written done = (ts : List Token) (ps : List Part) (bs : List ℕ) → P ts ps → HaveBytes F ps bs → IsWhole root (written ++ ts) (done ++ bs)
+  abbrev pub Begins : LongNumbers → List ℕ → (List Token → List Part → Type 0) → List Token → List ℕ → Type 0
+  Begins long root P written done = (ts : List Token) (ps : List Part) (bs : List ℕ) → P ts ps → AreWritten F long ps bs → IsWhole long root (written ++ ts) (done ++ bs)
 
   -- the bytes are those read and those left, and these names come next
   pub record IsHalved (root bytes done left : List ℕ) (names : List (List ℕ)) : Type 0 where
@@ -218,16 +219,16 @@ module _ (F : List ℕ → Option Form) where
   -- ---- one value
 
   -- behind these tokens whatever may follow of a place makes JSON of x that says these own bytes
-  abbrev pub IsFront : List ℕ → List ℕ → Rest → List Token → Type 0
-  IsFront x own r front =
-      (n : ℕ) (ts : List Token) (qs ps : List Part) (bs : List ℕ) → MayFollow r n ts qs → HaveBytes F (qs ++ ps) bs
-      → (j : Json) × (json_tokens j ≡ front ++ ts) × HasNumbers j × (depth j ≤ suc n) × HaveBytes F ((x, j) ∷ ps) (own ++ bs)
+  abbrev pub IsFront : LongNumbers → List ℕ → List ℕ → Rest → List Token → Type 0
+  IsFront long x own r front =
+      (n : ℕ) (ts : List Token) (qs ps : List Part) (bs : List ℕ) → MayFollow r n ts qs → AreWritten F long (qs ++ ps) bs
+      → (j : Json) × (json_tokens j ≡ front ++ ts) × HasNumbers j × (depth j ≤ suc n) × AreWritten F long ((x, j) ∷ ps) (own ++ bs)
 
   -- the beginning of JSON of x was written, and with what may follow of a place it says these own bytes
   pub record WritesFront (x own : List ℕ) (r : Rest) (old new : Output) : Type 0 where
     pub front : List Token
     pub adds : Adds front old new
-    pub whole : IsFront x own r front
+    pub whole : IsFront (long_of old) x own r front
 
   module _ (ns : List Named) where
     -- what is left of a place
@@ -251,7 +252,7 @@ module _ (F : List ℕ → Option Form) where
     AreRests ps rs = AreEach IsRest ps rs
 
     -- in front of a part of a place: where the writer is
-    pub record IsWriting (root bytes : List ℕ) (p : Place) (ps : List Place) (m : Mark) (ms : List Mark) (left : List ℕ) (written : List Token) : Type 0 where
+    pub record IsWriting (long : LongNumbers) (root bytes : List ℕ) (p : Place) (ps : List Place) (m : Mark) (ms : List Mark) (left : List ℕ) (written : List Token) : Type 0 where
       pub inner : Rest
       pub around : List Rest
       pub done : List ℕ
@@ -263,10 +264,10 @@ module _ (F : List ℕ → Option Form) where
       pub levels : AreLevels around ms outer
       pub nested : Nested (shapes F) root (opened m.0 m.1 (names_of_rest inner) ∷ outer) done
       pub rises : IsCheckedTo root bytes [] (m ∷ ms) (inner ∷ around) left
-      pub begun : Begins root (MayFollowAll (inner ∷ around)) written done
+      pub begun : Begins long root (MayFollowAll (inner ∷ around)) written done
 
     -- in front of a value of this name, which has room for this depth, and then of the rest of the place
-    pub record IsAwaiting (root bytes : List ℕ) (x : List ℕ) (n : ℕ) (p : Place) (ps : List Place) (m : Mark) (ms : List Mark) (left : List ℕ) (written : List Token) : Type 0 where
+    pub record IsAwaiting (long : LongNumbers) (root bytes : List ℕ) (x : List ℕ) (n : ℕ) (p : Place) (ps : List Place) (m : Mark) (ms : List Mark) (left : List ℕ) (written : List Token) : Type 0 where
       pub inner : Rest
       pub around : List Rest
       pub done : List ℕ
@@ -281,7 +282,7 @@ module _ (F : List ℕ → Option Form) where
       pub levels : AreLevels (inner ∷ around) (m ∷ ms) (opened value (Some (length done)) beside ∷ outer)
       pub nested : Nested (shapes F) root (opened value before (x ∷ beside) ∷ outer) done
       pub rises : IsCheckedTo root bytes (x ∷ []) (m ∷ ms) (inner ∷ around) left
-      pub begun : Begins root (MayFollowFirst x n (inner ∷ around)) written done
+      pub begun : Begins long root (MayFollowFirst x n (inner ∷ around)) written done
 
     -- of a value of x, whose definition opens these own bytes with these parts, JSON was written whole, and then its parts have no bytes, and its
     -- elements aren't written one by one; or it was begun, and its parts are those of the place
@@ -389,6 +390,8 @@ module _ (d : Definitions) (w : Writing) where
   -- the writer walks by these definitions, and has written these tokens
   pub record IsWriterOf : Type 0 where
     pub plan : w.walk.plan.now ≡ d.plan.now
+    pub long : LongNumbers
+    pub kept : long_of w.out ≡ long
     pub tokens : List Token
     pub holds : Holds w.out tokens
     pub offset : w.walk.offset + length w.walk.left.now ≡ length w.bytes.now
@@ -398,7 +401,7 @@ module _ (d : Definitions) (w : Writing) where
     pub writer : IsWriterOf
     pub mark : Mark
     pub marks : List Mark
-    pub state : IsWriting (forms_of d) (names_of d) (root_of d.plan.now) w.bytes.now p w.position.outer.items mark marks w.walk.left.now writer.tokens
+    pub state : IsWriting (forms_of d) (names_of d) writer.long (root_of d.plan.now) w.bytes.now p w.position.outer.items mark marks w.walk.left.now writer.tokens
     pub here : IsMarked d w.bytes.now p mark
     pub around : AreEach (IsMarked d w.bytes.now) w.position.outer.items marks
 
@@ -408,7 +411,7 @@ module _ (d : Definitions) (w : Writing) where
     pub room : ℕ
     pub mark : Mark
     pub marks : List Mark
-    pub state : IsAwaiting (forms_of d) (names_of d) (root_of d.plan.now) w.bytes.now x room w.position.place w.position.outer.items mark marks w.walk.left.now writer.tokens
+    pub state : IsAwaiting (forms_of d) (names_of d) writer.long (root_of d.plan.now) w.bytes.now x room w.position.place w.position.outer.items mark marks w.walk.left.now writer.tokens
     pub here : IsMarked d w.bytes.now w.position.place mark
     pub around : AreEach (IsMarked d w.bytes.now) w.position.outer.items marks
 
@@ -416,7 +419,7 @@ module _ (d : Definitions) (w : Writing) where
   pub record HasWritten : Type 0 where
     pub tokens : List Token
     pub holds : Holds w.out tokens
-    pub whole : IsWhole (forms_of d) (root_of d.plan.now) tokens w.bytes.now
+    pub whole : IsWhole (forms_of d) (long_of w.out) (root_of d.plan.now) tokens w.bytes.now
     pub rises : AreChecked (forms_of d) (one (root_of d.plan.now) ∷ []) w.bytes.now
 
   abbrev pub IsWrittenOn : Bool → Type 0
@@ -425,7 +428,7 @@ module _ (d : Definitions) (w : Writing) where
 
 -- JSON of the root was written that can be printed and read, says the bytes, and in which what has to ascend does
 abbrev pub WritesJson : (List ℕ → Option Form) → List ℕ → List ℕ → Output → Type 0
-WritesJson F root bytes out = (j : Json) × Holds out (json_tokens j) × HasNumbers j × (depth j ≤ 128) × HaveBytes F ((root, j) ∷ []) bytes × InOrder F root j
+WritesJson F root bytes out = (j : Json) × Holds out (json_tokens j) × HasNumbers j × (depth j ≤ 128) × AreWritten F (long_of out) ((root, j) ∷ []) bytes × InOrder F root j
 
 -- an error of the writer of these definitions
 abbrev pub StopsBy : Definitions → List ℕ → JsonError → Type 0

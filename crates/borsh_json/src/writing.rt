@@ -1,7 +1,7 @@
 // A value as JSON.
 ghost use Rattle.borsh_json.specs.Words.{Adds, AreKeysOf, BeginsNext, EntryOf, Form, FoundBytes, FoundElements, FoundKeyKind, FoundList, FoundNumbers, FoundPart, HasNoBytes, HasNode, Holds, IsAbove, IsAt, IsAwaitingAt, IsBegunOf, IsEntryKey, IsKeyPut, IsKindOf, IsLast, IsNoJsonReason, IsPartWritten, IsWritingAt, IsWrittenNext, Keys, KindHasOrder, KindTellsOrder, Member, NamedPlace, NoneFallsIn, Place, RefusesElements, RisesAt, ShowsNoJson, StopsBy, TellsAscent, TextRepresents, WritesJson, definitions_in, definitions_of, ends_of, form_of, forms_in, forms_of, map_of, names_of, root_of, shapes};
 ghost use Rattle.borsh_json.specs.Ascii.{IsInLine, IsPlain, IsSameJson};
-ghost use Rattle.borsh_json.specs.Printed.{HasShortNumbers, IsPrinted};
+ghost use Rattle.borsh_json.specs.Printed.{HasQuotedNumbers, IsPrinted};
 ghost use Rattle.borsh_json.specs.declared.output.Layout.TheVariants.{Compact};
 ghost use Rattle.borsh_json.specs.declared.output.LongNumbers.TheVariants.{Quoted};
 ghost use Rattle.borsh_json.specs.declared.output.Characters.TheVariants.{Any, Ascii};
@@ -42,8 +42,8 @@ use std::collections::BTreeMap;
 ///
 /// Determined: after `Ok` the text is JSON that says these bytes, and in which keys ascend where their order is known, of the
 /// characters of the style; a compact one is one line, without control characters; where any are allowed, it has no white space
-/// but that of its layout; with quoted numbers no whole number has more than eleven characters. So no other bytes have it, they
-/// are a member of the root ([`crate::text_determines_bytes`]), and [`crate::from_json`] gives them back, but for `OutOfMemory`,
+/// but that of its layout; with quoted numbers each whole number of 64 bits is a string. So no other bytes have it, they are a
+/// member of the root ([`crate::text_determines_bytes`]), and [`crate::from_json`] gives them back, but for `OutOfMemory`,
 /// `Ambiguous` and `TooDeep`. `NoMember` and `Ambiguous` are as of [`borsh_values::is_member`], and `NoValue` and `NotJson`
 /// aren't returned. After `Refused` they are a member with a part of this kind: `TooDeep`, a value inside of 128 others;
 /// `Descends`, a set or map of which two neighbours don't ascend in the known order of its keys; others, a value of the kind that
@@ -66,8 +66,8 @@ pub fn to_json<'a>(
     ensures line { style.layout ≡ Compact → IfOk result (λ text. All IsInLine (string_bytes text)) }
     ensures printed { style.characters ≡ Any →
         IfOk result (λ text. IsPrinted style.layout (string_bytes text)) }
-    ensures short { style.long_numbers ≡ Quoted →
-        IfOk result (λ text. HasShortNumbers (string_bytes text)) }
+    ensures quoted { let F = forms_in map.now in style.long_numbers ≡ Quoted →
+        IfOk result (λ text. HasQuotedNumbers F root.now (string_bytes text)) }
     ensures reason { IfErr result (λ e. IsNoJsonReason (definitions_in map.now) root.now bytes.now e) }
     ensures refused { IfErr result (λ e. ShowsNoJson (forms_in map.now) root.now bytes.now e) }
 {
@@ -85,8 +85,8 @@ impl<'a, 'l> Table<'a, 'l> {
         ensures line { style.layout ≡ Compact → IfOk result (λ text. All IsInLine (string_bytes text)) }
         ensures printed { style.characters ≡ Any →
             IfOk result (λ text. IsPrinted style.layout (string_bytes text)) }
-        ensures short { style.long_numbers ≡ Quoted →
-            IfOk result (λ text. HasShortNumbers (string_bytes text)) }
+        ensures quoted { let l = self.now.plan.now in style.long_numbers ≡ Quoted →
+            IfOk result (λ text. HasQuotedNumbers (forms_in (map_of l)) (root_of l) (string_bytes text)) }
         ensures reason { let l = self.now.plan.now in
             IfErr result (λ e. IsNoJsonReason (definitions_of l) (root_of l) bytes.now e) }
         ensures refused { let l = self.now.plan.now in

@@ -45,7 +45,7 @@ returns-in_err-write_key-clause-state c =
     let b = begun_still d w.walk.offset w.position.place c.next_part.new.self c.ascends.new.place c.in-Some.part c.in-Some.ensures.part s.0 s.1 s.2 o.0 o.1 o.2 c.ascends.ensures.begins in
     let q = c.from_residual-in_err-write_key in
     let r = err_from_is_err_and q.result q.ensures.1 in
-    rw (r.1, r.2) (c.in_err-write_key.ensures.key w.position.place (record { writer = record { plan = a.writer.plan; tokens = a.writer.tokens; holds = a.writer.holds; offset = a.writer.offset }; mark = a.mark; marks = a.marks; state = a.state; here = a.here; around = a.around }) t b)
+    rw (r.1, r.2) (c.in_err-write_key.ensures.key w.position.place (record { writer = record { plan = a.writer.plan; long = a.writer.long; kept = a.writer.kept; tokens = a.writer.tokens; holds = a.writer.holds; offset = a.writer.offset }; mark = a.mark; marks = a.marks; state = a.state; here = a.here; around = a.around }) t b)
 
 pub returns-in_err-write_part-clause-state : goal.returns-in_err-write_part-clause-state
 returns-in_err-write_part-clause-state c =
@@ -56,7 +56,7 @@ returns-in_err-write_part-clause-state c =
     let o = c.ascends.ensures.same in
     let t = rises_so d w w.position.place c.next_part.new.self.ascent c.in_ok-is_above.is_above s.2 c.if-not-is_above.false c.in_ok-is_above.ensures.tells in
     let b = begun_still d w.walk.offset w.position.place c.next_part.new.self c.ascends.new.place c.in-Some.part c.in-Some.ensures.part s.0 s.1 s.2 o.0 o.1 o.2 c.ascends.ensures.begins in
-    let x = c.in_ok-write_key.ensures.key w.position.place (record { writer = record { plan = a.writer.plan; tokens = a.writer.tokens; holds = a.writer.holds; offset = a.writer.offset }; mark = a.mark; marks = a.marks; state = a.state; here = a.here; around = a.around }) t b in
+    let x = c.in_ok-write_key.ensures.key w.position.place (record { writer = record { plan = a.writer.plan; long = a.writer.long; kept = a.writer.kept; tokens = a.writer.tokens; holds = a.writer.holds; offset = a.writer.offset }; mark = a.mark; marks = a.marks; state = a.state; here = a.here; around = a.around }) t b in
     let q = c.from_residual-in_err-write_part in
     let r = err_from_is_err_and q.result q.ensures.1 in
     rw (r.1, r.2) (subst (λ (b : Bor (List ℕ)). StopsBy d b.now c.in_err-write_part.field-0.0) c.write_key.ensures.bytes (c.in_err-write_part.ensures.part x.0 x.1 x.2))
@@ -70,5 +70,5 @@ returns-clause-state c =
     let o = c.ascends.ensures.same in
     let t = rises_so d w w.position.place c.next_part.new.self.ascent c.in_ok-is_above.is_above s.2 c.if-not-is_above.false c.in_ok-is_above.ensures.tells in
     let b = begun_still d w.walk.offset w.position.place c.next_part.new.self c.ascends.new.place c.in-Some.part c.in-Some.ensures.part s.0 s.1 s.2 o.0 o.1 o.2 c.ascends.ensures.begins in
-    let x = c.in_ok-write_key.ensures.key w.position.place (record { writer = record { plan = a.writer.plan; tokens = a.writer.tokens; holds = a.writer.holds; offset = a.writer.offset }; mark = a.mark; marks = a.marks; state = a.state; here = a.here; around = a.around }) t b in
+    let x = c.in_ok-write_key.ensures.key w.position.place (record { writer = record { plan = a.writer.plan; long = a.writer.long; kept = a.writer.kept; tokens = a.writer.tokens; holds = a.writer.holds; offset = a.writer.offset }; mark = a.mark; marks = a.marks; state = a.state; here = a.here; around = a.around }) t b in
     c.in_ok-write_part.ensures.part x.0 x.1 x.2
