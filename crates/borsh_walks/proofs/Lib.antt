@@ -2,6 +2,7 @@ pub mod Laws
 pub mod Variants
 pub mod Names
 pub mod Tables
+pub mod PlaceLaws
 pub mod Spots
 pub mod Measure
 pub mod SizeWalk

@@ -4,6 +4,7 @@ pub mod Counts
 pub mod Codecs
 pub mod Errors
 pub mod Tables
+pub mod Places
 pub mod TupleNames
 pub mod SizeParts
 pub mod SizeAnswer

@@ -1,8 +1,11 @@
 // How many definitions a walk visits. Left open of each call: none.
-ghost use Rattle.borsh_walks.specs.Counts.{CountsLook, definition_at, IsCounting, LooksOn};
-ghost use Rattle.std.specs.Prelude.{◌≡◌, option_map};
+ghost use Rattle.borsh_walks.specs.Counts.{CountsLook, add_to, counts_of, definition_at, IsCounting, LooksOn};
+ghost use Rattle.borsh_walks.specs.Places.{AreListed};
+ghost use Rattle.std.specs.Prelude.{◌≡◌, IfOk, option_map};
 
 use crate::definition::Definition;
+use crate::places::Places;
+use std::alloc::{AllocError, Global};
 use std::collections::BTreeMap;
 
 /// How many definitions were visited, for each kind of question. A count at its greatest value
@@ -34,7 +37,8 @@ pub enum Question {
     Rules,
 }
 
-/// A map of definitions that counts how many of them are visited: [`Counted::look`] is the only way to one.
+/// A map of definitions that counts how many of them are visited: each that a walk takes, by [`Counted::look`] or, where it has
+/// the places of all names, by them.
 #[derive(Drop)]
 pub struct Counted<'a, 'b> {
     map: &'a BTreeMap<String, Definition>,
@@ -66,12 +70,27 @@ impl<'a, 'b> Counted<'a, 'b> {
     {
         let found = self.map.get(name);
         if found.is_some() {
-            match question {
-                Question::Size => self.counts.size = self.counts.size.saturating_add(1),
-                Question::Zero => self.counts.zero = self.counts.zero.saturating_add(1),
-                Question::Rules => self.counts.rules = self.counts.rules.saturating_add(1),
-            }
+            self.visit(question);
         }
         found
+    }
+
+    // The places of the names. A walk that takes a definition from there counts it by `visit`.
+    pub(crate) fn places(&self, alloc: Global) -> Result<Places<'a>, AllocError>
+        ensures { IfOk result (λ p. (p.map ≡ self.now.map) × AreListed p) }
+    {
+        Places::new(alloc, self.map)
+    }
+
+    // The count of the question is raised by one.
+    pub(crate) fn visit(&mut self, question: Question)
+        ensures same { LooksOn self.old self.new }
+        ensures counts { counts_of self.new ≡ add_to question 1 (counts_of self.old) }
+    {
+        match question {
+            Question::Size => self.counts.size = self.counts.size.saturating_add(1),
+            Question::Zero => self.counts.zero = self.counts.zero.saturating_add(1),
+            Question::Rules => self.counts.rules = self.counts.rules.saturating_add(1),
+        }
     }
 }
