@@ -82,6 +82,23 @@ impl<'a, 'b> Counted<'a, 'b> {
         Places::new(alloc, self.map)
     }
 
+    // The definition of the name, as `look` finds it, by the places of all names.
+    pub(crate) fn look_by(
+        &mut self,
+        places: &Places<'a>,
+        question: Question,
+        name: &str,
+    ) -> Option<&'a Definition>
+        requires { (places.now.map ≡ self.old.map) × AreListed places.now }
+        ensures same { LooksOn self.old self.new }
+        ensures found { option_map (λ d. d.now) result ≡ definition_at self.old name.now }
+        ensures counts { CountsLook question self.old self.new result }
+    {
+        let (_, definition) = places.find(name)?;
+        self.visit(question);
+        Some(definition)
+    }
+
     // The count of the question is raised by one.
     pub(crate) fn visit(&mut self, question: Question)
         ensures same { LooksOn self.old self.new }
