@@ -1,11 +1,10 @@
 // How many definitions a walk visits. Left open of each call: none.
 ghost use Rattle.borsh_walks.specs.Counts.{CountsLook, add_to, counts_of, definition_at, IsCounting, LooksOn};
 ghost use Rattle.borsh_walks.specs.Places.{AreListed};
-ghost use Rattle.std.specs.Prelude.{◌≡◌, IfOk, option_map};
+ghost use Rattle.std.specs.Prelude.{◌≡◌, option_map};
 
 use crate::definition::Definition;
 use crate::places::Places;
-use std::alloc::{AllocError, Global};
 use std::collections::BTreeMap;
 
 /// How many definitions were visited, for each kind of question. A count at its greatest value
@@ -37,11 +36,10 @@ pub enum Question {
     Rules,
 }
 
-/// A map of definitions that counts how many of them are visited: each that a walk takes, by [`Counted::look`] or, where it has
-/// the places of all names, by them.
+/// A map of definitions that counts how many of them are visited, by [`Counted::look`] or by the places of all names.
 #[derive(Drop)]
 pub struct Counted<'a, 'b> {
-    map: &'a BTreeMap<String, Definition>,
+    pub(crate) map: &'a BTreeMap<String, Definition>,
     counts: &'b mut Expansions,
 }
 
@@ -73,13 +71,6 @@ impl<'a, 'b> Counted<'a, 'b> {
             self.visit(question);
         }
         found
-    }
-
-    // The places of the names. A walk that takes a definition from there counts it by `visit`.
-    pub(crate) fn places(&self, alloc: Global) -> Result<Places<'a>, AllocError>
-        ensures { IfOk result (λ p. (p.map ≡ self.now.map) × AreListed p) }
-    {
-        Places::new(alloc, self.map)
     }
 
     // The definition of the name, as `look` finds it, by the places of all names.

@@ -1,6 +1,6 @@
 // The names of definitions by their places.
 ghost use Rattle.borsh_walks.specs.Places.{AreListed, place_in};
-ghost use Rattle.std.specs.BTreeMap.{btree_map_len, get_by_text};
+ghost use Rattle.std.specs.BTreeMap.{get_by_text};
 ghost use Rattle.std.specs.Prelude.{◌≡◌, IfOk, option_map};
 
 use crate::definition::Definition;
@@ -37,11 +37,5 @@ impl<'a> Places<'a> {
             Ok(place) => Some((place, entries[place].1)),
             Err(_) => None,
         }
-    }
-
-    pub fn len(&self) -> usize
-        ensures { result ≡ btree_map_len self.now.map.now }
-    {
-        self.map.len()
     }
 }

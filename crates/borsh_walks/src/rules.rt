@@ -47,24 +47,15 @@ fn broken_shape(definition: &Definition) -> Option<Broken>
     ensures { AnswersShape (shape_of definition.now) result }
 {
     match definition {
+        Definition::Sequence { length_range, .. } if length_range.end < length_range.start => {
+            Some(Broken::EmptyRange)
+        }
         Definition::Sequence {
             length_width,
             length_range,
             ..
-        } => {
-            if length_range.end < length_range.start {
-                Some(Broken::EmptyRange)
-            } else {
-                broken_width(*length_width, length_range.end)
-            }
-        }
-        Definition::Enum { tag_width, .. } => {
-            if *tag_width > 8 {
-                Some(Broken::Wide)
-            } else {
-                None
-            }
-        }
+        } => broken_width(*length_width, length_range.end),
+        Definition::Enum { tag_width, .. } if *tag_width > 8 => Some(Broken::Wide),
         _ => None,
     }
 }
@@ -78,12 +69,8 @@ fn element_to_check(definition: &Definition) -> Option<&str>
             length_width,
             length_range,
             elements,
-        } => {
-            if *length_width == 0 && length_range.start == length_range.end {
-                None
-            } else {
-                Some(elements.as_str())
-            }
+        } if *length_width != 0 || length_range.start != length_range.end => {
+            Some(elements.as_str())
         }
         _ => None,
     }
@@ -211,7 +198,7 @@ fn walk_rules<'a, 'm: 'a>(
     ensures work { RulesWork (definitions_of counted.old) root.now (definition_count counted.old)
         (counts_of counted.old) (counts_of counted.new) }
 {
-    let places = counted.places(alloc)?;
+    let places = Places::new(alloc, counted.map)?;
     let mut table: BTreeMap<&'a str, bool> = BTreeMap::new(alloc);
     let mut seen: BTreeMap<(u64, &'a str), bool> = BTreeMap::new(alloc);
     let mut stack: Vec<Spot<'a>> = Vec::new(alloc);

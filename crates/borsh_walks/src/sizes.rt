@@ -10,6 +10,7 @@ use crate::counted::{Counted, Question};
 use crate::definition::Definition;
 use crate::error::SchemaMaxSerializedSizeError;
 use crate::parts::needed_part;
+use crate::places::Places;
 use crate::stack::Spot;
 use std::alloc::{AllocError, Global};
 
@@ -125,11 +126,11 @@ fn walk_sizes<'a, 'm: 'a>(
     ensures counts { CountsNeeded (definitions_of counted.old) root.now
         (counts_of counted.old) (counts_of counted.new) result }
 {
-    let places = counted.places(alloc)?;
+    let places = Places::new(alloc, counted.map)?;
     let Some((place, definition)) = places.find(root) else {
         return Err(missing(alloc, root));
     };
-    let mut marks = no_marks(alloc, places.len())?;
+    let mut marks = no_marks(alloc, counted.map.len())?;
     let mut stack: Vec<Frame<'a>> = Vec::new(alloc);
     counted.visit(Question::Size);
     set_mark(&mut marks, place, Mark::Open);

@@ -36,7 +36,7 @@ pub set_mark-requires : goal.set_mark-requires
 set_mark-requires c =
     let E = c.args.counted.now.map.now.entries in
     let p = ap (λ m. place_in m.now.entries c.args.root.now) (sym c.in_ok-places.ensures.0) ∙ sym c.in-Some.ensures.place in
-    omega (arith, place_within E c.args.root.now c.in-Some.place p, ap (λ l. length l) c.in_ok-marks.ensures, length-replicate {A = Option Mark} c.len.result None, c.len.ensures, ap (λ m. btree_map_len m.now) c.in_ok-places.ensures.0)
+    omega (arith, place_within E c.args.root.now c.in-Some.place p, ap (λ l. length l) c.in_ok-marks.ensures, length-replicate {A = Option Mark} c.len.result None, c.len.ensures.len)
 
 pub loop-part-init : goal.loop-part-init
 loop-part-init c =
@@ -47,7 +47,7 @@ loop-part-init c =
     let root = c.args.root.now in
     let e = found_shape c.in_ok-places.places.map c.args.counted.now.map root c.in-Some.definition.now c.in_ok-places.ensures.0 c.in-Some.ensures.definition in
     let p : place_in E root ≡ Some c.in-Some.place = ap (λ m. place_in m.now.entries root) (sym c.in_ok-places.ensures.0) ∙ sym c.in-Some.ensures.place in
-    let count = c.len.ensures ∙ ap (λ m. btree_map_len m.now) c.in_ok-places.ensures.0 in
+    let count = c.len.ensures.len in
     let low : c.in-Some.place < n = omega (arith, place_within E root c.in-Some.place p, count) in
     let set : c.set_mark.new.marks.items ≡ slice_set none c.in-Some.place (Some Open) = c.set_mark.ensures ∙ ap (λ l. slice_set l c.in-Some.place (Some Open)) c.in_ok-marks.ensures in
     let u = subst (λ l. Updated (mark_by E none) (mark_by E l) root Open) (sym set) (updated_place E none root c.in-Some.place Open p (omega (arith, low, length-replicate {A = Option Mark} n None))) in
