@@ -1,12 +1,14 @@
-// Values of types of one's own, which are marked in `example_generated`.
+//! Encodes and decodes a value of types of one's own, which are marked in `example_generated`, prints its schema, and says why
+//! bytes are refused.
+#![tactic(auto)]
+
 use borsh::schema::BorshSchema;
 use borsh::{from_slice, schema_container_of, to_vec};
 use borsh_json::check_strict;
 use example_generated::readme::{Pair, Request, Stock};
 use std::collections::BTreeMap;
 
-/// Encodes and decodes a value, and prints its schema.
-pub fn show(rt: &(impl Print + AllocGlobal)) -> Result<(), anyhow::Error> {
+fn main(rt: HostRuntime) -> Result<(), anyhow::Error> {
     let alloc = rt.alloc();
 
     let mut pieces = BTreeMap::new(alloc);
@@ -21,16 +23,18 @@ pub fn show(rt: &(impl Print + AllocGlobal)) -> Result<(), anyhow::Error> {
         println!(rt; "{name}: {count}")?;
     }
 
+    // The schema of the type, and the rules that every schema has to keep.
     let container = schema_container_of::<Pair<Stock, Request>>(alloc)?;
+    container.validate(alloc)?;
     println!(rt; "{} is made of", container.declaration())?;
     for (name, _definition) in container.definitions() {
         println!(rt; "  {name}")?;
     }
 
     // Two refused stocks: a note that is cut short, and pieces whose names descend.
-    show_fault::<Stock>(rt, b"\0\0\0\0\x01\x03\0\0\0cu".as_slice())?;
+    show_fault::<Stock>(&rt, b"\0\0\0\0\x01\x03\0\0\0cu".as_slice())?;
     show_fault::<Stock>(
-        rt,
+        &rt,
         b"\x02\0\0\0\x01\0\0\0b\x07\0\0\0\x01\0\0\0a\x07\0\0\0\0".as_slice(),
     )
 }
