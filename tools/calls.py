@@ -184,8 +184,8 @@ After BORSH_NO the text is `overflow`, `recursive`, or `missing` and a name.""",
         says="""How the values of each name that the root leads to are written as JSON: a JSON object in UTF-8, with a member for each,
 that of the root first. It is a word: `empty` (no bytes, `null`), `bool`, `number`, `signed number`, `float`, `bytes` (another primitive),
 `text`, `byte list`, `list`, `map` (an object), `row` (an array of so many), `newtype` (what its part is), `object`, `option` (`null`, or
-its value), `enum`, or `refused`, of which JSON says no value. `sorted byte list` and `sorted list` are sets and maps whose keys have a
-known order. BORSH_NO isn't returned.""",
+its value), `enum`, or `refused`, of which JSON says no value. `sorted byte list` and `sorted list` are sets and maps, if an order of
+their keys is told, but for parts of these. BORSH_NO isn't returned.""",
         yes="a JSON object: how the values of each name are written",
     ),
     Call(

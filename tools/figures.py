@@ -14,11 +14,11 @@ TOP = pathlib.Path(__file__).resolve().parent.parent
 
 # What may not be passed. Of the lines, which are those that tools/registers.py doesn't write, 25,500 are the codec's; 900 are of floats,
 # `Arc`, `Cow` and what came with them, 2,500 of values by their container, 2,000 of their JSON and the calls from C, 1,200 of types of
-# many fields, of what is no JSON and of lengths without writing, and 8,700 of types by their text (both ways) and of two containers
-# compared (their JSON too), also from C, of which 3,200 are to go.
+# many fields, of what is no JSON and of lengths without writing, 8,700 of types by their text (both ways) and of two containers
+# compared (their JSON too), also from C, of which 3,200 are to go, and 100 of keys whose order isn't told and of refusals' paths.
 BARS = {
     "crates": 30,
-    "lines of .rt that no script writes": 41000,
+    "lines of .rt that no script writes": 41100,
     "of these, tests and examples": 9000,
     "must-fail edits": 75,
     "crates with must-fail edits": 8,

@@ -75,7 +75,7 @@ uint32_t borsh_size(const uint8_t *schema, size_t schema_length, size_t *size, s
  * of the root first. It is a word: `empty` (no bytes, `null`), `bool`, `number`, `signed number`, `float`, `bytes` (another
  * primitive), `text`, `byte list`, `list`, `map` (an object), `row` (an array of so many), `newtype` (what its part is),
  * `object`, `option` (`null`, or its value), `enum`, or `refused`, of which JSON says no value. `sorted byte list` and `sorted
- * list` are sets and maps whose keys have a known order. BORSH_NO isn't returned. */
+ * list` are sets and maps, if an order of their keys is told, but for parts of these. BORSH_NO isn't returned. */
 uint32_t borsh_names(const uint8_t *schema, size_t schema_length, struct borsh_buffer *json);
 
 /* Whether all of the bytes are a value of the root. After BORSH_NO the text says where they stop being one, and why; so do

@@ -44,7 +44,7 @@ pub(crate) struct Definition {
     pub is_empty: bool,
     /// Whether it is a set, or a map that isn't an object, which a type may give in any order.
     pub is_hashed: bool,
-    /// Whether it is one whose keys have a known order.
+    /// Whether it is one whose keys have an order that is told, but for their parts.
     pub is_sorted: bool,
 }
 

@@ -1,6 +1,6 @@
 //! The order of the elements of a hashed set, and of the keys of a hashed map, which a type gives in any order.
 
-use crate::definitions::{Definitions, Form};
+use crate::definitions::{Definition, Definitions, Form};
 use crate::fault::Fault;
 use serde_json::Value;
 
@@ -19,7 +19,7 @@ enum Key {
     List(Vec<Key>),
 }
 
-/// Sorts entries by their keys, whose name is at a place, if their order is known. Where it isn't there is one at most.
+/// Sorts entries by their keys, whose name is at a place, if their order is told. Where it isn't there is one at most.
 pub(crate) fn sort(
     definitions: &Definitions,
     at: usize,
@@ -59,6 +59,21 @@ fn list(keys: impl Iterator<Item = Option<Key>>) -> Option<Key> {
     Some(Key::List(keys.collect::<Option<_>>()?))
 }
 
+/// Whether a name tells how its values are ordered, if those of its parts are told.
+fn is_told(definition: &Definition) -> bool {
+    let begins = |front: &str| definition.name.starts_with(front);
+    match definition.form {
+        Form::Bool | Form::Number { .. } | Form::Text => true,
+        Form::Bytes(_) | Form::List(_) => ["Vec<", "VecDeque<", "LinkedList<", "BTreeSet<", "["]
+            .into_iter()
+            .any(begins),
+        Form::Map { .. } => begins("BTreeMap<"),
+        Form::Tuple(_) => begins("("),
+        Form::Option(_) | Form::Enum(_) => begins("Option<"),
+        _ => false,
+    }
+}
+
 fn key_of(definitions: &Definitions, at: usize, value: &Value) -> Option<Key> {
     let of = |at: usize, value: &Value| key_of(definitions, at, value);
     let pair = |parts: [usize; 2], key: &Value, value: &Value| {
@@ -67,6 +82,7 @@ fn key_of(definitions: &Definitions, at: usize, value: &Value) -> Option<Key> {
     let definition = definitions.get(at);
     match (&definition.form, value) {
         _ if definition.is_empty => list(std::iter::empty()),
+        _ if !is_told(definition) => None,
         (Form::Bool, Value::Bool(value)) => Some(Key::Number(true, u128::from(*value))),
         (Form::Number { .. }, Value::Number(value)) => number(&value.to_string()),
         (Form::Number { .. }, Value::String(text)) => number(text),

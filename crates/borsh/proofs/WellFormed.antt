@@ -6,16 +6,13 @@ use Rattle.std.proofs.lemmas.Bool.{eqb-true, leb-true, ltb-true}
 use Rattle.std.proofs.lemmas.Slice.Eq.{bytes_eq-Decides}
 use Rattle.borsh_walks.specs.Container.{Shape, primitive, sequence, product, choice, tag, references, zero_size_references, IsIn, first, later, IsListedVariant, first_variant, later_variant, Reaches, stays, onward, IsZeroSize, zeroed, Rule, Breaks, is_missing, is_empty, is_not_power, is_too_wide, is_too_narrow, is_zst_sequence, is_wide_choice, IsFixed}
 use Rattle.borsh_values.specs.Unambiguous.{DistinctTags, no_tags, more_tags, UnambiguousShape}
-use Rattle.borsh_definitions.specs.Described.{NamedDefinition, named_definition, shape, DefinitionTree, none, defined, both, DefinitionMap, nothing_defined, IsInTree}
+use Rattle.borsh_definitions.specs.Described.{Form, shape_of_form, DefinitionTree, none, defined, both, DefinitionMap, nothing_defined, IsInTree}
 use Rattle.borsh_schema.specs.Joined.{IsUnion}
-use Rattle.std.specs.BTreeMap.{get_by_text}
 use Rattle.borsh_codec.specs.Codec.{Codec, Lawful}
 use Rattle.borsh_codec.proofs.Laws.Lists.{and_true}
-use Rattle.borsh_walks.specs.declared.definition.Definition.{Definition}
-use Rattle.borsh_walks.specs.Definitions.{shape_of}
+use Rattle.borsh_walks.proofs.Forms.{shapes_are}
 use Rattle.borsh_schema.specs.declared.container.BorshSchemaContainer.{BorshSchemaContainer}
 use Rattle.borsh_schema.specs.Containers.{DescribesRoot, IsContainerOf, language_of, map_of, root_of}
-use Rattle.borsh_schema.proofs.Laws.Containers.{shape_described}
 use Rattle.borsh.specs.WellFormed.{DecodesToMembers, definition_or, shape_in, is_defined_in, tree_size, all_pass, may_be_zero_size, is_range, has_distinct_tags, is_kept_in, is_well_formed_in, all_definitions, are_well_formed, IsWellFormed}
 
 or_true : (a b : Bool) → a || b ≡ true → (a ≡ true) ⊎ (b ≡ true)
@@ -29,7 +26,7 @@ not_true false e = refl
 -- ---- the definition of a name in a tree
 
 -- the definition that is found is in the tree, or is the other one
-found : (ps : DefinitionTree) (other : Option NamedDefinition) (n : List ℕ) (d : NamedDefinition) → definition_or other ps n ≡ Some d → IsInTree n d ps ⊎ (other ≡ Some d)
+found : (ps : DefinitionTree) (other : Option Form) (n : List ℕ) (d : Form) → definition_or other ps n ≡ Some d → IsInTree n d ps ⊎ (other ≡ Some d)
 found none other n d e = inr e
 found (defined m e ps) other n d f = by (bytes_eq m n) refl (found ps other n d) f
   where
@@ -40,11 +37,11 @@ found (both ps qs) other n d f =
     elim (found ps (definition_or other qs n) n d f) [ inl h ↦ inl (inl h) | inr h ↦ elim (found qs other n d h) [ inl k ↦ inl (inr k) | inr k ↦ inr k ] ]
 
 -- where no definition is found, none is in the tree, and there is no other one
-record IsAbsent (ps : DefinitionTree) (other : Option NamedDefinition) (n : List ℕ) : Type 0 where
-  pub nowhere : (d : NamedDefinition) → IsInTree n d ps → ⊥
+record IsAbsent (ps : DefinitionTree) (other : Option Form) (n : List ℕ) : Type 0 where
+  pub nowhere : (d : Form) → IsInTree n d ps → ⊥
   pub neither : other ≡ None
 
-absent : (ps : DefinitionTree) (other : Option NamedDefinition) (n : List ℕ) → definition_or other ps n ≡ None → IsAbsent ps other n
+absent : (ps : DefinitionTree) (other : Option Form) (n : List ℕ) → definition_or other ps n ≡ None → IsAbsent ps other n
 absent none other n e = record { nowhere = λ d h. h; neither = e }
 absent (defined m e ps) other n f = by (bytes_eq m n) refl (absent ps other n) f
   where
@@ -63,7 +60,7 @@ absent (both ps qs) other n f =
 pub same_definition : {ps : DefinitionTree} {D : DefinitionMap} → IsUnion nothing_defined ps D → (n : List ℕ) → D n ≡ definition_or None ps n
 same_definition {ps = ps} {D = D} u n = by (definition_or None ps n) refl (D n) refl
   where
-    by : (o : Option NamedDefinition) → definition_or None ps n ≡ o → (p : Option NamedDefinition) → D n ≡ p → D n ≡ o
+    by : (o : Option Form) → definition_or None ps n ≡ o → (p : Option Form) → D n ≡ p → D n ≡ o
     by (Some d) e p f = elim (found ps None n d e) [ inl h ↦ u.has n d h | inr h ↦ absurd (cc) ]
     by None e None f = f
     by None e (Some d) f = elim (u.only n d f) [ inl h ↦ absurd (cc) | inr h ↦ absurd ((absent ps None n e).nowhere d h) ]
@@ -79,10 +76,10 @@ in_all : (test : List ℕ → Bool) (ns : List (List ℕ)) → ((n : List ℕ) �
 in_all test [] f = refl
 in_all test (m ∷ ns) f = ap (λ b. b && list_all test ns) (f m first) ∙ in_all test ns (λ n h. f n (later h))
 
-each_passes : (test : Shape → Bool) (ps : DefinitionTree) → all_definitions test ps ≡ true → (n : List ℕ) (d : NamedDefinition) → IsInTree n d ps → test (shape d) ≡ true
+each_passes : (test : Shape → Bool) (ps : DefinitionTree) → all_definitions test ps ≡ true → (n : List ℕ) (d : Form) → IsInTree n d ps → test (shape_of_form d) ≡ true
 each_passes test none e n d h = absurd h
-each_passes test (defined m c ps) e n d (inl h) = ap (λ k. test (shape k)) (sym h.1) ∙ (and_true (test (shape c)) (all_definitions test ps) e).0
-each_passes test (defined m c ps) e n d (inr h) = each_passes test ps (and_true (test (shape c)) (all_definitions test ps) e).1 n d h
+each_passes test (defined m c ps) e n d (inl h) = ap (λ k. test (shape_of_form k)) (sym h.1) ∙ (and_true (test (shape_of_form c)) (all_definitions test ps) e).0
+each_passes test (defined m c ps) e n d (inr h) = each_passes test ps (and_true (test (shape_of_form c)) (all_definitions test ps) e).1 n d h
 each_passes test (both ps qs) e n d (inl h) = each_passes test ps (and_true (all_definitions test ps) (all_definitions test qs) e).0 n d h
 each_passes test (both ps qs) e n d (inr h) = each_passes test qs (and_true (all_definitions test ps) (all_definitions test qs) e).1 n d h
 
@@ -160,10 +157,10 @@ module _ (C : List ℕ → Option Shape) (root : List ℕ) (ps : DefinitionTree)
   passes : (x : List ℕ) (d : Shape) → C x ≡ Some d → (is_kept_in ps d ≡ true) × (list_all (is_defined_in ps) (references d) ≡ true)
   passes x d e = and_true (is_kept_in ps d) (list_all (is_defined_in ps) (references d)) (by (definition_or None ps x) refl (sym (same x) ∙ e))
     where
-      by : (o : Option NamedDefinition) → definition_or None ps x ≡ o → option_map shape o ≡ Some d → is_well_formed_in ps d ≡ true
+      by : (o : Option Form) → definition_or None ps x ≡ o → option_map shape_of_form o ≡ Some d → is_well_formed_in ps d ≡ true
       by None f g = absurd (cc)
       by (Some n) f g =
-          let s : shape n ≡ d = cc in
+          let s : shape_of_form n ≡ d = cc in
           elim (found ps None x n f) [ inl h ↦ ap (is_well_formed_in ps) (sym s) ∙ each_passes (is_well_formed_in ps) ps both_tests.1 x n h | inr h ↦ absurd (cc) ]
 
   -- a name that is reached is defined
@@ -190,9 +187,9 @@ module _ (C : List ℕ → Option Shape) (root : List ℕ) (ps : DefinitionTree)
       (leb-true w 8 h.0, distinct w vs h.1)
 
   no_rule_broken : (x : List ℕ) → Reaches C references root x → (r : Rule) → Breaks C r x → ⊥
-  no_rule_broken x h r (is_missing e) = let t = is_there h in let s = same x in let k : option_map shape (definition_or None ps x) ≡ None = cc in none_there (definition_or None ps x) k t
+  no_rule_broken x h r (is_missing e) = let t = is_there h in let s = same x in let k : option_map shape_of_form (definition_or None ps x) ≡ None = cc in none_there (definition_or None ps x) k t
     where
-      none_there : (o : Option NamedDefinition) → option_map shape o ≡ None → is_some o ≡ true → ⊥
+      none_there : (o : Option Form) → option_map shape_of_form o ≡ None → is_some o ≡ true → ⊥
       none_there None f t = true≢false (sym t)
       none_there (Some d) f t = absurd (cc)
   no_rule_broken x h r (is_empty e f) = range_ordered (keeps_range e).0 f
@@ -218,13 +215,9 @@ module _ (C : List ℕ → Option Shape) (root : List ℕ) (ps : DefinitionTree)
 
 -- ---- the container of a type
 
-shapes_alike : (o : Option Definition) → option_map shape_of o ≡ option_map shape (option_map named_definition o)
-shapes_alike None = refl
-shapes_alike (Some d) = ap Some (shape_described d)
-
 pub own_well_formed : (name : List ℕ) (ps : DefinitionTree) (c : BorshSchemaContainer) → IsContainerOf name ps c → are_well_formed name ps ≡ true → IsWellFormed (language_of c) (root_of c)
 own_well_formed name ps c h well =
-    let same : (x : List ℕ) → language_of c x ≡ shape_in ps x = λ x. shapes_alike (get_by_text (map_of c) x) ∙ ap (option_map shape) (same_definition h.definitions x) in
+    let same : (x : List ℕ) → language_of c x ≡ shape_in ps x = λ x. ap (λ C. C x) (sym (shapes_are (map_of c))) ∙ ap (option_map shape_of_form) (same_definition h.definitions x) in
     subst (IsWellFormed (language_of c)) (sym h.root) (well_formed (language_of c) name ps same well)
 
 -- of a canonical type what decodes is an encoding, and so a member

@@ -6,17 +6,17 @@ use Rattle.borsh_codec.specs.Codec.{Codec}
 use Rattle.borsh_schema.specs.declared.container.BorshSchemaContainer.{BorshSchemaContainer}
 use Rattle.borsh_schema.specs.Containers.{language_of, root_of}
 use Rattle.borsh_values.specs.Unambiguous.{IsUnambiguous}
-use Rattle.borsh_definitions.specs.Described.{NamedDefinition, shape, DefinitionTree, none, defined, both}
+use Rattle.borsh_definitions.specs.Described.{Form, shape_of_form, DefinitionTree, none, defined, both}
 
 -- the first definition of the name in the tree, and else `other`
-abbrev pub definition_or : Option NamedDefinition → DefinitionTree → List ℕ → Option NamedDefinition
+abbrev pub definition_or : Option Form → DefinitionTree → List ℕ → Option Form
 definition_or other none n = other
 definition_or other (defined m d ps) n = cond (bytes_eq m n) (Some d) (definition_or other ps n)
 definition_or other (both ps qs) n = definition_or (definition_or other qs n) ps n
 
 -- the definition of the name in the tree, without the names of its fields and variants
 abbrev pub shape_in : DefinitionTree → List ℕ → Option Shape
-shape_in ps n = option_map shape (definition_or None ps n)
+shape_in ps n = option_map shape_of_form (definition_or None ps n)
 
 abbrev pub is_defined_in : DefinitionTree → List ℕ → Bool
 is_defined_in ps n = is_some (definition_or None ps n)
@@ -60,7 +60,7 @@ is_well_formed_in ps d = is_kept_in ps d && list_all (is_defined_in ps) (referen
 -- whether each definition passes
 abbrev pub all_definitions : (Shape → Bool) → DefinitionTree → Bool
 all_definitions test none = true
-all_definitions test (defined n d ps) = test (shape d) && all_definitions test ps
+all_definitions test (defined n d ps) = test (shape_of_form d) && all_definitions test ps
 all_definitions test (both ps qs) = all_definitions test ps && all_definitions test qs
 
 -- whether the name and its definitions are valid and unambiguous by themselves; for a type without parameters this computes

@@ -11,7 +11,7 @@ use Rattle.borsh_json.specs.declared.error.JsonError.TheVariants.{OutOfMemory as
 use Rattle.borsh_json.specs.Errors.{IsNoJsonReason, IsTextReason}
 use Rattle.borsh_json.specs.Forms.{forms_in}
 use Rattle.borsh_json.specs.NoJson.{ShowsNoJson}
-use Rattle.borsh_json.specs.NoValue.{ShowsNoValue}
+use Rattle.borsh_json.specs.NoValue.{ShowsNoValue, path_steps}
 use Rattle.borsh_c.specs.declared.refusal.NoAnswer.{NoAnswer}
 use Rattle.borsh_c.specs.declared.refusal.NoAnswer.TheVariants.{No, Malformed, OutOfMemory, Undecided}
 use Rattle.borsh_c.specs.declared.refusal.Said.{Said}
@@ -50,7 +50,7 @@ module _ {schema : List ℕ} (c : String Global × Definitions) (encoded : root_
   no_json value text NoValue reason shows told short = absurd reason
   no_json value text (Ambiguous name) reason shows told short = absurd told
   no_json value text (NotJson offset) reason shows told short = absurd reason
-  no_json value text (Refused path refusal) reason shows told short = (reason.0, (refusal, shows), short)
+  no_json value text (Refused path refusal) reason shows told short = (reason.0, (path_steps path, refusal, shows.1), short)
 
   pub bytes_refused : (value : List ℕ) (e : JsonError) → IsNoJsonReason C root value e → ShowsNoJson (forms_in c.1) root value e → (r : NoAnswer) → TellsNoValue e r → IsRefused schema (HasNoJson value) IsUnclear r
   bytes_refused value e reason shows (No t) told =

@@ -2,7 +2,7 @@
 use Rattle.std.proofs.Common.{◌≡◌, ℕ, List, Some, String, string_bytes, codes, refl, subst, sym}
 use Rattle.std.specs.Global.{Global}
 use Rattle.borsh_definitions.specs.Codecs.{root_and_map}
-use Rattle.borsh_definitions.specs.Described.{definitions_by_name}
+use Rattle.borsh_definitions.specs.Described.{forms_in}
 use Rattle.borsh_source.specs.Container.{IsMeaning}
 use Rattle.borsh_source.specs.declared.compiling.Compiled.{Compiled}
 use Rattle.borsh_source.specs.declared.tree.Source.{Source}
@@ -30,7 +30,7 @@ pub two_told : (P : SayingOfTwo) {old new : List ℕ} (c d : String Global × De
 two_told P c d e f p q before after h = (c, e, (d, f, of_plans P p q before after h))
 
 -- the container of a type was encoded
-pub compiled_about : {bytes : List ℕ} {S : Source} {t : ℕ} (c : Compiled) → IsMeaning S t (string_bytes c.declaration) (definitions_by_name c.definitions) → IsValid (definitions_in c.definitions) (string_bytes c.declaration) → AreEncodingOf c bytes × IsShort bytes → About bytes IsOfType × IsShort bytes
+pub compiled_about : {bytes : List ℕ} {S : Source} {t : ℕ} (c : Compiled) → IsMeaning S t (string_bytes c.declaration) (forms_in c.definitions) → IsValid (definitions_in c.definitions) (string_bytes c.declaration) → AreEncodingOf c bytes × IsShort bytes → About bytes IsOfType × IsShort bytes
 compiled_about {S = S} {t = t} c m v e = (((c.declaration, c.definitions), e.0, (v, (S, t, m))), e.1)
 
 -- what follows from what a refusal says

@@ -4,8 +4,8 @@ use Rattle.std.specs.Global.{Global}
 use Rattle.std.specs.BTreeMap.{BTreeMap}
 use Rattle.borsh_json.specs.Errors.{IsTextReason}
 use Rattle.borsh_json.specs.Forms.{forms_in}
-use Rattle.borsh_json.specs.InOrder.{TextRepresents}
-use Rattle.borsh_json.specs.Printed.{HasShortNumbers, IsPrinted, layout_if, numbers_if}
+use Rattle.borsh_json.specs.InOrder.{Step, TextRepresents}
+use Rattle.borsh_json.specs.Printed.{IsPrinted, layout_if, numbers_if, HasQuotedNumbers}
 use Rattle.borsh_json.specs.Names.{TellsNames}
 use Rattle.borsh_json.specs.NoJson.{RefusesBytes}
 use Rattle.borsh_json.specs.NoValue.{ShowsNoValue}
@@ -138,13 +138,13 @@ IsNoMember value (Some offset) text m root = (Member (definitions_in m) root val
 abbrev pub AreBytesOf : List ℕ → List ℕ → Saying
 AreBytesOf json value m root = TextRepresents (forms_in m) root json value
 
--- the text is JSON that says these bytes, which are a member of the root, its keys in order, with no white space but that of the layout, and where numbers of 64 bits are strings, with no whole number that needs so many
+-- the text is JSON that says these bytes, which are a member of the root, its keys in order, with no white space but that of the layout, and where numbers of 64 bits are strings, so is each of them
 abbrev pub IsJsonOf : Layout → LongNumbers → List ℕ → List ℕ → Saying
-IsJsonOf layout long value text m root = TextRepresents (forms_in m) root text value × IsPrinted layout text × (long ≡ Quoted → HasShortNumbers text)
+IsJsonOf layout long value text m root = TextRepresents (forms_in m) root text value × IsPrinted layout text × (long ≡ Quoted → HasQuotedNumbers (forms_in m) root text)
 
 -- an offset is told only where the bytes are no member of the root, and is then that of a fault; without one they are a member, and there is a reason why it has no JSON
 abbrev pub HasNoJson : List ℕ → Option ℕ → List ℕ → Saying
-HasNoJson value None text m root = Member (definitions_in m) root value × ((r : Refusal) × RefusesBytes (forms_in m) root value r) × IsShort text
+HasNoJson value None text m root = Member (definitions_in m) root value × ((path : List Step) × (r : Refusal) × RefusesBytes (forms_in m) root value path r) × IsShort text
 HasNoJson value (Some offset) text m root = IsNoMember value (Some offset) text m root
 
 -- the offset that an error has

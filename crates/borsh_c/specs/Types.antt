@@ -1,7 +1,7 @@
 -- What the call answers about the container of a type.
 use Rattle.std.specs.Prelude.{◌≡◌, ⊤, ℕ, List, Some, codes, string_bytes}
 use Rattle.borsh_definitions.specs.Codecs.{root_and_map}
-use Rattle.borsh_definitions.specs.Described.{definitions_by_name}
+use Rattle.borsh_definitions.specs.Described.{forms_in}
 use Rattle.borsh_source.specs.Container.{IsMeaning}
 use Rattle.borsh_source.specs.declared.compiling.Compiled.{Compiled}
 use Rattle.borsh_source.specs.declared.tree.Source.{Source}
@@ -13,7 +13,7 @@ use Rattle.borsh_c.specs.declared.refusal.NoAnswer.TheVariants.{No, Malformed, O
 
 -- it keeps the rules, and has the definitions of a type of some tree of items, and no others
 abbrev pub IsOfType : Saying
-IsOfType m root = IsValid (definitions_in m) root × ((S : Source) × (t : ℕ) × IsMeaning S t root (definitions_by_name m))
+IsOfType m root = IsValid (definitions_in m) root × ((S : Source) × (t : ℕ) × IsMeaning S t root (forms_in m))
 
 -- the bytes are the encoding of what was compiled
 abbrev pub AreEncodingOf : Compiled → List ℕ → Type 0

@@ -150,7 +150,7 @@ pub extern "C" fn borsh_c_member(
 
 /// Gives the JSON of the value that all of `value` is; on one line if `is_compact`, and with numbers of 64 bits as strings if
 /// `has_quoted_numbers`. Determined: after code 0 the JSON says `value`, a member of the root, and no other bytes, and has no white space
-/// but that of one line or of several, nor with quoted numbers a whole number of more than eleven characters; after 2 `schema` is no
+/// but that of one line or of several, and with quoted numbers each whole number of 64 bits is a string; after 2 `schema` is no
 /// container, and after 0, 1 and 5 it is one; after 5 it breaks a rule or is ambiguous; an offset after 1 is that of a fault of `value`,
 /// which is no member; without one `value` is a member, and there is a reason why it has no JSON, of those that `borsh_json::to_json`
 /// has. Left open: code 3; code 5 for such a container; which reason it is; the text after 1; the path.
@@ -186,7 +186,7 @@ pub extern "C" fn borsh_c_to_json(
 }
 
 /// Gives the bytes of the value that `json` says, which is UTF-8. Determined: after code 0 `json` says the bytes, a member of the root,
-/// and no others, and the keys of its sets and maps ascend where their order is known; the other codes as of [`borsh_c_to_json`], but after 1 `json` isn't UTF-8, or there is a reason of those that
+/// and no others, and the keys of its sets and maps ascend as far as their order is told; the other codes as of [`borsh_c_to_json`], but after 1 `json` isn't UTF-8, or there is a reason of those that
 /// `borsh_json::from_json` has, and an offset only if it isn't JSON. Left open: as there; the offset.
 ///
 /// ```c

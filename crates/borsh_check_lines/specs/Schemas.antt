@@ -3,7 +3,7 @@ use Rattle.std.specs.Prelude.{◌≡◌, ℕ, List, [], ◌∷◌, Option, Some,
 use Rattle.borsh_schema.specs.declared.container.BorshSchemaContainer.{BorshSchemaContainer}
 use Rattle.borsh_schema.specs.Codecs.{container}
 use Rattle.borsh_schema.specs.Containers.{IsContainerOf}
-use Rattle.borsh_definitions.specs.Described.{list as sequence, named, no_fields, DefinitionTree, none, defined, both}
+use Rattle.borsh_definitions.specs.Described.{sequence, named, no_fields, DefinitionTree, none, defined, both}
 use Rattle.borsh_definitions.specs.Names.{applied, applied_to_two, array_name, tuple_name}
 use Rattle.borsh_definitions.specs.Types.{list_definitions, map_definitions, option_of, primitive_definitions, range_of, range_from as range_from_of, range_to as range_to_of, result_of, text_definitions, tuple_definitions, unit_definitions}
 use Rattle.borsh.specs.WithSchema.{HasClash}

@@ -27,7 +27,9 @@ use Rattle.borsh_json.specs.Table.{Keys, numbers, Kind, whole, float, float_size
 use Rattle.borsh_json.proofs.FormKinds.{form_known}
 use Rattle.borsh_json.proofs.OpeningLaws.{variant_here}
 use Rattle.borsh_json.proofs.FoundLaws.{on_some, on_none}
-use Rattle.borsh_json.proofs.FormsLaws.{shapes_are, twice}
+use Rattle.borsh_walks.specs.Forms.{field_bytes, variant_bytes}
+use Rattle.borsh_walks.proofs.Forms.{shapes_are}
+use Rattle.std.proofs.lemmas.Simd.{map-map}
 use Rattle.borsh_compare.specs.Together.{NamesGo, unnamed}
 use Rattle.borsh_compare.specs.Walks.{HasPair, Paired, PartGoes}
 use Rattle.borsh_compare.specs.Alike.{AlikeAt, AreKeysAlike, AreAlike, alike, FoundAlike, GoAlike, GoAlikeAt, SaysAlso, IsBehind, itself, within, unsaid, KindsAlike, of_nothing, of_whole, of_float, of_byte_list, of_list, of_row, of_fields, of_variants, of_entries, HasVariantParts, LieIn, VariantAlike, VariantsAlike, field_names, forms_of, variants_of}
@@ -106,26 +108,26 @@ module _ (old new : Plan) (pairs : List Pair) (i j : ℕ) (x y : List ℕ) (ix :
   pub of_rows : NamesGo R (parts_in (shape_at (names_of old) i)) (parts_in (shape_at (names_of new) j)) → HasKind F x (row (references (shape_of_form f))) → HasKind G y (row (references (shape_of_form g))) → AreAlike F G R x y
   of_rows n p q = of_kinds p q (of_row (parts_go n))
 
-  pub of_objects : (a b : List (String Global × String Global)) → field_names a ≡ field_names b → NamesGo R (parts_in (shape_at (names_of old) i)) (parts_in (shape_at (names_of new) j)) → HasKind F x (fields (map (λ f. (string_bytes f.0, string_bytes f.1)) a)) → HasKind G y (fields (map (λ f. (string_bytes f.0, string_bytes f.1)) b)) → AreAlike F G R x y
+  pub of_objects : (a b : List (String Global × String Global)) → field_names a ≡ field_names b → NamesGo R (parts_in (shape_at (names_of old) i)) (parts_in (shape_at (names_of new) j)) → HasKind F x (fields (map field_bytes a)) → HasKind G y (fields (map field_bytes b)) → AreAlike F G R x y
   of_objects a b e n p q =
       let s = form_known F _ f p fx (λ e. cc) in
       let t = form_known G _ g q gy (λ e. cc) in
       let first = subst (λ z. NamesGo R (references (shape_of_form z)) (references (shape_of_form g))) s (parts_go n) in
-      of_kinds p q (of_fields (twice _ _ _ (λ f. refl) a ∙ e ∙ sym (twice _ _ _ (λ f. refl) b)) (subst (λ z. NamesGo R (map (λ (f : List ℕ × List ℕ). f.1) (map (λ (f : String Global × String Global). (string_bytes f.0, string_bytes f.1)) a)) (references (shape_of_form z))) t first))
+      of_kinds p q (of_fields (map-map (λ f. f.0) field_bytes a ∙ e ∙ sym (map-map (λ f. f.0) field_bytes b)) (subst (λ z. NamesGo R (map (λ (f : List ℕ × List ℕ). f.1) (map field_bytes a)) (references (shape_of_form z))) t first))
 
   pub of_choices : (w v : ℕ) (a b : List Listed) → w ≡ v → (HasVariantParts old i a → HasVariantParts new j b → VariantsAlike R (length (variants_of a)) (variants_of a) (variants_of b)) → IsDistinct bytes_eq (map (λ v. string_bytes v.1) b) → HasKind F x (variants w (variants_of a)) → HasKind G y (variants v (variants_of b)) → AreAlike F G R x y
   of_choices w v a b e n d p q =
       let s = form_known F _ f p fx (λ e. cc) in
       let t = form_known G _ g q gy (λ e. cc) in
-      let ha : HasVariantParts old i a = parts_known old i x f ix fx ∙ ap (λ z. references (shape_of_form z)) s ∙ ap (λ l. variant_names l) (twice _ _ _ (λ f. refl) a) in
-      let hb : HasVariantParts new j b = parts_known new j y g iy gy ∙ ap (λ z. references (shape_of_form z)) t ∙ ap (λ l. variant_names l) (twice _ _ _ (λ f. refl) b) in
-      of_kinds p (subst (λ z. HasKind G y (variants z (variants_of b))) (sym e) q) (of_variants (subst (λ l. IsDistinct bytes_eq l) (sym (twice _ _ _ (λ f. refl) b)) d) (n ha hb))
+      let ha : HasVariantParts old i a = parts_known old i x f ix fx ∙ ap (λ z. references (shape_of_form z)) s ∙ ap (λ l. variant_names l) (map-map (λ v. (v.0, v.2)) variant_bytes a) in
+      let hb : HasVariantParts new j b = parts_known new j y g iy gy ∙ ap (λ z. references (shape_of_form z)) t ∙ ap (λ l. variant_names l) (map-map (λ v. (v.0, v.2)) variant_bytes b) in
+      of_kinds p (subst (λ z. HasKind G y (variants z (variants_of b))) (sym e) q) (of_variants (subst (λ l. IsDistinct bytes_eq l) (sym (map-map (λ v. v.1) variant_bytes b)) d) (n ha hb))
 
 -- a variant that has the other's discriminant and name
 pub variant_step : (old new : Plan) (pairs : List Pair) (i j a b : ℕ) (vs us : List Listed) (u v : Listed) → slice_get vs a ≡ Some u → slice_get us b ≡ Some v → u.0 ≡ v.0 → string_bytes u.1 ≡ string_bytes v.1 → PartGoes old new pairs i j a b → HasVariantParts old i vs → HasVariantParts new j us → VariantAlike old new pairs a (variants_of vs) (variants_of us)
 variant_step old new pairs i j a b vs us u v p q d e g hv hu k w t h =
-    let au = slice_get-map {A = Listed} (λ v. (v.0, string_bytes v.1, string_bytes v.2)) vs a ∙ ap (λ o. option_map (λ v. (v.0, string_bytes v.1, string_bytes v.2)) o) p in
-    let bv = slice_get-map {A = Listed} (λ v. (v.0, string_bytes v.1, string_bytes v.2)) us b ∙ ap (λ o. option_map (λ v. (v.0, string_bytes v.1, string_bytes v.2)) o) q in
+    let au = slice_get-map {A = Listed} variant_bytes vs a ∙ ap (λ o. option_map variant_bytes o) p in
+    let bv = slice_get-map {A = Listed} variant_bytes us b ∙ ap (λ o. option_map variant_bytes o) q in
     let same : (u.0, string_bytes u.1, string_bytes u.2) ≡ (k, w, t) = same_some au h in
     let pu = slice_get-map {A = Listed} (λ v. (v.0, string_bytes v.2)) vs a ∙ ap (λ o. option_map (λ v. (v.0, string_bytes v.2)) o) p in
     let pv = slice_get-map {A = Listed} (λ v. (v.0, string_bytes v.2)) us b ∙ ap (λ o. option_map (λ v. (v.0, string_bytes v.2)) o) q in

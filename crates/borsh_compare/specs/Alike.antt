@@ -7,6 +7,7 @@ use Rattle.std.specs.List.{IsDistinct}
 use Rattle.std.specs.Str.{bytes_eq}
 use Rattle.borsh_walks.specs.declared.definition.Definition.{Definition}
 use Rattle.borsh_walks.specs.Container.{variant_names}
+use Rattle.borsh_walks.specs.Forms.{variant_bytes}
 use Rattle.borsh_plan.specs.declared.plan.Plan.{Plan}
 use Rattle.borsh_plan.specs.Names.{parts_in, shape_at}
 use Rattle.borsh_plan.specs.Plan.{map_of, names_of, root_of}
@@ -36,7 +37,7 @@ LieIn l m = (l.width ≡ m.width) × (m.least ≤ l.least) × (l.greatest ≤ m.
 
 -- the variants of a definition of the code, and the names of its fields
 abbrev pub variants_of : List (ℤ × String Global × String Global) → List (ℤ × List ℕ × List ℕ)
-variants_of vs = map {A = ℤ × String Global × String Global} {B = ℤ × List ℕ × List ℕ} (λ v. (v.0, string_bytes v.1, string_bytes v.2)) vs
+variants_of vs = map {A = ℤ × String Global × String Global} {B = ℤ × List ℕ × List ℕ} variant_bytes vs
 
 abbrev pub field_names : List (String Global × String Global) → List (List ℕ)
 field_names fs = map {A = String Global × String Global} {B = List ℕ} (λ f. string_bytes f.0) fs

@@ -1,15 +1,15 @@
 -- The schemas of addresses: their octets, and a tag where there are two kinds.
 use Rattle.std.specs.Prelude.{ℕ, pos, List, [], ◌∷◌, codes}
-use Rattle.borsh_definitions.specs.Described.{NamedDefinition, list, variants, named, unnamed, DefinitionTree, none, defined, both}
+use Rattle.borsh_definitions.specs.Described.{Form, sequence, choice, named, unnamed, DefinitionTree, none, defined, both}
 use Rattle.borsh_definitions.specs.Names.{array_name}
 use Rattle.borsh_definitions.specs.Types.{primitive_definitions}
 
 -- an array: its element, its length, and the element's definitions
 abbrev pub array_definitions : List ℕ → ℕ → DefinitionTree → DefinitionTree
-array_definitions element n parts = defined (array_name element n) (list 0 n n element) (both parts none)
+array_definitions element n parts = defined (array_name element n) (sequence 0 n n element) (both parts none)
 
 -- so many octets
-abbrev pub octets_of : ℕ → NamedDefinition
+abbrev pub octets_of : ℕ → Form
 octets_of n = named ((codes "octets", array_name (codes "u8") n) ∷ [])
 
 abbrev pub ipv4_definitions : DefinitionTree
@@ -26,4 +26,4 @@ v6_variant = defined (codes "IpAddr__V6") (unnamed (codes "Ipv6Addr" ∷ [])) (b
 
 -- an enum: tag 0 and four octets, or tag 1 and sixteen
 abbrev pub ip_address_definitions : DefinitionTree
-ip_address_definitions = defined (codes "IpAddr") (variants 1 ((pos 0, codes "V4", codes "IpAddr__V4") ∷ (pos 1, codes "V6", codes "IpAddr__V6") ∷ [])) (both v4_variant v6_variant)
+ip_address_definitions = defined (codes "IpAddr") (choice 1 ((pos 0, codes "V4", codes "IpAddr__V4") ∷ (pos 1, codes "V6", codes "IpAddr__V6") ∷ [])) (both v4_variant v6_variant)

@@ -2,12 +2,12 @@
 use Rattle.std.specs.Prelude.{◌≡◌, ℕ, ℤ, List, ◌∷◌, ◌++◌, Option, Some, ⊤}
 use Rattle.borsh_codec.specs.Codec.{Codec}
 use Rattle.borsh_walks.specs.Container.{Shape, Member, Members, IsListedVariant, tag}
-use Rattle.borsh_definitions.specs.Described.{DefinitionTree, none, defined, both, shape}
+use Rattle.borsh_definitions.specs.Described.{DefinitionTree, none, defined, both, shape_of_form}
 
 -- the container has each of the named definitions
 abbrev pub Holds : (List ℕ → Option Shape) → DefinitionTree → Type 0
 Holds C none = ⊤
-Holds C (defined n d ps) = (C n ≡ Some (shape d)) × Holds C ps
+Holds C (defined n d ps) = (C n ≡ Some (shape_of_form d)) × Holds C ps
 Holds C (both ps qs) = Holds C ps × Holds C qs
 
 -- each encoding is a member of the name

@@ -1,6 +1,6 @@
 -- The schema of schemas: what definitions and containers bring.
 use Rattle.std.specs.Prelude.{ℕ, pos, List, [], ◌∷◌, codes}
-use Rattle.borsh_definitions.specs.Described.{NamedDefinition, variants, named, unnamed, no_fields, DefinitionTree, none, defined, both}
+use Rattle.borsh_definitions.specs.Described.{Form, choice, named, unnamed, no_fields, DefinitionTree, none, defined, both}
 use Rattle.borsh_definitions.specs.Names.{applied, applied_to_two, tuple_name}
 use Rattle.borsh_definitions.specs.Types.{primitive_definitions, list_definitions, map_definitions, text_definitions, tuple_definitions, range_of}
 
@@ -47,8 +47,8 @@ abbrev pub empty_variant : DefinitionTree
 empty_variant = defined (codes "Fields__Empty") no_fields none
 
 -- the variants of `Fields`: tag, name, name of the variant's struct
-abbrev pub fields_variants : NamedDefinition
-fields_variants = variants 1
+abbrev pub fields_variants : Form
+fields_variants = choice 1
     ((pos 0, codes "NamedFields", codes "Fields__NamedFields") ∷ (pos 1, codes "UnnamedFields", codes "Fields__UnnamedFields") ∷ (pos 2, codes "Empty", codes "Fields__Empty") ∷ [])
 
 abbrev pub fields_definitions : DefinitionTree
@@ -85,8 +85,8 @@ abbrev pub struct_variant : DefinitionTree
 struct_variant = defined (codes "Definition__Struct") (named ((codes "fields", codes "Fields") ∷ [])) (both fields_definitions none)
 
 -- the variants of `Definition`
-abbrev pub definition_variants : NamedDefinition
-definition_variants = variants 1
+abbrev pub definition_variants : Form
+definition_variants = choice 1
     ((pos 0, codes "Primitive", codes "Definition__Primitive") ∷ (pos 1, codes "Sequence", codes "Definition__Sequence") ∷ (pos 2, codes "Tuple", codes "Definition__Tuple")
     ∷ (pos 3, codes "Enum", codes "Definition__Enum") ∷ (pos 4, codes "Struct", codes "Definition__Struct") ∷ [])
 

@@ -1,15 +1,15 @@
 -- What the types of the standard library bring: their names and definitions.
 use Rattle.std.specs.Prelude.{ℕ, pos, List, [], ◌∷◌, codes}
-use Rattle.borsh_definitions.specs.Described.{NamedDefinition, bytes, list, tuple, variants, named, unnamed, no_fields, DefinitionTree, none, defined, both}
+use Rattle.borsh_definitions.specs.Described.{Form, primitive, sequence, tuple, choice, named, unnamed, no_fields, DefinitionTree, none, defined, both}
 use Rattle.borsh_definitions.specs.Names.{applied, applied_to_two, tuple_name, beside}
 
 -- a name for so many bytes
 abbrev pub primitive_definitions : List ℕ → ℕ → DefinitionTree
-primitive_definitions name n = defined name (bytes n) none
+primitive_definitions name n = defined name (primitive n) none
 
 -- a count of four bytes and that many elements
-abbrev pub list_of : List ℕ → NamedDefinition
-list_of element = list 4 0 4294967295 element
+abbrev pub list_of : List ℕ → Form
+list_of element = sequence 4 0 4294967295 element
 
 -- a list type: the beginning of its name, its element, and the element's definitions
 abbrev pub list_definitions : List ℕ → List ℕ → DefinitionTree → DefinitionTree
@@ -32,21 +32,21 @@ abbrev pub tuple_definitions : List (List ℕ) → DefinitionTree → Definition
 tuple_definitions names parts = tuple_described (tuple_name names) names parts
 
 -- `None` with tag 0, `Some` with tag 1
-abbrev pub option_of : List ℕ → NamedDefinition
-option_of some = variants 1 ((pos 0, codes "None", codes "()") ∷ (pos 1, codes "Some", some) ∷ [])
+abbrev pub option_of : List ℕ → Form
+option_of some = choice 1 ((pos 0, codes "None", codes "()") ∷ (pos 1, codes "Some", some) ∷ [])
 
 -- `Ok` with tag 1, `Err` with tag 0
-abbrev pub result_of : List ℕ → List ℕ → NamedDefinition
-result_of ok err = variants 1 ((pos 1, codes "Ok", ok) ∷ (pos 0, codes "Err", err) ∷ [])
+abbrev pub result_of : List ℕ → List ℕ → Form
+result_of ok err = choice 1 ((pos 1, codes "Ok", ok) ∷ (pos 0, codes "Err", err) ∷ [])
 
 -- a range with both ends, with its start alone, and with its end alone
-abbrev pub range_of : List ℕ → NamedDefinition
+abbrev pub range_of : List ℕ → Form
 range_of end = named ((codes "start", end) ∷ (codes "end", end) ∷ [])
 
-abbrev pub range_from : List ℕ → NamedDefinition
+abbrev pub range_from : List ℕ → Form
 range_from start = named ((codes "start", start) ∷ [])
 
-abbrev pub range_to : List ℕ → NamedDefinition
+abbrev pub range_to : List ℕ → Form
 range_to end = named ((codes "end", end) ∷ [])
 
 -- a map type: the beginning of its name, the names of its keys and values, and the definitions of these

@@ -5,21 +5,19 @@ use Rattle.std.proofs.lemmas.Bool.{cases_lt}
 use Rattle.json.specs.Json.{Json, array, Items, no_items, item}
 use Rattle.borsh_plan.specs.declared.named.Named.{Named}
 use Rattle.borsh_json.specs.declared.definitions.Definitions.{Definitions}
-use Rattle.borsh_json.specs.declared.definitions.Known.{Known}
 use Rattle.borsh_json.specs.declared.order.Ascent.{Ascent}
 use Rattle.borsh_json.specs.declared.position.Parts.{Parts}
 use Rattle.borsh_json.specs.Forms.{Form, sequence}
 use Rattle.borsh_json.specs.Found.{forms_of, names_of}
 use Rattle.borsh_json.specs.Frames.{first_steps, IsMapPlace, IsListPlace, IsPlaceOf, IsUnbegun, BeginsAscending, AscentFalls, AscentRises, AscendIn, AreStarts, AreRisen}
 use Rattle.borsh_json.specs.InOrder.{element as element_step, BeginsParts, ItemsFall}
-use Rattle.borsh_json.specs.Orders.{ValuesCompare}
+use Rattle.borsh_json.specs.Orders.{IsNotBelow}
 use Rattle.borsh_json.specs.Represents.{HaveBytes}
 use Rattle.borsh_json.specs.Table.{Lengths, Kind, list, byte_list, fields, HasKind, Part as JsonPart, list_parts}
 use Rattle.borsh_json.proofs.FormKinds.{form_known}
 use Rattle.borsh_json.proofs.InOrderLaws.{array_one, array_said, keys_one}
 use Rattle.borsh_json.proofs.ReaderLaws.{split, joined}
 use Rattle.borsh_json.proofs.RepresentsLaws.{bytes_one}
-use Rattle.borsh_json.proofs.SaidRanks.{said_compares}
 
 -- ---- lists of parts
 not_nil : (es : List JsonPart) (q : JsonPart) (rest : List JsonPart) → [] ≡ es ++ q ∷ rest → ⊥
@@ -64,11 +62,11 @@ module _ (F : List ℕ → Option Form) (before own mid out : List ℕ) (ds : Li
   ends = ap (λ l. length l) (out_is ∙ sym (append_assoc before own mid)) ∙ length-append (before ++ own) mid
 
   -- the next part of a place begins
-  pub begun_starts : (ns : List Named) (orders : List Known) (es : List JsonPart) (q : JsonPart) (old there new : Option Ascent) (p : Parts) (x : List ℕ) (i : Json) → AreStarts F base ds old → BeginsAscending old (length out) there → new ≡ there → AscendIn F ns orders new p x i → (es ≡ []) ⊎ IsMapPlace p → AreStarts F base ((ds ++ es) ++ q ∷ []) new
-  begun_starts ns orders es q None there new p x i s b same a m = subst (λ (o : Option Ascent). AreStarts F base ((ds ++ es) ++ q ∷ []) o) (sym (same ∙ b)) tt
-  begun_starts ns orders es q (Some old) there new p x i s b same a m =
+  pub begun_starts : (ns : List Named) (es : List JsonPart) (q : JsonPart) (old there new : Option Ascent) (p : Parts) (x : List ℕ) (i : Json) → AreStarts F base ds old → BeginsAscending old (length out) there → new ≡ there → AscendIn F ns new p x i → (es ≡ []) ⊎ IsMapPlace p → AreStarts F base ((ds ++ es) ++ q ∷ []) new
+  begun_starts ns es q None there new p x i s b same a m = subst (λ (o : Option Ascent). AreStarts F base ((ds ++ es) ++ q ∷ []) o) (sym (same ∙ b)) tt
+  begun_starts ns es q (Some old) there new p x i s b same a m =
       let is : new ≡ Some b.0 = same ∙ b.1 in
-      let f = subst (λ (o : Option Ascent). AscendIn F ns orders o p x i) is a in
+      let f = subst (λ (o : Option Ascent). AscendIn F ns o p x i) is a in
       let none : es ≡ [] = elim m [ inl z ↦ z | inr z ↦ absurd (subst (λ (p : Parts). IsMapPlace p) f.0.2 z) ] in
       let all : ds ++ es ≡ ds = ap (λ (l : List JsonPart). ds ++ l) none ∙ append-nil ds in
       let more = length-append ds (q ∷ []) in
@@ -143,7 +141,7 @@ module _ (d : Definitions) (before own mid out : List ℕ) (ds : List JsonPart) 
   start = length (before ++ own)
 
   -- they don't ascend
-  pub falls_there : (ascent : Option Ascent) → AreStarts F start ds ascent → AscendIn F (names_of d) d.orders.items ascent p x i → AscentFalls d ascent out → (k : ℕ) × (first_steps p b ≡ element_step k ∷ []) × ItemsFall F x i k
+  pub falls_there : (ascent : Option Ascent) → AreStarts F start ds ascent → AscendIn F (names_of d) ascent p x i → AscentFalls d ascent out → (k : ℕ) × (first_steps p b ≡ element_step k ∷ []) × ItemsFall F x i k
   falls_there None s a f = absurd f
   falls_there (Some ascent) s a f =
       let place = a.0 in
@@ -170,8 +168,8 @@ module _ (d : Definitions) (before own mid out : List ℕ) (ds : List JsonPart) 
       let two_is : r.0 ≡ c = listed c js (es ++ q ∷ []) r says.0 (parts ∙ sym (append_assoc es (q ∷ []) (r ∷ says.0))) in
       let left_says : HaveBytes F ((keys.0, q.1) ∷ []) first = subst (λ (e : List ℕ). HaveBytes F ((e, q.1) ∷ []) first) (one_is ∙ same) w.left in
       let right_says : HaveBytes F ((keys.0, r.1) ∷ []) second = subst (λ (e : List ℕ). HaveBytes F ((e, r.1) ∷ []) second) (two_is ∙ same) w.right in
-      let k = said_compares F x keys.0 a.1.0 keys.1 keys.3 q.1 r.1 first second second left_says right_says in
-      let compares : ValuesCompare d a.1.0 (drop f.0 out) (drop (start + length (w.m ++ first)) out) k.0 = subst (λ (l : List ℕ). ValuesCompare d a.1.0 l (drop (start + length (w.m ++ first)) out) k.0) (sym (ap (λ n. drop n out) at ∙ w.left_drop)) (subst (λ (l : List ℕ). ValuesCompare d a.1.0 (first ++ second) l k.0) (sym w.right_drop) k.1) in
+      let below : IsNotBelow d a.1.0 (drop f.0 out) (drop (start + length (w.m ++ first)) out) = f.2 a.1.0 keys.2 (start + length (w.m ++ first)) late in
+      let falls : IsNotBelow d a.1.0 (first ++ second) second = subst (λ (l : List ℕ). IsNotBelow d a.1.0 (first ++ second) l) w.right_drop (subst (λ (l : List ℕ). IsNotBelow d a.1.0 l (drop (start + length (w.m ++ first)) out)) (ap (λ n. drop n out) at ∙ w.left_drop) below) in
       let items : list_parts keys.0 js ≡ es ++ (keys.0, q.1) ∷ (keys.0, r.1) ∷ says.0 = subst (λ (e : List ℕ). list_parts e js ≡ es ++ (e, q.1) ∷ (e, r.1) ∷ says.0) same (parts ∙ ap (λ (e : List ℕ). es ++ (e, q.1) ∷ r ∷ says.0) one_is ∙ ap (λ (e : List ℕ). es ++ (c, q.1) ∷ (e, r.1) ∷ says.0) two_is) in
       let count : b - 1 ≡ suc (length es) = (let n = here.1 in let w = ap (λ (l : List JsonPart). length l) t.3 ∙ length-append es (q ∷ r ∷ []) in omega (arith, n, w)) in (
         suc (length es),
@@ -186,21 +184,18 @@ module _ (d : Definitions) (before own mid out : List ℕ) (ds : List JsonPart) 
           after = says.0;
           first = first;
           second = second;
-          result = k.0;
           keys = keys.1;
-          known = keys.3;
           is_array = here.2.1;
           parts = items;
           index_is = refl;
           left_says = left_says;
           right_says = right_says;
-          compares = k.1;
-          falls = f.2 a.1.0 keys.2 (start + length (w.m ++ first)) late k.0 compares;
+          falls = falls;
         },
       )
 
   -- they do, so none of those that were begun falls
-  pub rises_there : (ascent : Option Ascent) → AreStarts F start ds ascent → AscendIn F (names_of d) d.orders.items ascent p x i → AscentRises d ascent out → AreRisen F start ds p x i → IsListPlace p → (index : ℕ) → index < length ds → ItemsFall F x i index → ⊥
+  pub rises_there : (ascent : Option Ascent) → AreStarts F start ds ascent → AscendIn F (names_of d) ascent p x i → AscentRises d ascent out → AreRisen F start ds p x i → IsListPlace p → (index : ℕ) → index < length ds → ItemsFall F x i index → ⊥
   rises_there None s a u old place index less f = a place index f
   rises_there (Some ascent) s a u old place index less f = elim (cases_lt (suc index) (length ds)) [
     | inl h ↦ old place index h f
@@ -228,5 +223,5 @@ module _ (d : Definitions) (before own mid out : List ℕ) (ds : List JsonPart) 
           let left : drop (start + length w.m) out ≡ f.first ++ f.second = w.left_drop ∙ ap (λ l. l ++ w.second) (bytes_one F w.left f.left_says) ∙ ap (λ l. f.first ++ l) (bytes_one F w.right f.right_says) in
           let right : drop (start + length (w.m ++ w.first)) out ≡ f.second = w.right_drop ∙ bytes_one F w.right f.right_says in
           let key : f.k ≡ a.1.0 = keys_one F x f.e keys.0 f.k a.1.0 f.keys keys.1 in
-          let compares : ValuesCompare d a.1.0 (drop (start + length w.m) out) (drop (start + length (w.m ++ w.first)) out) f.result = subst (λ (k : List ℕ). ValuesCompare d k (drop (start + length w.m) out) (drop (start + length (w.m ++ w.first)) out) f.result) key (subst (λ (l : List ℕ). ValuesCompare d f.k l (drop (start + length (w.m ++ w.first)) out) f.result) (sym left) (subst (λ (l : List ℕ). ValuesCompare d f.k (f.first ++ f.second) l f.result) (sym right) f.compares)) in
-          f.falls (u (start + length w.m) (start + length (w.m ++ w.first)) early late a.1.0 keys.2 f.result compares)
+          let falls : IsNotBelow d a.1.0 (drop (start + length w.m) out) (drop (start + length (w.m ++ w.first)) out) = subst (λ (k : List ℕ). IsNotBelow d k (drop (start + length w.m) out) (drop (start + length (w.m ++ w.first)) out)) key (subst (λ (l : List ℕ). IsNotBelow d f.k l (drop (start + length (w.m ++ w.first)) out)) (sym left) (subst (λ (l : List ℕ). IsNotBelow d f.k (f.first ++ f.second) l) (sym right) f.falls)) in
+          u (start + length w.m) (start + length (w.m ++ w.first)) early late a.1.0 keys.2 falls

@@ -1,6 +1,6 @@
 -- Values of which the beginning was written, by what the code found of their kinds.
-use Rattle.std.proofs.Common.{◌≡◌, ℕ, ◌-◌, ◌≤◌, List, [], ◌∷◌, ◌++◌, length, map, replicate, drop, Option, Some, None, refl, sym, ◌∙◌, ap, subst, arith, string_bytes}
-use Rattle.std.specs.Prelude.{pos, Bool, true, false, Result, Ok, Err, String, Vec, option_map}
+use Rattle.std.proofs.Common.{◌≡◌, ◌⊎◌, inl, inr, ℕ, suc, zero, ◌-◌, ◌<◌, ◌≤◌, List, [], ◌∷◌, ◌++◌, length, map, replicate, drop, Option, Some, None, refl, sym, ◌∙◌, ap, subst, arith, string_bytes}
+use Rattle.std.specs.Prelude.{pos, Bool, true, false, Result, Ok, Err, String, Vec, option_map, slice_get}
 use Rattle.std.specs.Global.{Global}
 use Rattle.std.specs.List.{IsDistinct}
 use Rattle.std.specs.Str.{bytes_eq}
@@ -24,18 +24,45 @@ use Rattle.borsh_json.specs.declared.position.Parts.{Parts}
 use Rattle.borsh_json.specs.declared.position.Parts.TheVariants.{Root, List as Elements, Row, Object, Entries as MapEntries, Newtype, Some as Present, Variant}
 use Rattle.borsh_json.specs.declared.position.Place.{Place}
 use Rattle.borsh_json.specs.declared.sources.EntryKey.{EntryKey}
-use Rattle.borsh_json.specs.Forms.{Form, sequence, shape_of_form, shapes}
-use Rattle.borsh_json.specs.Frames.{Wanted}
-use Rattle.borsh_json.specs.Leaves.{IsOpenedAs, RefusesValue}
+use Rattle.borsh_json.specs.Forms.{Form, sequence, shape_of_form, shapes, field_bytes, tuple, unnamed, named, no_fields}
+use Rattle.borsh_json.specs.Frames.{Wanted, name_step}
+use Rattle.borsh_json.specs.InOrder.{element, place}
+use Rattle.borsh_json.specs.Inside.{LeadTo}
+use Rattle.borsh_json.specs.Leaves.{IsOpenedAs, RefusesValue, long_of}
 use Rattle.borsh_json.specs.NoJson.{IsNoJson}
 use Rattle.borsh_json.specs.Places.{IsAt, IsUnsayable, IsListOf, IsKindOf, lengths_of}
 use Rattle.borsh_json.specs.Table.{Lengths, list, entries, row, inner, fields, RepeatsName}
-use Rattle.borsh_json.specs.Writes.{Rest, items_rest, members_rest, value_rest, entries_rest, names_of_rest, IsFront, BeginsAt, begins_of, IsRestOf, IsRest, WritesValue, WritesStruct, ArePartsOf}
+use Rattle.borsh_json.specs.Writes.{Rest, items_rest, members_rest, value_rest, entries_rest, names_of_rest, IsFront, BeginsAt, AreCalled, begins_of, IsRestOf, IsRest, WritesValue, WritesStruct, ArePartsOf}
 use Rattle.borsh_json.proofs.FormKinds.{form_known}
 use Rattle.borsh_json.proofs.FrontLaws.{copies, front_written, row_front, newtype_front, object_front, list_front, map_front}
 use Rattle.borsh_json.proofs.OpeningLaws.{second_map, second_copies}
 use Rattle.borsh_json.proofs.PartsLaws.{names_of}
 use Rattle.borsh_json.proofs.ReaderLaws.{uncons}
+
+-- ---- the steps to parts
+taken : (i : ℕ) → suc i - 1 ≡ i
+taken i = omega arith
+
+element_leads : (f : Form) (own : List ℕ) (l : Lengths) (e : List ℕ) (i : ℕ) → f ≡ sequence l.width l.least l.greatest e → LeadTo f own i (element (suc i - 1) ∷ [])
+element_leads f own l e i g = subst (λ (f : Form). LeadTo f own i (element (suc i - 1) ∷ [])) (sym g) (ap (λ n. element n ∷ []) (taken i))
+
+row_shape : (f : Form) (xs : List (List ℕ)) → (f ≡ tuple xs) ⊎ ((f ≡ unnamed xs) ⊎ ((f ≡ no_fields) × (xs ≡ []))) → shape_of_form f ≡ product xs
+row_shape f xs (inl e) = ap shape_of_form e
+row_shape f xs (inr (inl e)) = ap shape_of_form e
+row_shape f xs (inr (inr e)) = ap shape_of_form e.0 ∙ ap product (sym e.1)
+
+row_leads : (f : Form) (xs : List (List ℕ)) (own : List ℕ) (i : ℕ) → (f ≡ tuple xs) ⊎ ((f ≡ unnamed xs) ⊎ ((f ≡ no_fields) × (xs ≡ []))) → LeadTo f own i (place (suc i - 1) ∷ [])
+row_leads f xs own i (inl e) = subst (λ (f : Form). LeadTo f own i (place (suc i - 1) ∷ [])) (sym e) (ap (λ n. place n ∷ []) (taken i))
+row_leads f xs own i (inr (inl e)) = subst (λ (f : Form). LeadTo f own i (place (suc i - 1) ∷ [])) (sym e) (ap (λ n. place n ∷ []) (taken i))
+row_leads f xs own i (inr (inr e)) = subst (λ (f : Form). LeadTo f own i (place (suc i - 1) ∷ [])) (sym e.0) (ap (λ n. place n ∷ []) (taken i))
+
+field_leads : (fs : List Wanted) (i : ℕ) → i < length (map (λ (w : Wanted). w.1) fs) → LeadTo (named fs) [] i (name_step (slice_get fs (suc i - 1)))
+field_leads fs i l = let h = there fs i l in (h.0, h.1, ap (λ k. name_step (slice_get fs k)) (taken i) ∙ ap name_step h.1)
+  where
+    there : (fs : List Wanted) (i : ℕ) → i < length (map (λ (w : Wanted). w.1) fs) → (f : Wanted) × (slice_get fs i ≡ Some f)
+    there [] i l = absurd (omega (arith, l))
+    there (f ∷ fs) zero l = (f, refl)
+    there (f ∷ fs) (suc i) l = there fs i (omega (arith, l))
 
 module _ (F : List ℕ → Option Form) (ns : List Named) (x : List ℕ) (f : Form) where
   -- no JSON says a value of a name that none can be said of
@@ -53,15 +80,15 @@ module _ (F : List ℕ → Option Form) (ns : List Named) (x : List ℕ) (f : Fo
       (subst (λ (l : Option EntryKey). IsRestOf F ns parts 0 l r) (sym c) i))
 
   -- the bracket of a place was written, or there was no memory for it
-  pub value_begun : (kind : Found) (own : List ℕ) (parts : Parts) (r : Rest) (old new : Output) (result : Result (Option Place) WriteError) → ((es : FoundEntries) (n : ℕ) → parts ≡ MapEntries es n → (order : Ordered) × (kind ≡ MapKind es order)) → ((es : FoundElements) → kind ≡ ListKind es → es.is_refused ≡ false) → IsRestOf F ns parts 0 None r → IsFront F x own r (begins_of parts) → Opens (shapes F) (shape_of_form f) own (names_of_rest r) → BeginsAt parts old new result → WritesValue F ns kind x f own old new result
-  value_begun kind own parts r old new (Ok None) m l i w o b = absurd b
-  value_begun kind own parts r old new (Ok (Some p)) m l i w o b = (r, new_place parts p r b.0 b.1 b.2 i, front_written F x own r (begins_of parts) old new w b.3, o, (b.4, b.2, (λ es n e. m es n (sym b.0 ∙ e)), l))
-  value_begun kind own parts r old new (Err e) m l i w o b = subst (λ (e : WriteError). RefusesValue F x own e) (sym b) tt
+  pub value_begun : (kind : Found) (own : List ℕ) (parts : Parts) (r : Rest) (old new : Output) (result : Result (Option Place) WriteError) → ((es : FoundEntries) (n : ℕ) → parts ≡ MapEntries es n → (order : Ordered) × (kind ≡ MapKind es order)) → ((es : FoundElements) → kind ≡ ListKind es → es.is_refused ≡ false) → IsRestOf F ns parts 0 None r → IsFront F (long_of old) x own r (begins_of parts) → Opens (shapes F) (shape_of_form f) own (names_of_rest r) → AreCalled f own parts (names_of_rest r) → BeginsAt parts old new result → WritesValue F ns kind x f own old new result
+  value_begun kind own parts r old new (Ok None) m l i w o a b = absurd b
+  value_begun kind own parts r old new (Ok (Some p)) m l i w o a b = (r, new_place parts p r b.0 b.1 b.2 i, front_written F x own r (begins_of parts) old new w b.3, o, (b.4, b.2, (λ es n e. m es n (sym b.0 ∙ e)), l, b.1), subst (λ (q : Parts). AreCalled f own q (names_of_rest r)) (sym b.0) a)
+  value_begun kind own parts r old new (Err e) m l i w o a b = subst (λ (e : WriteError). RefusesValue F x own e) (sym b) tt
 
-  struct_begun : (kind : Found) (parts : Parts) (r : Rest) (old new : Output) (result : Result (Option Place) WriteError) → ((es : FoundEntries) (n : ℕ) → parts ≡ MapEntries es n → ⊥) → ((es : FoundElements) → kind ≡ ListKind es → ⊥) → IsRestOf F ns parts 0 None r → IsFront F x [] r (begins_of parts) → shape_of_form f ≡ product (names_of_rest r) → BeginsAt parts old new result → WritesStruct F ns x f kind old new result
-  struct_begun kind parts r old new (Ok None) m l i w s b = absurd b
-  struct_begun kind parts r old new (Ok (Some p)) m l i w s b = (r, new_place parts p r b.0 b.1 b.2 i, front_written F x [] r (begins_of parts) old new w b.3, s, (b.4, b.2, (λ es n e. absurd (m es n (sym b.0 ∙ e))), λ es e. absurd (l es e)))
-  struct_begun kind parts r old new (Err e) m l i w s b = subst (λ (e : WriteError). RefusesValue F x [] e) (sym b) tt
+  struct_begun : (kind : Found) (parts : Parts) (r : Rest) (old new : Output) (result : Result (Option Place) WriteError) → ((es : FoundEntries) (n : ℕ) → parts ≡ MapEntries es n → ⊥) → ((es : FoundElements) → kind ≡ ListKind es → ⊥) → IsRestOf F ns parts 0 None r → IsFront F (long_of old) x [] r (begins_of parts) → shape_of_form f ≡ product (names_of_rest r) → AreCalled f [] parts (names_of_rest r) → BeginsAt parts old new result → WritesStruct F ns x f kind old new result
+  struct_begun kind parts r old new (Ok None) m l i w s a b = absurd b
+  struct_begun kind parts r old new (Ok (Some p)) m l i w s a b = (r, new_place parts p r b.0 b.1 b.2 i, front_written F x [] r (begins_of parts) old new w b.3, s, (b.4, b.2, (λ es n e. absurd (m es n (sym b.0 ∙ e))), (λ es e. absurd (l es e)), b.1), subst (λ (q : Parts). AreCalled f [] q (names_of_rest r)) (sym b.0) a)
+  struct_begun kind parts r old new (Err e) m l i w s a b = subst (λ (e : WriteError). RefusesValue F x [] e) (sym b) tt
 
   -- ---- structs and tuples
   module _ (at : ℕ) (i : IsAt ns at x) (d : F x ≡ Some f) (old new : Output) (result : Result (Option Place) WriteError) where
@@ -70,27 +97,29 @@ module _ (F : List ℕ → Option Form) (ns : List Named) (x : List ℕ) (f : Fo
         let refs = references (shape_of_form f) in
         let r = items_rest (map (λ (w : Wanted). w.1) (map (λ y. ([], y)) refs)) in
         let same = second_map refs in
+        let t = form_known F (row refs) f k.0 d (λ e. cc) in
         struct_begun (RowKind n) (Row at n) r old new result (λ es n e. cc) (λ es e. cc)
         (map (λ y. ([], y)) refs, (x, f, i, d, k.1, refl), refl)
-        (subst (λ (xs : List (List ℕ)). IsFront F x [] (items_rest xs) (Token.begin_array ∷ [])) (sym same) (row_front F x [] refs k.0 refl))
-        (form_known F (row refs) f k.0 d (λ e. cc) ∙ ap product (sym same)) b
+        (subst (λ (xs : List (List ℕ)). IsFront F (long_of old) x [] (items_rest xs) (Token.begin_array ∷ [])) (sym same) (row_front F x [] refs k.0 refl))
+        (row_shape f refs t ∙ ap product (sym same)) (λ i z. row_leads f refs [] i t) b
 
     newtype_begun : (p : ℕ) → IsKindOf F ns x f (NewtypeKind p) → BeginsAt (Newtype p) old new result → WritesStruct F ns x f (NewtypeKind p) old new result
     newtype_begun p k b =
+        let t = form_known F (inner k.0) f k.2 d (λ e. cc) in
         struct_begun (NewtypeKind p) (Newtype p) (value_rest (k.0 ∷ [])) old new result (λ es n e. cc) (λ es e. cc)
         (([], k.0) ∷ [], (k.0, k.1, refl), refl)
         (newtype_front F x [] k.0 k.2 refl)
-        (ap shape_of_form (form_known F (inner k.0) f k.2 d (λ e. cc))) b
+        (ap shape_of_form t) (λ i z. subst (λ (f : Form). LeadTo f [] i (place (suc i - 1) ∷ [])) (sym t) (ap (λ n. place n ∷ []) (taken i))) b
 
     object_begun : (fs : Bor (Vec (String Global × String Global) Global)) → IsKindOf F ns x f (ObjectKind fs) → BeginsAt (Object at fs) old new result → WritesStruct F ns x f (ObjectKind fs) old new result
     object_begun fs k b =
-        let all : List Wanted = map (λ f. (string_bytes f.0, string_bytes f.1)) fs.now.items in
+        let all : List Wanted = map field_bytes fs.now.items in
         let g = form_known F (fields all) f k.0 d (λ e. cc) in
         let u = subst (λ (l : List (List ℕ)). IsDistinct bytes_eq l) (sym (names_of (λ (f : String Global × String Global). string_bytes f.0) (λ f. string_bytes f.1) fs.now.items)) k.1 in
         struct_begun (ObjectKind fs) (Object at fs) (members_rest all) old new result (λ es n e. cc) (λ es e. cc)
         (all, (x, i, d ∙ ap (λ f. Some f) g, refl), refl)
         (object_front F x [] all k.0 u refl)
-        (ap shape_of_form g) b
+        (ap shape_of_form g) (λ i z. subst (λ (f : Form). LeadTo f [] i (name_step (slice_get all (suc i - 1)))) (sym g) (field_leads all i z)) b
 
     -- whichever parts the code found
     pub parts_begun : (kind : Found) (parts : Parts) → ArePartsOf at kind (Some parts) → IsKindOf F ns x f kind → BeginsAt parts old new result → WritesStruct F ns x f kind old new result
@@ -119,12 +148,13 @@ module _ (F : List ℕ → Option Form) (ns : List Named) (x : List ℕ) (f : Fo
         let l = lengths_of f in
         let t = subst (λ (r : Bool). IsListOf F ns x f es.at r) off k.0 in
         let e = t.0 in
-        let m = counted l e found (form_known F (list l e) f t.2 o.0 (λ e. cc)) (k.1 off e t.1) c in
+        let g = form_known F (list l e) f t.2 o.0 (λ e. cc) in
+        let m = counted l e found g (k.1 off e t.1) c in
         let copies : map (λ (w : Wanted). w.1) (replicate count ([], e)) ≡ replicate m.0 e = second_copies count e ∙ ap (λ (i : ℕ). replicate i e) (same m.0 m.1) in
         let none : count ≡ count - 0 = omega arith in
         value_begun (ListKind es) own (Elements es.at count) (items_rest (replicate m.0 e)) old new result (λ es n e. cc) (λ fs q. (let s : fs ≡ es = cc in subst (λ (es : FoundElements). es.is_refused ≡ false) (sym s) off))
         (replicate count ([], e), (e, t.1, ap (λ (i : ℕ). replicate i ([], e)) none), ap items_rest (sym copies))
-        (list_front F x own l e m.0 t.2 m.2 m.3 m.4) m.5 b
+        (list_front F x own l e m.0 t.2 m.2 m.3 m.4) m.5 (λ i z. element_leads f own l e i g) b
 
     pub list_refused : (es : FoundElements) (old new : Output) → IsKindOf F ns x f (ListKind es) → es.is_refused ≡ true → WritesValue F ns (ListKind es) x f own old new (Err (Refused EmptyElements))
     list_refused es old new k on = let r = subst (λ (r : Bool). IsListOf F ns x f es.at r) on k.0 in (r.1, none_says own r.0)
@@ -142,5 +172,5 @@ module _ (F : List ℕ → Option Form) (ns : List Named) (x : List ℕ) (f : Fo
         let many : length ws ≡ m.0 = copies count ([], v) ∙ same m.0 m.1 in
         let none : count ≡ count - 0 = omega arith in
         value_begun (MapKind es order) own (MapEntries es count) (entries_rest keys k v g.0 m.0 None) old new result (λ fs n e. (let q : es ≡ fs = cc in (order, ap (λ es. MapKind es order) q))) (λ es e. cc)
-        (k, v, g.0, keys, None, ws, h.3, h.4, pair, h.6, refl, (v, h.4, ap (λ (i : ℕ). replicate i ([], v)) none), ap (λ (i : ℕ). entries_rest keys k v g.0 i None) (sym many))
-        (map_front F x own l keys k v g.0 m.0 h.5 m.2 m.3 m.4) m.5 b
+        (k, v, g.0, keys, None, ws, h.3, h.4, g.2, h.6, refl, (v, h.4, ap (λ (i : ℕ). replicate i ([], v)) none), ap (λ (i : ℕ). entries_rest keys k v g.0 i None) (sym many))
+        (map_front F x own l keys k v g.0 m.0 h.5 m.2 m.3 m.4) m.5 (λ i z. element_leads f own l g.0 i g.1) b

@@ -1,8 +1,6 @@
 -- Bytes whose sets and maps ascend, as the writer goes through them.
 use Rattle.std.proofs.Common.{◌≡◌, inl, inr, ℕ, suc, zero, List, [], ◌∷◌, ◌++◌, length, map, replicate, drop, Bool, false, Option, Some, None, refl, sym, ◌∙◌, ap, subst}
 use Rattle.std.specs.Prelude.{IfSome, MatchOption, option_map}
-use Rattle.std.specs.declared.cmp.Ordering.{Ordering}
-use Rattle.std.specs.declared.cmp.Ordering.TheVariants.{Less}
 use Rattle.borsh_walks.specs.Container.{Shape, sequence as sequence_shape, product, IsIn, first, later}
 use Rattle.borsh_plan.specs.declared.named.Named.{Named}
 use Rattle.borsh_values.specs.Nodes.{packed_size, Opens, OpensElements}
@@ -12,16 +10,18 @@ use Rattle.borsh_json.specs.declared.kinds.Elements.{Elements as FoundElements}
 use Rattle.borsh_json.specs.declared.kinds.Kind.{Kind as Found}
 use Rattle.borsh_json.specs.declared.kinds.Kind.TheVariants.{Number, Bool as Truth, Text, Bytes, Float, ByteList, Numbers, List as ListKind, Map, Row as RowKind, Newtype as NewtypeKind, Object as ObjectKind, Optional, Choice, Repeated}
 use Rattle.borsh_json.specs.declared.order.Ordered.{Ordered}
+use Rattle.borsh_json.specs.declared.position.Parts.{Parts}
+use Rattle.borsh_json.specs.declared.position.Parts.TheVariants.{Root}
 use Rattle.borsh_json.specs.Checked.{Due, one, ascending, NeedsNoOrder, IsOnly, AreChecked, empty, plain, collection, packed, elements_end, next_element}
-use Rattle.borsh_json.specs.Forms.{Form, primitive as primitive_form, sequence as sequence_form, shape_of_form, shapes, HasNoBytes}
+use Rattle.borsh_json.specs.Forms.{Form, primitive as primitive_form, sequence as sequence_form, tuple as tuple_form, shape_of_form, shapes, HasNoBytes}
 use Rattle.borsh_json.specs.Found.{forms_of, names_of}
 use Rattle.borsh_json.specs.Frames.{IsListKind}
-use Rattle.borsh_json.specs.Ordered.{a_value, Compare}
-use Rattle.borsh_json.specs.Orders.{AreOrderedNumbers, HasKeyOrder, KindHasOrder, KindTellsOrder, OrderedBy}
-use Rattle.borsh_json.specs.Descents.{HasKeys, NumbersDescend}
+use Rattle.borsh_json.specs.Ordered.{a_value, IsAtLeast}
+use Rattle.borsh_json.specs.Orders.{ArePrimitives, HasKeyOrder, KindHasOrder, KindTellsOrder, OrderedBy}
+use Rattle.borsh_json.specs.Descents.{HasKeys, PrimitivesDescend}
 use Rattle.borsh_json.specs.Places.{IsKindOf, IsListOf, lengths_of}
 use Rattle.borsh_json.specs.Table.{Lengths, Kind, truth, whole, float, raw, utf8, byte_list, list, optional, variants, entries, HasKind}
-use Rattle.borsh_json.specs.Writes.{HasNode, Mark, Rest, value_rest, names_of_rest, AreOwed, none_owed, names_owed, elements_owed, IsCheckedTo, NoneFallsIn}
+use Rattle.borsh_json.specs.Writes.{HasNode, Mark, Rest, value_rest, names_of_rest, one_more, AreOwed, none_owed, names_owed, elements_owed, IsCheckedTo, NoneFallsIn}
 use Rattle.borsh_json.proofs.FallLaws.{byte_there, positive}
 use Rattle.borsh_json.proofs.FormKinds.{form_known}
 use Rattle.borsh_json.proofs.FoundLaws.{list_element, zero_part}
@@ -48,7 +48,7 @@ module _ (F : List ℕ → Option Form) where
   product_only f ps c s = (f, c, subst (λ d. OpensOnce (shapes F) d [] ps) (sym s) (λ b ms r t o e. (o.0, sym (ap (λ b. b ++ r) o.0) ∙ e, o.1)))
 
   pub product_free : {x : List ℕ} (ps : List (List ℕ)) → shapes F x ≡ Some (product ps) → NeedsNoOrder F x
-  product_free ps c kind h l e k keys o = let q : Some (product ps) ≡ Some (sequence_shape 4 0 4294967295 e) = sym c ∙ ap (λ o. option_map shape_of_form o) keys.0 in cc
+  product_free ps c kind h l e k keys = let q : Some (product ps) ≡ Some (sequence_shape 4 0 4294967295 e) = sym c ∙ ap (λ o. option_map shape_of_form o) keys.0 in cc
 
   not_list : (kind : Kind) → ((l : Lengths) (e : List ℕ) → kind ≡ list l e → ⊥) → ((l : Lengths) (e : List ℕ) → kind ≡ byte_list l e → ⊥) → IsListKind kind → ⊥
   not_list kind p q (l, e, inl r) = p l e r
@@ -67,32 +67,28 @@ module _ (F : List ℕ → Option Form) where
   pub product_due : {x : List ℕ} (f : Form) (ps : List (List ℕ)) → F x ≡ Some f → shape_of_form f ≡ product ps → (HasNoBytes F x → ⊥) → IsDueAs x [] ps None
   product_due f ps c s full ds after h = plain [] ps full (product_free ps (ap (λ o. option_map shape_of_form o) c ∙ ap (λ s. Some s) s)) (product_only f ps c s) h
 
-  shaped_as : (o : Option Form) (s : Shape) → option_map shape_of_form o ≡ Some s → (f : Form) × (o ≡ Some f) × (shape_of_form f ≡ s)
-  shaped_as None s e = cc
-  shaped_as (Some f) s e = (f, refl, cc)
-
-  pub pair_due : (e k v : List ℕ) → shapes F e ≡ Some (product (k ∷ v ∷ [])) → (HasNoBytes F k → ⊥) → IsDueAs e [] (k ∷ v ∷ []) None
-  pair_due e k v c full = let f = shaped_as (F e) (product (k ∷ v ∷ [])) c in product_due f.0 (k ∷ v ∷ []) f.1 f.2 (λ z. full (zero_part F c z first))
+  pub pair_due : (e k v : List ℕ) → F e ≡ Some (tuple_form (k ∷ v ∷ [])) → (HasNoBytes F k → ⊥) → IsDueAs e [] (k ∷ v ∷ []) None
+  pair_due e k v c full = product_due (tuple_form (k ∷ v ∷ [])) (k ∷ v ∷ []) c refl (λ z. full (zero_part F (ap (λ o. option_map shape_of_form o) c) z first))
 
   -- ---- places
   module _ (bytes : List ℕ) where
     -- keys that have to ascend are above those of the last part
     abbrev pub IsRisen : Mark → List ℕ → Type 0
-    IsRisen m left = (k : List ℕ) → m.2 ≡ Some k → IfSome (option_map (λ i. drop i bytes) m.1) (λ earlier. (r : Ordering) → Compare F (a_value k ∷ []) (a_value k ∷ []) earlier left r → r ≡ Less)
+    IsRisen m left = (k : List ℕ) → m.2 ≡ Some k → IfSome (option_map (λ i. drop i bytes) m.1.2) (λ earlier. IsAtLeast F (a_value k ∷ []) earlier left → ⊥)
 
     abbrev IsTaken : Mark → List Mark → Rest → List Rest → List ℕ → List ℕ → List ℕ → List Due → Type 0
-    IsTaken m ms t rs y done left ds = (es : List Due) × AreOwed bytes ((m.0, Some (length done), m.2) ∷ ms) (t ∷ rs) es × (AreChecked F (one y ∷ es) left → AreChecked F ds left)
+    IsTaken m ms t rs y done left ds = (es : List Due) × AreOwed bytes ((m.0, one_more m.1 (length done), m.2) ∷ ms) (t ∷ rs) es × (AreChecked F (one y ∷ es) left → AreChecked F ds left)
 
     next_owed : (m : Mark) {ms : List Mark} (r t : Rest) {rs : List Rest} {ds : List Due} (y done left : List ℕ) → names_of_rest r ≡ y ∷ names_of_rest t → drop (length done) bytes ≡ left → IsRisen m left → AreOwed bytes (m ∷ ms) (r ∷ rs) ds → IsTaken m ms t rs y done left ds
-    next_owed _ _ t y done left names d rises (names_owed {ds = ds} x s r a) = (map one (names_of_rest t) ++ ds, names_owed x (Some (length done)) t a, λ c. subst (λ l. AreChecked F (map one l ++ ds) left) (sym names) c)
-    next_owed _ _ t y done left names d rises (elements_owed x s r e k zero c a) = let q : y ∷ names_of_rest t ≡ [] = sym names ∙ c in cc
-    next_owed _ _ t y done left names d rises (elements_owed {ds = ds} x s r e k (suc n) c a) =
+    next_owed _ _ t y done left names d rises (names_owed {ds = ds} x g r a) = (map one (names_of_rest t) ++ ds, names_owed x (one_more g (length done)) t a, λ c. subst (λ l. AreChecked F (map one l ++ ds) left) (sym names) c)
+    next_owed _ _ t y done left names d rises (elements_owed x g r e k zero c a) = let q : y ∷ names_of_rest t ≡ [] = sym names ∙ c in cc
+    next_owed _ _ t y done left names d rises (elements_owed {ds = ds} x g r e k (suc n) c a) =
         let q : y ∷ names_of_rest t ≡ e ∷ replicate n e = sym names ∙ c in
         let h : y ≡ e = cc in
         let l : names_of_rest t ≡ replicate n e = cc in
         let before = drop (length done) bytes in (
           ascending e k n (Some before) ∷ ds,
-          elements_owed x (Some (length done)) t e k n l a,
+          elements_owed x (one_more g (length done)) t e k n l a,
           λ z. next_element (rises k refl) (subst (λ b. AreChecked F (one e ∷ ascending e k n (Some b) ∷ ds) left) d (subst (λ y. AreChecked F (one y ∷ ascending e k n (Some before) ∷ ds) left) h z)),
         )
 
@@ -105,17 +101,17 @@ module _ (F : List ℕ → Option Form) where
     nothing_owed none_owed = refl
 
     module _ (root : List ℕ) where
-      pub starts_checked : IsCheckedTo F root bytes [] (([], None, None) ∷ []) (value_rest (root ∷ []) ∷ []) bytes
-      starts_checked = record { dues = one root ∷ []; owed = names_owed [] None (value_rest (root ∷ [])) none_owed; checked = λ c. c }
+      pub starts_checked : IsCheckedTo F root bytes [] (([], (Root, 0, None), None) ∷ []) (value_rest (root ∷ []) ∷ []) bytes
+      starts_checked = record { dues = one root ∷ []; owed = names_owed [] (Root, 0, None) (value_rest (root ∷ [])) none_owed; checked = λ c. c }
 
       -- a part comes next
-      pub next_checked : (m : Mark) {ms : List Mark} (r t : Rest) {rs : List Rest} (y done left : List ℕ) → names_of_rest r ≡ y ∷ names_of_rest t → drop (length done) bytes ≡ left → IsRisen m left → IsCheckedTo F root bytes [] (m ∷ ms) (r ∷ rs) left → IsCheckedTo F root bytes (y ∷ []) ((m.0, Some (length done), m.2) ∷ ms) (t ∷ rs) left
+      pub next_checked : (m : Mark) {ms : List Mark} (r t : Rest) {rs : List Rest} (y done left : List ℕ) → names_of_rest r ≡ y ∷ names_of_rest t → drop (length done) bytes ≡ left → IsRisen m left → IsCheckedTo F root bytes [] (m ∷ ms) (r ∷ rs) left → IsCheckedTo F root bytes (y ∷ []) ((m.0, one_more m.1 (length done), m.2) ∷ ms) (t ∷ rs) left
       next_checked m r t y done left names d rises h =
           let n = next_owed m r t y done left names d rises h.owed in
           record { dues = n.0; owed = n.1; checked = λ c. h.checked (n.2 c) }
 
       -- the value of an entry, behind its key
-      pub entry_checked : (m : Mark) {ms : List Mark} (r t : Rest) {rs : List Rest} (pair key value own after done left : List ℕ) → names_of_rest r ≡ pair ∷ names_of_rest t → drop (length done) bytes ≡ left → IsRisen m left → left ≡ own ++ after → IsDueAs pair [] (key ∷ value ∷ []) None → IsDueAs key own [] None → IsCheckedTo F root bytes [] (m ∷ ms) (r ∷ rs) left → IsCheckedTo F root bytes (value ∷ []) ((m.0, Some (length done), m.2) ∷ ms) (t ∷ rs) after
+      pub entry_checked : (m : Mark) {ms : List Mark} (r t : Rest) {rs : List Rest} (pair key value own after done left : List ℕ) → names_of_rest r ≡ pair ∷ names_of_rest t → drop (length done) bytes ≡ left → IsRisen m left → left ≡ own ++ after → IsDueAs pair [] (key ∷ value ∷ []) None → IsDueAs key own [] None → IsCheckedTo F root bytes [] (m ∷ ms) (r ∷ rs) left → IsCheckedTo F root bytes (value ∷ []) ((m.0, one_more m.1 (length done), m.2) ∷ ms) (t ∷ rs) after
       entry_checked m r t pair key value own after done left names d rises l two begins h =
           let n = next_owed m r t pair done left names d rises h.owed in
           record { dues = n.0; owed = n.1; checked = λ c. h.checked (n.2 (subst (λ b. AreChecked F (one pair ∷ n.0) b) (sym l) (two n.0 (own ++ after) (begins (one value ∷ n.0) after c)))) }
@@ -129,9 +125,9 @@ module _ (F : List ℕ → Option Form) where
       zero_checked x left z h = record { dues = h.dues; owed = h.owed; checked = λ c. h.checked (empty z c) }
 
       -- its parts come next
-      pub front_checked : {ms : List Mark} {rs : List Rest} (x own after left : List ℕ) (r : Rest) (k : Option (List ℕ)) → left ≡ own ++ after → IsDueAs x own (names_of_rest r) k → IsCheckedTo F root bytes (x ∷ []) ms rs left → IsCheckedTo F root bytes [] ((x, None, k) ∷ ms) (r ∷ rs) after
-      front_checked x own after left r None l due h = record { dues = map one (names_of_rest r) ++ h.dues; owed = names_owed x None r h.owed; checked = λ c. h.checked (subst (λ b. AreChecked F (one x ∷ h.dues) b) (sym l) (due h.dues after c)) }
-      front_checked x own after left r (Some k) l due h = record { dues = ascending due.0 k due.1 None ∷ h.dues; owed = elements_owed x None r due.0 k due.1 due.2 h.owed; checked = λ c. h.checked (subst (λ b. AreChecked F (one x ∷ h.dues) b) (sym l) (due.3 h.dues after c)) }
+      pub front_checked : {ms : List Mark} {rs : List Rest} (x own after left : List ℕ) (r : Rest) (called : Parts) (k : Option (List ℕ)) → left ≡ own ++ after → IsDueAs x own (names_of_rest r) k → IsCheckedTo F root bytes (x ∷ []) ms rs left → IsCheckedTo F root bytes [] ((x, (called, 0, None), k) ∷ ms) (r ∷ rs) after
+      front_checked x own after left r called None l due h = record { dues = map one (names_of_rest r) ++ h.dues; owed = names_owed x (called, 0, None) r h.owed; checked = λ c. h.checked (subst (λ b. AreChecked F (one x ∷ h.dues) b) (sym l) (due h.dues after c)) }
+      front_checked x own after left r called (Some k) l due h = record { dues = ascending due.0 k due.1 None ∷ h.dues; owed = elements_owed x (called, 0, None) r due.0 k due.1 due.2 h.owed; checked = λ c. h.checked (subst (λ b. AreChecked F (one x ∷ h.dues) b) (sym l) (due.3 h.dues after c)) }
 
       -- a place has ended
       pub end_checked : (m : Mark) {ms : List Mark} (r : Rest) {rs : List Rest} (left : List ℕ) → names_of_rest r ≡ [] → IsCheckedTo F root bytes [] (m ∷ ms) (r ∷ rs) left → IsCheckedTo F root bytes [] ms rs left
@@ -159,21 +155,21 @@ module _ (d : Definitions) (x : List ℕ) (f : Form) (own : List ℕ) (parts : L
     other_due o kind h p q = free_due o (kind_free F kind h p q)
 
     -- numbers in the own bytes
-    numbers_due : (o : Option Ordered) (es : FoundElements) (n w lo hi : ℕ) (e : List ℕ) → f ≡ sequence_form w lo hi e → F e ≡ Some (primitive_form (suc n)) → es.size ≡ suc n → HasKeyOrder F ns d.orders.items x es.order → (es.order ≡ None → NeedsNoOrder F x) → NoneFallsIn es f own → IsDueIn o
+    numbers_due : (o : Option Ordered) (es : FoundElements) (n w lo hi : ℕ) (e : List ℕ) → f ≡ sequence_form w lo hi e → F e ≡ Some (primitive_form (suc n)) → es.size ≡ suc n → HasKeyOrder F ns x es.order → (es.order ≡ None → NeedsNoOrder F x) → NoneFallsIn es f own → IsDueIn o
     numbers_due o es n w lo hi e g p z keys none falls = by es.order refl
       where
         by : (found : Option Ordered) → es.order ≡ found → IsDueIn o
         by None q = free_due o (none q)
         by (Some found) q =
-            let a = subst (λ (o : Option Ordered). HasKeyOrder F ns d.orders.items x o) q keys in
+            let a = subst (λ (o : Option Ordered). HasKeyOrder F ns x o) q keys in
             let bs = drop w own in
             let s = subst (λ (f : Form). NoneFallsIn es f own) g falls bs refl in
-            let r = packed_rises F ns d.orders.items x e a.0 own bs parts n w lo hi found a.1 (there ∙ ap (λ f. Some f) g) p (subst (λ (f : Form). Opens (shapes F) (shape_of_form f) own parts) g opens) refl
-            (λ signed h i t. s found q signed (subst (λ n. AreOrderedNumbers found n signed bs) (sym z) h) i (subst (λ n. NumbersDescend n signed bs i) (sym z) t)) in
-            (None, (λ ds after c. packed own (suc n) r.0 r.1 r.2 r.3 (subst (λ l. IsOnly F x own l) r.4 only) (subst (λ l. AreChecked F (map one l ++ ds) after) r.4 c)), tt)
+            let r = packed_rises F ns x e a.0 own bs parts n w lo hi found a.1 (there ∙ ap (λ f. Some f) g) p (subst (λ (f : Form). Opens (shapes F) (shape_of_form f) own parts) g opens) refl
+            (λ h i t. s found q F ns e (subst (λ n. ArePrimitives F ns e found n bs) (sym z) h) i (subst (λ n. PrimitivesDescend F e n bs i) (sym z) t)) in
+            (None, (λ ds after c. packed own n r.0 p r.1 (subst (λ l. IsOnly F x own l) r.2 only) (subst (λ l. AreChecked F (map one l ++ ds) after) r.2 c)), tt)
 
     -- elements that are parts
-    elements_due : (found : Ordered) (e : List ℕ) → HasKind F x (list (lengths_of f) e) → packed_size (shapes F e) ≡ 0 → HasKeyOrder F ns d.orders.items x (Some found) → IsDueIn (Some found)
+    elements_due : (found : Ordered) (e : List ℕ) → HasKind F x (list (lengths_of f) e) → packed_size (shapes F e) ≡ 0 → HasKeyOrder F ns x (Some found) → IsDueIn (Some found)
     elements_due found e h z a =
         let l = lengths_of f in
         let g = form_known F (list l e) f h there (λ q. cc) in
@@ -187,7 +183,7 @@ module _ (d : Definitions) (x : List ℕ) (f : Form) (own : List ℕ) (parts : L
           a.1.2,
         )
 
-    pub value_due : (kind : Found) (o : Option Ordered) → HasNode kind → IsKindOf F ns x f kind → KindHasOrder F ns d.orders.items x kind → KindTellsOrder F x kind
+    pub value_due : (kind : Found) (o : Option Ordered) → HasNode kind → IsKindOf F ns x f kind → KindHasOrder F ns x kind → KindTellsOrder F x kind
         → ((es : FoundElements) → kind ≡ ByteList es → NoneFallsIn es f own) → ((es : FoundElements) → kind ≡ Numbers es → NoneFallsIn es f own) → ((es : FoundElements) → kind ≡ ListKind es → (es.is_refused ≡ false) × (o ≡ es.order)) → IsDueIn o
     value_due (Number n) o has k h t b c l = other_due o (whole n.size n.is_signed n.is_non_zero) k (λ l e q. cc) (λ l e q. cc)
     value_due Truth o has k h t b c l = other_due o truth k (λ l e q. cc) (λ l e q. cc)
@@ -212,7 +208,7 @@ module _ (d : Definitions) (x : List ℕ) (f : Form) (own : List ℕ) (parts : L
         by None q = free_due None (λ kind g z. t off (sym q))
         by (Some found) q =
             let u = subst (λ (r : Bool). IsListOf F ns x f es.at r) off k.0 in
-            elements_due found u.0 u.2 (k.1 off u.0 u.1) (subst (λ (o : Option Ordered). HasKeyOrder F ns d.orders.items x o) (sym q) h)
+            elements_due found u.0 u.2 (k.1 off u.0 u.1) (subst (λ (o : Option Ordered). HasKeyOrder F ns x o) (sym q) h)
     value_due (Map es order) o has k h t b c l = other_due o (entries (lengths_of f) k.2 k.0 k.1) k.5 (λ l e q. cc) (λ l e q. cc)
     value_due (RowKind n) o has k h t b c l = absurd has
     value_due (NewtypeKind at) o has k h t b c l = absurd has

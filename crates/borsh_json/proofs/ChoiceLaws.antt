@@ -16,11 +16,13 @@ use Rattle.borsh_json.specs.declared.kinds.Kind.TheVariants.{Optional as OptionK
 use Rattle.borsh_json.specs.declared.output.Output.{Output}
 use Rattle.borsh_json.specs.declared.position.Parts.TheVariants.{Some as Present, Variant}
 use Rattle.borsh_json.specs.declared.position.Place.{Place}
-use Rattle.borsh_json.specs.Forms.{Form, choice, shape_of_form, shapes, HasNoBytes}
+use Rattle.borsh_json.specs.Forms.{Form, choice, shape_of_form, shapes, HasNoBytes, variant_bytes}
+use Rattle.borsh_json.specs.InOrder.{variant}
+use Rattle.borsh_json.specs.Inside.{LeadTo}
 use Rattle.borsh_json.specs.Leaves.{IsOpenedAs, WritesLeaf}
 use Rattle.borsh_json.specs.Places.{IsAt, IsKindOf}
 use Rattle.borsh_json.specs.Represents.{SaysFirst}
-use Rattle.borsh_json.specs.Table.{HasKind, optional, variants, IsVariant}
+use Rattle.borsh_json.specs.Table.{HasKind, optional, variants, IsVariant, this, that}
 use Rattle.borsh_json.specs.Writes.{members_rest, value_rest, BeginsAt, IsWrittenAs, WritesValue}
 use Rattle.borsh_json.proofs.BegunLaws.{value_begun}
 use Rattle.borsh_json.proofs.FormKinds.{form_known}
@@ -76,6 +78,14 @@ module _ (F : List ℕ → Option Form) (ns : List Named) (x : List ℕ) (f : Fo
           inr (e, t ∙ ap (λ k. tag 1 k) a, subst (λ (s : Shape). Opens (shapes F) s own (p ∷ [])) s (subst (λ (y : List ℕ). Opens (shapes F) (choice_shape 1 ((pos 0, none) ∷ (pos 1, p) ∷ [])) own (y ∷ [])) b w))
       of_two none z s (suc (suc i)) k y e g t w = cc
 
+  some_leads : (p : List ℕ) → HasKind F x (optional p) → own ≡ 1 ∷ [] → (i : ℕ) → LeadTo f own i (variant (codes "Some") ∷ [])
+  some_leads p h e i =
+      let z = (form_known F (optional p) f h o.0 (λ e. cc)).0 in
+      let vs : List (ℤ × List ℕ × List ℕ) = (pos 0, codes "None", z.0) ∷ (pos 1, codes "Some", p) ∷ [] in
+      let q : Some f ≡ Some (choice 1 vs) = sym o.0 ∙ z.1 in
+      let g : f ≡ choice 1 vs = cc in
+      subst (λ (f : Form). LeadTo f own i (variant (codes "Some") ∷ [])) (sym g) (pos 1, codes "Some", p, that this, e, refl)
+
   module _ (at : ℕ) (k : IsKindOf F ns x f (OptionKind at)) (found : Option ℕ) (v : IsVariantOf (shape_of_form f) own found) (index most : ℕ) (q : index ≡ unwrap_or found most) where
     -- the first variant
     module _ (e : index ≡ 0) where
@@ -94,13 +104,13 @@ module _ (F : List ℕ → Option Form) (ns : List Named) (x : List ℕ) (f : Fo
     pub some_begun : (old new : Output) (result : Result (Option Place) WriteError) → (index ≡ 0 → ⊥) → BeginsAt (Present at) old new result → WritesValue F ns (OptionKind at) x f own old new result
     some_begun old new result n b = elim (option_found k.0 k.2 found v) [
       | inl a ↦ absurd (n (q ∙ ap (λ o. unwrap_or o most) a.0))
-      | inr a ↦ value_begun F ns x f (OptionKind at) own (Present at) (value_rest (k.0 ∷ [])) old new result (λ es n e. cc) (λ es e. cc) (([], k.0) ∷ [], (k.0, k.1, refl), refl) (some_front F x own k.0 k.2 a.1) a.2 b
+      | inr a ↦ value_begun F ns x f (OptionKind at) own (Present at) (value_rest (k.0 ∷ [])) old new result (λ es n e. cc) (λ es e. cc) (([], k.0) ∷ [], (k.0, k.1, refl), refl) (some_front F x own k.0 k.2 a.1) a.2 (λ i z. some_leads k.0 k.2 a.1 i) b
     ]
 
   -- ---- variants
   module _ (w : ℕ) (vs : Bor (Vec (ℤ × String Global × String Global) Global)) (k : IsKindOf F ns x f (ChoiceKind w vs)) (found : Option ℕ) (v : IsVariantOf (shape_of_form f) own found) where
     abbrev listed : List (ℤ × List ℕ × List ℕ)
-    listed = map (λ v. (v.0, string_bytes v.1, string_bytes v.2)) vs.now.items
+    listed = map variant_bytes vs.now.items
 
     -- the variant that was found
     abbrev pub IsChosen : ℤ × String Global × String Global → Type 0
@@ -152,4 +162,4 @@ module _ (F : List ℕ → Option Form) (ns : List Named) (x : List ℕ) (f : Fo
       name_written old new z l = (l, string_bytes u.2 ∷ [], c.1, one_in F (string_bytes u.2) z, λ es e. cc)
 
       pub variant_begun : (name : Bor (List ℕ)) (at : ℕ) (old new : Output) (result : Result (Option Place) WriteError) → name.now ≡ string_bytes u.1 → IsAt ns at (string_bytes u.2) → (HasNoBytes F (string_bytes u.2) → ⊥) → BeginsAt (Variant name at) old new result → WritesValue F ns (ChoiceKind w vs) x f own old new result
-      variant_begun name at old new result n i z b = value_begun F ns x f (ChoiceKind w vs) own (Variant name at) (members_rest ((string_bytes u.1, string_bytes u.2) ∷ [])) old new result (λ es n e. cc) (λ es e. cc) (([], string_bytes u.2) ∷ [], (string_bytes u.2, i, refl), ap (λ s. members_rest ((s, string_bytes u.2) ∷ [])) (sym n)) (variant_front F x own w listed u.0 (string_bytes u.1) (string_bytes u.2) k.0 distinct c.2 z c.0) c.1 b
+      variant_begun name at old new result n i z b = value_begun F ns x f (ChoiceKind w vs) own (Variant name at) (members_rest ((string_bytes u.1, string_bytes u.2) ∷ [])) old new result (λ es n e. cc) (λ es e. cc) (([], string_bytes u.2) ∷ [], (string_bytes u.2, i, refl), ap (λ s. members_rest ((s, string_bytes u.2) ∷ [])) (sym n)) (variant_front F x own w listed u.0 (string_bytes u.1) (string_bytes u.2) k.0 distinct c.2 z c.0) c.1 (λ i l. subst (λ (f : Form). LeadTo f own i (variant name.now ∷ [])) (sym (form_known F (variants w listed) f k.0 o.0 (λ e. cc))) (u.0, string_bytes u.1, string_bytes u.2, c.2, c.0, ap (λ v. variant v ∷ []) n)) b

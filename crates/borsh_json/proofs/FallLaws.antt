@@ -1,15 +1,13 @@
 -- Two neighbours that don't ascend, where the writer is.
-use Rattle.std.proofs.Common.{◌≡◌, inr, ℕ, suc, zero, ◌+◌, ◌<◌, ◌≤◌, List, [], ◌∷◌, ◌++◌, length, replicate, drop, Option, Some, None, refl, sym, ◌∙◌, ap, subst, arith, append_assoc, append-nil}
+use Rattle.std.proofs.Common.{◌≡◌, inr, ℕ, suc, zero, ◌+◌, ◌<◌, ◌≤◌, List, [], ◌∷◌, ◌++◌, length, replicate, drop, Option, Some, None, refl, sym, ◌∙◌, ap, subst, arith, append_assoc, append-nil, length-append}
 use Rattle.std.proofs.Math.Seq.{drop-append_seam}
-use Rattle.std.specs.Prelude.{pos, option_map, Bool, true, false, Decides, Result, Ok, Err, IfErr, IfOk, OnOk, MatchOption}
-use Rattle.std.specs.declared.cmp.Ordering.{Ordering}
+use Rattle.std.specs.Prelude.{pos, option_map, Bool, true, false, Decides, Result, Ok, Err, IfErr, IfOk, OnOk, MatchBool, MatchOption}
 use Rattle.std.specs.declared.cmp.Ordering.TheVariants.{Less}
 use Rattle.json.specs.Json.{null}
 use Rattle.borsh_walks.specs.Container.{Shape, primitive, sequence, product, choice, tag, Member, Members, more_members}
 use Rattle.borsh_plan.specs.Plan.{root_of}
 use Rattle.borsh_values.specs.Nodes.{packed_size, Opens, OpensElements, AreElementsOf}
 use Rattle.borsh_json.specs.declared.definitions.Definitions.{Definitions}
-use Rattle.borsh_json.specs.declared.definitions.Known.{Known}
 use Rattle.borsh_json.specs.declared.error.PartError.{PartError}
 use Rattle.borsh_json.specs.declared.error.PartError.TheVariants.{OutOfMemory as NoPartMemory, Refused as RefusedPart}
 use Rattle.borsh_json.specs.declared.error.Refusal.TheVariants.{Descends}
@@ -25,23 +23,24 @@ use Rattle.borsh_json.specs.declared.position.Part.{Part as FoundPart}
 use Rattle.borsh_json.specs.declared.position.Place.{Place}
 use Rattle.borsh_json.specs.declared.sources.EntryKey.{EntryKey}
 use Rattle.borsh_json.specs.declared.writing.Writing.{Writing}
-use Rattle.borsh_json.specs.Descents.{HasDescent, NumbersDescend}
+use Rattle.borsh_json.specs.Descents.{HasDescent, PrimitivesDescend}
 use Rattle.borsh_json.specs.Forms.{Form, sequence as sequence_form, primitive as primitive_form, form_of, shape_of_form, shapes}
 use Rattle.borsh_json.specs.Found.{forms_of, names_of}
 use Rattle.borsh_json.specs.NoJson.{IsOutOfOrder}
-use Rattle.borsh_json.specs.Ordered.{a_value, Compare}
-use Rattle.borsh_json.specs.Frames.{IsOf, NoneFalls}
+use Rattle.borsh_json.specs.Ordered.{a_value, IsAtLeast}
+use Rattle.borsh_json.specs.Frames.{IsElementFall, IsOf, IsPath, NoneFalls, first_steps}
+use Rattle.borsh_json.specs.InOrder.{Step, element as element_step}
+use Rattle.borsh_json.specs.Inside.{LeadTo}
 use Rattle.borsh_json.specs.Leaves.{IsOpenedAs}
-use Rattle.borsh_json.specs.Orders.{KeysAscend, HasKeyOrder, OrderedBy, ValuesCompare, KindHasOrder, AreOrderedNumbers, IsElementFall}
+use Rattle.borsh_json.specs.Orders.{KeysAscend, HasKeyOrder, OrderedBy, KindHasOrder, IsNotBelow, ArePrimitives}
 use Rattle.borsh_json.specs.Places.{IsAt, AreKeysOf, IsKindOf, IsListOf, lengths_of}
 use Rattle.borsh_json.specs.Represents.{SaysFirst}
 use Rattle.borsh_json.specs.Table.{Lengths, Keys, byte_list, list, entries, AreKeys, HasKind, key_json, key_order}
-use Rattle.borsh_json.specs.Writes.{IsFullOrFalls, TellsAscent, names_of_rest, names_of_all, opened, Nested, IsLast, IsAbove, IsMapOf, IsLastKey, IsWritingAt, NoneFallsIn}
+use Rattle.borsh_json.specs.Writes.{IsFullOrFalls, TellsAscent, names_of_rest, names_of_all, opened, steps_to, Nested, IsLast, IsAbove, IsMapOf, IsLastKey, IsWritingAt, NoneFallsIn}
 use Rattle.borsh_json.proofs.FormKinds.{form_found, form_known}
 use Rattle.borsh_json.proofs.NestedLaws.{IsLastPart, last_part}
-use Rattle.borsh_json.proofs.KeyRanks.{keys_compare}
+use Rattle.borsh_json.proofs.KeyRanks.{keys_at_least}
 use Rattle.borsh_json.proofs.PackedDescent.{packed_descent}
-use Rattle.borsh_json.proofs.RankLaws.{compares, element_key}
 use Rattle.borsh_json.proofs.WritingPlaces.{TakesEntry}
 
 -- ---- copies
@@ -75,25 +74,29 @@ unpacked : (m : ℕ) (e : List ℕ) (k : ℕ) (cs : List ℕ) (xs ys : List (Lis
 unpacked zero e k cs xs ys y o = (o.0, sym o.1)
 unpacked (suc n) e k cs xs ys y o = absurd (not_none xs ys y o.2)
 
+-- the steps to the next part
+abbrev pub next_steps : (d : Definitions) (w : Writing) (p : Place) → IsWritingAt d w p → List Step
+next_steps d w p a = steps_to a.state.outer ++ first_steps a.mark.1.0 (suc a.mark.1.1)
+
 module _ (d : Definitions) (w : Writing) (p : Place) (a : IsWritingAt d w p) (z : List ℕ) (zs : List (List ℕ)) (names : names_of_rest a.state.inner ≡ z ∷ zs)
-    (k : List ℕ) (found : Ordered) (order : KeysAscend (forms_of d) (names_of d) d.orders.items a.mark.0 k found) (i : ℕ) (starts : a.mark.1 ≡ Some i) where
+    (k : List ℕ) (found : Ordered) (order : KeysAscend (forms_of d) (names_of d) a.mark.0 k found) (i : ℕ) (starts : a.mark.1.2 ≡ Some i) where
   abbrev C : List ℕ → Option Shape
   C = shapes (forms_of d)
 
   abbrev e : List ℕ
   e = order.0
 
-  l : IsLastPart C (root_of d.plan.now) a.mark.0 (z ∷ zs) a.state.done i
-  l = last_part C (root_of d.plan.now) i a.mark.1 starts (subst (λ (xs : List (List ℕ)). Nested C (root_of d.plan.now) (opened a.mark.0 a.mark.1 xs ∷ a.state.outer) a.state.done) names a.state.nested)
+  l : IsLastPart (forms_of d) (root_of d.plan.now) a.mark.0 a.mark.1 (z ∷ zs) (steps_to a.state.outer) a.state.done i
+  l = last_part (forms_of d) (root_of d.plan.now) i a.mark.1 starts (subst (λ (xs : List (List ℕ)). Nested (forms_of d) (root_of d.plan.now) (opened a.mark.0 a.mark.1 xs ∷ a.state.outer) a.state.done) names a.state.nested)
+
+  its_form : l.partly.form ≡ sequence_form 4 0 4294967295 e
+  its_form = let q : Some l.partly.form ≡ Some (sequence_form 4 0 4294967295 e) = sym l.partly.defined ∙ order.1.0 in cc
 
   -- the elements that are read, and the next one
   listed : (count : ℕ) × (l.partly.own ≡ tag 4 (pos count)) × (l.partly.read ≡ replicate (length l.partly.read) e) × (l.part ∷ z ∷ zs ≡ replicate (suc (suc (length zs))) e) × (count ≡ length l.partly.read + suc (suc (length zs))) × (count ≤ 4294967295)
   listed =
       let t = l.partly in
-      let c : C a.mark.0 ≡ Some (sequence 4 0 4294967295 e) = ap (λ (o : Option Form). option_map shape_of_form o) order.1.0 in
-      let q : Some t.shape ≡ Some (sequence 4 0 4294967295 e) = sym t.defined ∙ c in
-      let s : t.shape ≡ sequence 4 0 4294967295 e = cc in
-      let o = subst (λ (s : Shape). Opens C s t.own (t.read ++ l.part ∷ z ∷ zs)) s t.opens in
+      let o = subst (λ (f : Form). Opens C (shape_of_form f) t.own (t.read ++ l.part ∷ z ∷ zs)) its_form t.opens in
       let u = unpacked (packed_size (C e)) e o.0 o.1 t.read (z ∷ zs) l.part o.5 in
       let v = parted o.0 e t.read (l.part ∷ z ∷ zs) u.1 in
       (o.0, o.4 ∙ ap (λ b. tag 4 (pos o.0) ++ b) u.0 ∙ append-nil (tag 4 (pos o.0)), v.0, v.1, v.2, o.3)
@@ -113,20 +116,19 @@ module _ (d : Definitions) (w : Writing) (p : Place) (a : IsWritingAt d w p) (z 
   element : Member C e l.bytes
   element = subst (λ y. Member C y l.bytes) part_is l.member
 
-  left_there : Members C (e ∷ (zs ++ names_of_all a.state.around)) w.walk.left.now
-  left_there = subst (λ y. Members C (y ∷ (zs ++ names_of_all a.state.around)) w.walk.left.now) next_is (subst (λ xs. Members C (xs ++ names_of_all a.state.around) w.walk.left.now) names a.state.halved.read.1)
-
-  -- the last element and the next one compare
-  pub neighbours : (r : Ordering) × Compare (forms_of d) (a_value k ∷ []) (a_value k ∷ []) (drop i w.bytes.now) w.walk.left.now r
-  neighbours =
-      let g = element_key (forms_of d) a.mark.0 e k (l.bytes ++ w.walk.left.now) order.1 (more_members element left_there) in
-      let h = element_key (forms_of d) a.mark.0 e k w.walk.left.now order.1 left_there in
-      let c = compares (forms_of d) k (l.bytes ++ w.walk.left.now) w.walk.left.now order.3 g.1 h.1 in
-      (c.0, subst (λ b. Compare (forms_of d) (a_value k ∷ []) (a_value k ∷ []) b w.walk.left.now c.0) (sym dropped) c.1)
+  -- the steps to the next one
+  leads : first_steps a.mark.1.0 (suc a.mark.1.1) ≡ element_step (suc (length l.partly.read)) ∷ []
+  leads =
+      let t = l.partly in
+      let n = suc (length t.read) in
+      let many : n < length (t.read ++ l.part ∷ z ∷ zs) = (let s = length-append t.read (l.part ∷ z ∷ zs) in omega (arith, s)) in
+      let g = subst (λ (f : Form). LeadTo f t.own n (first_steps l.progress.0 (suc n))) its_form (t.called n many) in
+      let count : suc a.mark.1.1 ≡ suc n = (let b = t.begun in let c = l.next in omega (arith, b, c)) in
+      ap (λ k. first_steps a.mark.1.0 k) count ∙ ap (λ q. first_steps q (suc n)) l.same ∙ g
 
   -- the next one isn't above the last
-  pub falls : (r : Ordering) → Compare (forms_of d) (a_value k ∷ []) (a_value k ∷ []) (drop i w.bytes.now) w.walk.left.now r → (r ≡ Less → ⊥) → IsOutOfOrder (forms_of d) (root_of d.plan.now) w.bytes.now
-  falls r c n =
+  pub falls : IsAtLeast (forms_of d) (a_value k ∷ []) (drop i w.bytes.now) w.walk.left.now → IsOutOfOrder (forms_of d) (root_of d.plan.now) w.bytes.now (next_steps d w p a)
+  falls c =
       let s = a.state in
       let t = l.partly in
       let left = w.walk.left.now in
@@ -135,26 +137,22 @@ module _ (d : Definitions) (w : Writing) (p : Place) (a : IsWritingAt d w p) (z 
       s.halved.joined ∙ ap (λ b. b ++ left) (l.is ∙ ap (λ b. b ++ l.bytes) t.is) ∙ append_assoc (t.before ++ (t.own ++ t.mid)) l.bytes left
       ∙ append_assoc t.before (t.own ++ t.mid) (l.bytes ++ left) ∙ ap (λ b. t.before ++ b) (append_assoc t.own t.mid (l.bytes ++ left)) in
       let m : suc (suc (length t.read)) ≤ listed.0 = (let q = listed.4 in omega (arith, q)) in
-      let fall : HasDescent (forms_of d) a.mark.0 after = record {
+      let fall : HasDescent (forms_of d) a.mark.0 after (length t.read) = record {
         e = e;
         k = k;
         count = listed.0;
-        passed = length t.read;
         middle = t.mid;
         first = l.bytes;
         after = left;
-        result = r;
         keys = order.1;
-        known = order.3;
         bytes_are = ap (λ b. b ++ (t.mid ++ (l.bytes ++ left))) listed.1;
         fits = listed.5;
         more = m;
         elements = subst (λ xs. Members C xs t.mid) listed.2 t.members;
         element = element;
-        compares = subst (λ b. Compare (forms_of d) (a_value k ∷ []) (a_value k ∷ []) b left r) dropped c;
-        falls = n;
+        falls = subst (λ b. IsAtLeast (forms_of d) (a_value k ∷ []) b left) dropped c;
       } in
-      (t.depth, t.before, after, a.mark.0, b, t.here, fall)
+      (t.depth, steps_to a.state.outer, length t.read, t.before, after, a.mark.0, ap (λ l. steps_to a.state.outer ++ l) leads, b, t.here, fall)
 
 -- ---- keys
 -- an object of entries has keys of its kind
@@ -170,34 +168,32 @@ is_named ns at x y h i = let q : Some x ≡ Some y = sym h ∙ i in cc
 
 module _ (d : Definitions) (w : Writing) (p : Place) (a : IsWritingAt d w p) (es : FoundEntries) (c : ℕ) (part : FoundPart) (t : TakesEntry (forms_of d) (names_of d) es p.parts c p.last part a.state.inner)
     (s own after : List ℕ) (left : w.walk.left.now ≡ own ++ after) (says : SaysFirst (forms_of d) t.key (key_json t.keys s) own []) where
-  last_falls : (key : EntryKey) → IsMapOf d w.bytes.now a.mark.0 es → IsLastKey d w.bytes.now es (Some key) a.mark.1 → ((o : Option (List ℕ)) → IsLast es.key_kind (Some key) o → IsAbove t.keys o s → ⊥) → IsOutOfOrder (forms_of d) (root_of d.plan.now) w.bytes.now
+  last_falls : (key : EntryKey) → IsMapOf d w.bytes.now a.mark.0 es → IsLastKey d w.bytes.now es (Some key) a.mark.1.2 → ((o : Option (List ℕ)) → IsLast es.key_kind (Some key) o → IsAbove t.keys o s → ⊥) → IsOutOfOrder (forms_of d) (root_of d.plan.now) w.bytes.now (next_steps d w p a)
   last_falls key m h n =
       let F = forms_of d in
       let ns = names_of d in
       let k : h.1 ≡ t.key = is_named ns es.key h.1 t.key h.7 t.key_named in
       let r : m.3.0 ≡ t.key = is_named ns es.key m.3.0 t.key m.3.1 t.key_named in
       let q : m.2.0 ≡ t.key = is_named ns es.key m.2.0 t.key m.2.3 t.key_named in
-      let ascends : KeysAscend F ns d.orders.items a.mark.0 t.key m.0 = subst (λ k. KeysAscend F ns d.orders.items a.mark.0 k m.0) r m.3.2 in
+      let ascends : KeysAscend F ns a.mark.0 t.key m.0 = subst (λ k. KeysAscend F ns a.mark.0 k m.0) r m.3.2 in
       let old : AreKeysOf F ns t.key (form_of es.key_definition.now) es.key_kind h.2 = subst (λ k. AreKeysOf F ns k (form_of es.key_definition.now) es.key_kind h.2) k h.8 in
       let same : h.2 ≡ t.keys = keys_same F ns t.key (form_of es.key_definition.now) (form_of es.key_definition.now) es.key_kind h.2 t.keys old t.kind in
       let mine : AreKeysOf F ns t.key (form_of es.key_definition.now) es.key_kind m.2.2 = subst (λ k. AreKeysOf F ns k (form_of es.key_definition.now) es.key_kind m.2.2) q m.2.6 in
       let all : AreKeys F t.key t.keys = subst (λ ks. AreKeys F t.key ks) (keys_same F ns t.key (form_of es.key_definition.now) (form_of es.key_definition.now) es.key_kind m.2.2 t.keys mine t.kind) (subst (λ k. AreKeys F k m.2.2) q (object_keys F a.mark.0 (lengths_of m.1) m.2.2 m.2.0 m.2.1 m.2.5)) in
       let said : SaysFirst F t.key (key_json t.keys h.3) h.4 [] = subst (λ ks. SaysFirst F t.key (key_json ks h.3) h.4 []) same (subst (λ k. SaysFirst F k (key_json h.2 h.3) h.4 []) k h.10) in
-      let compare = keys_compare F t.key ns (form_of es.key_definition.now) es.key_kind t.keys h.3 s h.4 own h.5 after all t.kind said says in
-      let there = subst (λ b. Compare F (a_value t.key ∷ []) (a_value t.key ∷ []) b (own ++ after) (key_order t.keys (h.3, null) (s, null))) (sym h.11) compare in
-      falls d w p a t.pair (replicate t.count t.pair) (ap names_of_rest t.is) t.key m.0 ascends h.0 h.6 (key_order t.keys (h.3, null) (s, null))
-      (subst (λ b. Compare F (a_value t.key ∷ []) (a_value t.key ∷ []) (drop h.0 w.bytes.now) b (key_order t.keys (h.3, null) (s, null))) (sym left) there)
-      (n (Some h.3) (h.3, refl, h.9))
+      let compare = keys_at_least F t.key ns (form_of es.key_definition.now) es.key_kind t.keys h.3 s h.4 own h.5 after all t.kind said says (n (Some h.3) (h.3, refl, h.9)) in
+      let there = subst (λ b. IsAtLeast F (a_value t.key ∷ []) b (own ++ after)) (sym h.11) compare in
+      falls d w p a t.pair (replicate t.count t.pair) (ap names_of_rest t.is) t.key m.0 ascends h.0 h.6 (subst (λ b. IsAtLeast F (a_value t.key ∷ []) (drop h.0 w.bytes.now) b) (sym left) there)
 
   -- the key isn't above the last one
-  pub key_falls : (above : Bool) → ((o : Option (List ℕ)) → IsLast es.key_kind p.last o → Decides above (IsAbove t.keys o s)) → above ≡ false → IsOutOfOrder (forms_of d) (root_of d.plan.now) w.bytes.now
+  pub key_falls : (above : Bool) → ((o : Option (List ℕ)) → IsLast es.key_kind p.last o → Decides above (IsAbove t.keys o s)) → above ≡ false → IsOutOfOrder (forms_of d) (root_of d.plan.now) w.bytes.now (next_steps d w p a)
   key_falls above g e = go p.last refl
     where
-      go : (last : Option EntryKey) → p.last ≡ last → IsOutOfOrder (forms_of d) (root_of d.plan.now) w.bytes.now
+      go : (last : Option EntryKey) → p.last ≡ last → IsOutOfOrder (forms_of d) (root_of d.plan.now) w.bytes.now (next_steps d w p a)
       go None l = let q : true ≡ false = sym ((g None (subst (λ (l : Option EntryKey). IsLast es.key_kind l None) (sym l) refl)).1 tt) ∙ e in cc
       go (Some key) l =
           let h = a.here.1 es t.entries.0 t.entries.1 in
-          last_falls key h.0 (subst (λ (l : Option EntryKey). IsLastKey d w.bytes.now es l a.mark.1) l h.1) (λ o i b. (let q : true ≡ false = sym ((g o (subst (λ (l : Option EntryKey). IsLast es.key_kind l o) (sym l) i)).1 b) ∙ e in cc))
+          last_falls key h.0 (subst (λ (l : Option EntryKey). IsLastKey d w.bytes.now es l a.mark.1.2) l h.1) (λ o i b. (let q : true ≡ false = sym ((g o (subst (λ (l : Option EntryKey). IsLast es.key_kind l o) (sym l) i)).1 b) ∙ e in cc))
 
 -- ---- lists that are written whole
 pub positive : (n : ℕ) → 0 < n → (m : ℕ) × (n ≡ suc m)
@@ -208,30 +204,29 @@ positive (suc m) l = (m, refl)
 pub byte_there : (F : List ℕ → Option Form) (x : List ℕ) (l : Lengths) (e : List ℕ) → HasKind F x (byte_list l e) → F e ≡ Some (primitive_form 1)
 byte_there F x l e h = (form_found F (byte_list l e) h (λ q. cc)).2.1.1
 
-module _ (F : List ℕ → Option Form) (ns : List Named) (orders : List Known) (x own after bytes : List ℕ) (f : Form) (parts : List (List ℕ)) (es : FoundElements) (o : IsOpenedAs F x f own parts) (elements : AreElementsOf (shape_of_form f) own bytes) where
-  list_falls : (n depth w lo hi : ℕ) (e : List ℕ) (error : PartError) → HasKeyOrder F ns orders x es.order → f ≡ sequence_form w lo hi e → F e ≡ Some (primitive_form (suc n)) → es.size ≡ suc n → IsOf Descends error → IsElementFall es bytes error → IsFullOrFalls depth (HasDescent F x (own ++ after)) error
-  list_falls n depth w lo hi e NoPartMemory k s p z d g = tt
-  list_falls n depth w lo hi e (RefusedPart path r) k s p z d g =
-      let h = subst (λ (order : Option Ordered). HasKeyOrder F ns orders x order) g.1 k in
-      inr (
-        d,
-        packed_descent F ns orders x e h.0 own bytes parts n w lo hi g.0 h.1 (o.0 ∙ ap (λ f. Some f) s) p (subst (λ (f : Form). Opens (shapes F) (shape_of_form f) own parts) s o.1) (subst (λ (f : Form). AreElementsOf (shape_of_form f) own bytes) s elements) after
-            (λ signed a. subst (λ n. (i : ℕ) × NumbersDescend n signed bytes i) z (g.2 signed (subst (λ n. AreOrderedNumbers g.0 n signed bytes) (sym z) a))),
-      )
+module _ (F : List ℕ → Option Form) (ns : List Named) (x own after bytes : List ℕ) (f : Form) (parts : List (List ℕ)) (es : FoundElements) (o : IsOpenedAs F x f own parts) (elements : AreElementsOf (shape_of_form f) own bytes) where
+  module _ (root : List ℕ) (steps : List Step) (depth : ℕ) where
+    list_falls : (n w lo hi : ℕ) (e : List ℕ) (error : PartError) → HasKeyOrder F ns x es.order → f ≡ sequence_form w lo hi e → F e ≡ Some (primitive_form (suc n)) → es.size ≡ suc n → IsOf Descends error → IsElementFall root steps es bytes error → IsFullOrFalls root steps depth (HasDescent F x (own ++ after)) error
+    list_falls n w lo hi e NoPartMemory k s p z d g = tt
+    list_falls n w lo hi e (RefusedPart path r) k s p z d g =
+        let h = subst (λ (order : Option Ordered). HasKeyOrder F ns x order) g.1 k in
+        let v = packed_descent F ns x e h.0 own bytes parts n w lo hi g.0 h.1 (o.0 ∙ ap (λ f. Some f) s) p (subst (λ (f : Form). Opens (shapes F) (shape_of_form f) own parts) s o.1) (subst (λ (f : Form). AreElementsOf (shape_of_form f) own bytes) s elements) after
+        (λ i. IsPath root (steps ++ element_step i ∷ []) path) (λ a. subst (λ n. (i : ℕ) × IsPath root (steps ++ element_step i ∷ []) path × PrimitivesDescend F e n bytes i) z (g.2 F ns e (subst (λ n. ArePrimitives F ns e g.0 n bytes) (sym z) a))) in
+        inr (d, v.0, v.1, v.2)
 
-  pub bytes_falls : (depth : ℕ) (error : PartError) → IsKindOf F ns x f (ByteList es) → KindHasOrder F ns orders x (ByteList es) → IsOf Descends error → IsElementFall es bytes error → IsFullOrFalls depth (HasDescent F x (own ++ after)) error
-  bytes_falls depth error k h d g =
-      let l = lengths_of f in
-      let s = form_known F (byte_list l k.0) f k.2 o.0 (λ e. cc) in
-      list_falls 0 depth l.width l.least l.greatest k.0 error h.1 s.0 (byte_there F x l k.0 k.2) h.0 d g
+    pub bytes_falls : (error : PartError) → IsKindOf F ns x f (ByteList es) → KindHasOrder F ns x (ByteList es) → IsOf Descends error → IsElementFall root steps es bytes error → IsFullOrFalls root steps depth (HasDescent F x (own ++ after)) error
+    bytes_falls error k h d g =
+        let l = lengths_of f in
+        let s = form_known F (byte_list l k.0) f k.2 o.0 (λ e. cc) in
+        list_falls 0 l.width l.least l.greatest k.0 error h.1 s.0 (byte_there F x l k.0 k.2) h.0 d g
 
-  pub numbers_falls : (depth : ℕ) (error : PartError) → IsKindOf F ns x f (Numbers es) → KindHasOrder F ns orders x (Numbers es) → IsOf Descends error → IsElementFall es bytes error → IsFullOrFalls depth (HasDescent F x (own ++ after)) error
-  numbers_falls depth error k h d g =
-      let l = lengths_of f in
-      let t = subst (λ (r : Bool). IsListOf F ns x f es.at r) k.1 k.0 in
-      let s = form_known F (list l t.0) f t.2 o.0 (λ e. cc) in
-      let n = positive es.size k.2 in
-      list_falls n.0 depth l.width l.least l.greatest t.0 error h s (k.3 t.0 t.1 ∙ ap (λ n. Some (primitive_form n)) n.1) n.1 d g
+    pub numbers_falls : (error : PartError) → IsKindOf F ns x f (Numbers es) → KindHasOrder F ns x (Numbers es) → IsOf Descends error → IsElementFall root steps es bytes error → IsFullOrFalls root steps depth (HasDescent F x (own ++ after)) error
+    numbers_falls error k h d g =
+        let l = lengths_of f in
+        let t = subst (λ (r : Bool). IsListOf F ns x f es.at r) k.1 k.0 in
+        let s = form_known F (list l t.0) f t.2 o.0 (λ e. cc) in
+        let n = positive es.size k.2 in
+        list_falls n.0 l.width l.least l.greatest t.0 error h s (k.3 t.0 t.1 ∙ ap (λ n. Some (primitive_form n)) n.1) n.1 d g
 
 -- elements that don't fall are those in the own bytes
 elements_one : (s : Shape) (own cs bs : List ℕ) → AreElementsOf s own cs → AreElementsOf s own bs → cs ≡ bs
@@ -253,11 +248,11 @@ both_known (Err e) p q f = f e p q
 -- whether the part that is begun is above the one before it
 pub begun_tells : {E : Type 0} (d : Definitions) (bytes : List ℕ) (old new : Ascent) (j : ℕ) (r : Result Bool E) → new.order ≡ old.order → new.earlier ≡ old.last → new.last ≡ Some j
     → (new.earlier ≡ None → IfOk r (λ a. a ≡ true))
-    → ((x : List ℕ) → OrderedBy d x new.order → (i j : ℕ) → new.earlier ≡ Some i → new.last ≡ Some j → (c : Ordering) → ValuesCompare d x (drop i bytes) (drop j bytes) c → IfOk r (λ a. Decides a (c ≡ Less)))
+    → ((x : List ℕ) → OrderedBy d x new.order → (i j : ℕ) → new.earlier ≡ Some i → new.last ≡ Some j → IfOk r (λ a. MatchBool a (IsNotBelow d x (drop i bytes) (drop j bytes) → ⊥) (IsNotBelow d x (drop i bytes) (drop j bytes))))
     → IfOk r (TellsAscent d bytes (Some old) j)
 begun_tells d bytes old new j (Err e) a b l first order = tt
 begun_tells d bytes old new j (Ok above) a b l first order = go old.last refl
   where
-    go : (last : Option ℕ) → old.last ≡ last → MatchOption last (above ≡ true) (λ i. (k : List ℕ) (c : Ordering) → OrderedBy d k old.order → ValuesCompare d k (drop i bytes) (drop j bytes) c → Decides above (c ≡ Less))
+    go : (last : Option ℕ) → old.last ≡ last → MatchOption last (above ≡ true) (λ i. (k : List ℕ) → OrderedBy d k old.order → MatchBool above (IsNotBelow d k (drop i bytes) (drop j bytes) → ⊥) (IsNotBelow d k (drop i bytes) (drop j bytes)))
     go None e = first (b ∙ e)
-    go (Some i) e = λ k c o v. order k (subst (λ (q : Ordered). OrderedBy d k q) (sym a) o) i j (b ∙ e) l c v
+    go (Some i) e = λ k o. order k (subst (λ (q : Ordered). OrderedBy d k q) (sym a) o) i j (b ∙ e) l

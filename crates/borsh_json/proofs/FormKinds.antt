@@ -1,15 +1,24 @@
 -- The definition that a name of a kind has.
-use Rattle.std.proofs.Common.{◌≡◌, inl, inr, ℕ, List, [], ◌∷◌, Bool, true, false, Option, Some, refl, sym, ◌∙◌, ap, subst}
-use Rattle.std.specs.Prelude.{⊤, ◌&&◌, ◌==◌, if◌then◌else◌, codes}
+use Rattle.std.proofs.Common.{◌≡◌, ◌⊎◌, inl, inr, ℕ, List, [], ◌∷◌, Bool, true, false, Option, Some, refl, sym, ◌∙◌, ap, subst}
+use Rattle.std.specs.Prelude.{⊤, ◌&&◌, ◌==◌, if◌then◌else◌, codes, option_map}
 use Rattle.std.specs.Float.{binary32, binary64}
 use Rattle.std.specs.Str.{bytes_eq}
 use Rattle.borsh_walks.specs.Container.{product}
-use Rattle.borsh_json.specs.Forms.{Form, primitive, sequence, tuple, newtype, unnamed, named, choice, shape_of_form, IsByte, IsMap}
-use Rattle.borsh_json.specs.Table.{Lengths, Kind, no_bytes, truth, whole, float, raw, utf8, byte_list, list, row, inner, fields, optional, variants, entries, number_types, number_kind, primitive_kind, a_text, some_bytes, an_object, some_elements, IsNullable, nullable, by_name, AreKeys, DefinedKind, HasKind}
+use Rattle.borsh_json.specs.Forms.{Form, primitive, sequence, tuple, choice, named, unnamed, no_fields, shape_of_form, IsByte, IsMap}
+use Rattle.borsh_json.specs.Table.{Lengths, Kind, no_bytes, truth, whole, float, raw, utf8, byte_list, list, row, inner, fields, optional, variants, entries, number_types, number_kind, primitive_kind, unnamed_kind, a_text, some_bytes, an_object, some_elements, IsNullable, nullable, by_name, AreKeys, DefinedKind, HasKind}
+
+pub shaped : (o : Option Form) {f : Form} → o ≡ Some f → option_map shape_of_form o ≡ Some (shape_of_form f)
+shaped o e = ap (λ o. option_map shape_of_form o) e
 
 -- a sequence of these lengths
 abbrev IsSequence : Lengths → List ℕ → Form → Type 0
 IsSequence l e d = d ≡ sequence l.width l.least l.greatest e
+
+-- a struct whose fields have no names is a row or what its only field is
+pub unnamed_is : (P : Kind → Type 0) → ((xs : List (List ℕ)) → P (row xs)) → ((y : List ℕ) → P (inner y)) → (ps : List (List ℕ)) → P (unnamed_kind ps)
+unnamed_is P r i [] = r []
+unnamed_is P r i (p ∷ []) = i p
+unnamed_is P r i (p ∷ q ∷ ps) = r (p ∷ q ∷ ps)
 
 module _ (F : List ℕ → Option Form) where
   -- the definition is one of a name of this kind that has bytes
@@ -22,8 +31,8 @@ module _ (F : List ℕ → Option Form) where
   IsFormOf x (utf8 l) d = (e : List ℕ) × IsSequence l e d
   IsFormOf x (byte_list l e) d = IsSequence l e d × IsByte F e
   IsFormOf x (list l e) d = IsSequence l e d
-  IsFormOf x (row xs) d = shape_of_form d ≡ product xs
-  IsFormOf x (inner p) d = d ≡ newtype p
+  IsFormOf x (row xs) d = (d ≡ tuple xs) ⊎ ((d ≡ unnamed xs) ⊎ ((d ≡ no_fields) × (xs ≡ [])))
+  IsFormOf x (inner p) d = d ≡ unnamed (p ∷ [])
   IsFormOf x (fields fs) d = d ≡ named fs
   IsFormOf x (optional p) d = IsNullable F x p
   IsFormOf x (variants w vs) d = d ≡ choice w vs
@@ -56,12 +65,14 @@ module _ (F : List ℕ → Option Form) where
   formed kind (sequence w lo hi e) c (some_bytes s b) = (refl, b)
   formed kind (sequence w lo hi e) c (an_object m k) = (e, refl, map_elements w lo hi e c m, k)
   formed kind (sequence w lo hi e) c (some_elements s b m k) = refl
-  formed {x = x} kind (tuple ps) c p = subst (λ k. IsFormOf x k (tuple ps)) (sym p) refl
-  formed {x = x} kind (newtype y) c p = subst (λ k. IsFormOf x k (newtype y)) (sym p) refl
-  formed {x = x} kind (unnamed ps) c p = subst (λ k. IsFormOf x k (unnamed ps)) (sym p) refl
-  formed {x = x} kind (named fs) c p = subst (λ k. IsFormOf x k (named fs)) (sym p) refl
+  formed {x = x} kind (tuple ps) c p = subst (λ k. IsFormOf x k (tuple ps)) (sym p) (inl refl)
   formed kind (choice w vs) c (nullable i) = i
   formed kind (choice w vs) c (by_name i) = refl
+  formed {x = x} kind (named fs) c p = subst (λ k. IsFormOf x k (named fs)) (sym p) refl
+  formed {x = x} kind (unnamed []) c p = subst (λ k. IsFormOf x k (unnamed [])) (sym p) (inr (inl refl))
+  formed {x = x} kind (unnamed (y ∷ [])) c p = subst (λ k. IsFormOf x k (unnamed (y ∷ []))) (sym p) refl
+  formed {x = x} kind (unnamed (y ∷ z ∷ ps)) c p = subst (λ k. IsFormOf x k (unnamed (y ∷ z ∷ ps))) (sym p) (inr (inl refl))
+  formed {x = x} kind no_fields c p = subst (λ k. IsFormOf x k no_fields) (sym p) (inr (inr (refl, refl)))
 
   -- a name of a kind with bytes
   pub form_found : {x : List ℕ} (kind : Kind) → HasKind F x kind → (kind ≡ no_bytes → ⊥) → (d : Form) × (F x ≡ Some d) × IsFormOf x kind d

@@ -10,19 +10,19 @@ use Rattle.std.specs.Borrow.{Bor}
 use Rattle.std.specs.Global.{Global}
 use Rattle.borsh_walks.specs.Container.{Shape, IsIn, references, IsZeroSize, zeroed, zero_size_references}
 use Rattle.borsh_walks.specs.Container as shape
-use Rattle.borsh_json.specs.Forms.{Form, primitive, sequence, tuple, newtype, unnamed, choice, form_of_parts, shape_of_form, HasNoBytes, IsList, IsByte, IsUnit, IsOption, IsMap}
+use Rattle.borsh_json.specs.Forms.{Form, primitive, sequence, tuple, choice, unnamed, shape_of_form, HasNoBytes, IsList, IsByte, IsUnit, IsOption, IsMap}
 use Rattle.borsh_json.specs.Found.{joined, IsMapName, IsSetName}
 
-pub newtype_is : (ps : List (List ℕ)) → MatchBool (eqb (length ps) 1) ((p : List ℕ) × (form_of_parts ps ≡ newtype p)) ((p : List ℕ) → form_of_parts ps ≡ newtype p → ⊥)
+pub newtype_is : (ps : List (List ℕ)) → MatchBool (eqb (length ps) 1) ((p : List ℕ) × (unnamed ps ≡ unnamed (p ∷ []))) ((p : List ℕ) → unnamed ps ≡ unnamed (p ∷ []) → ⊥)
 newtype_is [] = λ p e. cc
 newtype_is (p ∷ []) = (p, refl)
 newtype_is (p ∷ q ∷ ps) = many (eqb (length (p ∷ q ∷ ps)) 1) refl
   where
-    many : (b : Bool) → eqb (length (p ∷ q ∷ ps)) 1 ≡ b → MatchBool b ((r : List ℕ) × (unnamed (p ∷ q ∷ ps) ≡ newtype r)) ((r : List ℕ) → unnamed (p ∷ q ∷ ps) ≡ newtype r → ⊥)
+    many : (b : Bool) → eqb (length (p ∷ q ∷ ps)) 1 ≡ b → MatchBool b ((r : List ℕ) × (unnamed (p ∷ q ∷ ps) ≡ unnamed (r ∷ []))) ((r : List ℕ) → unnamed (p ∷ q ∷ ps) ≡ unnamed (r ∷ []) → ⊥)
     many true e = absurd (let g : length (p ∷ q ∷ ps) ≡ 1 = grind (arith, nat_tests) in omega (arith, g))
     many false e = λ r e. cc
 
-pub one_part : (ps : List (List ℕ)) → length ps ≡ 1 → (p : List ℕ) × (form_of_parts ps ≡ newtype p)
+pub one_part : (ps : List (List ℕ)) → length ps ≡ 1 → (p : List ℕ) × (unnamed ps ≡ unnamed (p ∷ []))
 one_part [] e = absurd (omega (arith, e))
 one_part (p ∷ []) e = (p, refl)
 one_part (p ∷ q ∷ ps) e = absurd (omega (arith, e))

@@ -12,11 +12,12 @@ use Rattle.json.specs.Token.{Token}
 use Rattle.json.specs.Json.{Json, null, array, object, Items, Members, no_members, member}
 use Rattle.json.specs.Tree.{json_tokens}
 use Rattle.borsh_walks.specs.Container.{tag}
+use Rattle.borsh_json.specs.declared.output.LongNumbers.{LongNumbers}
 use Rattle.borsh_json.specs.declared.output.Output.{Output}
 use Rattle.borsh_json.specs.Forms.{Form, HasNoBytes}
 use Rattle.borsh_json.specs.Frames.{Wanted, AreNext}
-use Rattle.borsh_json.specs.Leaves.{Adds}
-use Rattle.borsh_json.specs.Represents.{HaveBytes, next_part}
+use Rattle.borsh_json.specs.Leaves.{Adds, long_of, AreWritten}
+use Rattle.borsh_json.specs.Represents.{HaveBytes}
 use Rattle.borsh_json.specs.Table.{Lengths, Keys, texts, numbers, Kind, list, row, inner, fields, optional, variants, entries, HasKind, Part, row_parts, list_parts, field_parts, Entry, entries_of, key_order, IsVariant, Says}
 use Rattle.borsh_json.specs.Writes.{Rest, items_rest, members_rest, value_rest, entries_rest, AreMembers, AreAbove, IsFront, WritesFront}
 use Rattle.borsh_json.proofs.FieldLaws.{keys_of, next_all}
@@ -25,6 +26,7 @@ use Rattle.borsh_json.proofs.FrameLaws.{length_map}
 use Rattle.borsh_json.proofs.NullLaws.{may_be_null}
 use Rattle.borsh_json.proofs.OpeningLaws.{list_row, list_length, row_fits, some_one}
 use Rattle.borsh_json.proofs.ReaderLaws.{field_back}
+use Rattle.borsh_json.proofs.WrittenLaws.{next_written}
 
 -- ---- the parts of what follows
 pub copies : {A : Type 0} (n : ℕ) (x : A) → length (replicate n x) ≡ n
@@ -85,51 +87,51 @@ rising keys last [] h = tt
 rising keys last (e ∷ es) h = (above keys e es h.1, rising keys (Some e.0) es h.1)
 
 module _ (F : List ℕ → Option Form) (x own : List ℕ) where
-  pub front_written : (r : Rest) (front : List Token) (old new : Output) → IsFront F x own r front → Adds front old new → WritesFront F x own r old new
+  pub front_written : (r : Rest) (front : List Token) (old new : Output) → IsFront F (long_of old) x own r front → Adds front old new → WritesFront F x own r old new
   front_written r front old new w a = record { front = front; adds = a; whole = w }
 
   -- ---- a bracket, or nothing, and then what may follow
-  items_front : (xs : List (List ℕ)) (kind : Kind) → HasKind F x kind → ((js : Items) (qs : List Part) → row_parts xs js ≡ Some qs → Says F kind (array js) own qs) → IsFront F x own (items_rest xs) (Token.begin_array ∷ [])
-  items_front xs kind h s n ts qs ps bs m b = (array m.0, ap (λ l. Token.begin_array ∷ l) (sym m.1), m.3, (let d = m.4 in omega (arith, d)), next_part kind own qs h (s m.0 qs m.2) b)
+  items_front : {long : LongNumbers} (xs : List (List ℕ)) (kind : Kind) → HasKind F x kind → ((js : Items) (qs : List Part) → row_parts xs js ≡ Some qs → Says F kind (array js) own qs) → IsFront F long x own (items_rest xs) (Token.begin_array ∷ [])
+  items_front xs kind h s n ts qs ps bs m b = (array m.0, ap (λ l. Token.begin_array ∷ l) (sym m.1), m.3, (let d = m.4 in omega (arith, d)), next_written F kind own qs h (s m.0 qs m.2) (λ e s q. cc) b)
 
-  members_front : (ws : List Wanted) (kind : Kind) → HasKind F x kind → ((ms : Members) (qs : List Part) → AreMembers ws ms qs → Says F kind (object ms) own qs) → IsFront F x own (members_rest ws) (Token.begin_object ∷ [])
-  members_front ws kind h s n ts qs ps bs m b = (object m.0, ap (λ l. Token.begin_object ∷ l) (sym m.1), m.3, (let d = m.4 in omega (arith, d)), next_part kind own qs h (s m.0 qs m.2) b)
+  members_front : {long : LongNumbers} (ws : List Wanted) (kind : Kind) → HasKind F x kind → ((ms : Members) (qs : List Part) → AreMembers ws ms qs → Says F kind (object ms) own qs) → IsFront F long x own (members_rest ws) (Token.begin_object ∷ [])
+  members_front ws kind h s n ts qs ps bs m b = (object m.0, ap (λ l. Token.begin_object ∷ l) (sym m.1), m.3, (let d = m.4 in omega (arith, d)), next_written F kind own qs h (s m.0 qs m.2) (λ e s q. cc) b)
 
-  value_front : (p : List ℕ) → ((j : Json) (ps : List Part) (bs : List ℕ) → HaveBytes F ((p, j) ∷ ps) bs → HaveBytes F ((x, j) ∷ ps) (own ++ bs)) → IsFront F x own (value_rest (p ∷ [])) []
-  value_front p s n ts qs ps bs m b =
+  value_front : {long : LongNumbers} (p : List ℕ) → ((j : Json) (ps : List Part) (bs : List ℕ) → AreWritten F long ((p, j) ∷ ps) bs → AreWritten F long ((x, j) ∷ ps) (own ++ bs)) → IsFront F long x own (value_rest (p ∷ [])) []
+  value_front {long = long} p s n ts qs ps bs m b =
       let one = m.6 ∙ ap (λ l. (p, m.0) ∷ l) m.7.1 in
-      (m.0, sym (m.5 ∙ ap (λ t. json_tokens m.0 ++ t) m.7.0 ∙ append-nil (json_tokens m.0)), m.3, (let d = m.4 in omega (arith, d)), s m.0 ps bs (subst (λ (l : List Part). HaveBytes F (l ++ ps) bs) one b))
+      (m.0, sym (m.5 ∙ ap (λ t. json_tokens m.0 ++ t) m.7.0 ∙ append-nil (json_tokens m.0)), m.3, (let d = m.4 in omega (arith, d)), s m.0 ps bs (subst (λ (l : List Part). AreWritten F long (l ++ ps) bs) one b))
 
   -- ---- each kind
-  pub row_front : (xs : List (List ℕ)) → HasKind F x (row xs) → own ≡ [] → IsFront F x own (items_rest xs) (Token.begin_array ∷ [])
+  pub row_front : {long : LongNumbers} (xs : List (List ℕ)) → HasKind F x (row xs) → own ≡ [] → IsFront F long x own (items_rest xs) (Token.begin_array ∷ [])
   row_front xs h o = items_front xs (row xs) h (λ js qs r. (o, js, refl, r))
 
-  pub newtype_front : (p : List ℕ) → HasKind F x (inner p) → own ≡ [] → IsFront F x own (value_rest (p ∷ [])) []
-  newtype_front p h o = value_front p (λ j ps bs b. next_part (inner p) own ((p, j) ∷ []) h (o, refl) b)
+  pub newtype_front : {long : LongNumbers} (p : List ℕ) → HasKind F x (inner p) → own ≡ [] → IsFront F long x own (value_rest (p ∷ [])) []
+  newtype_front p h o = value_front p (λ j ps bs b. next_written F (inner p) own ((p, j) ∷ []) h (o, refl) (λ e s q. ((λ a b k. cc), (λ f k. cc))) b)
 
-  pub object_front : (fs : List Wanted) → HasKind F x (fields fs) → IsDistinct bytes_eq (map (λ (f : Wanted). f.0) fs) → own ≡ [] → IsFront F x own (members_rest fs) (Token.begin_object ∷ [])
+  pub object_front : {long : LongNumbers} (fs : List Wanted) → HasKind F x (fields fs) → IsDistinct bytes_eq (map (λ (f : Wanted). f.0) fs) → own ≡ [] → IsFront F long x own (members_rest fs) (Token.begin_object ∷ [])
   object_front fs h d o = members_front fs (fields fs) h (λ ms qs m. let n = named fs ms qs d m in (d, o, ms, refl, n.0, n.1))
 
-  pub list_front : (l : Lengths) (e : List ℕ) (k : ℕ) → HasKind F x (list l e) → l.least ≤ k → k ≤ l.greatest → own ≡ tag l.width (pos k) ++ [] → IsFront F x own (items_rest (replicate k e)) (Token.begin_array ∷ [])
+  pub list_front : {long : LongNumbers} (l : Lengths) (e : List ℕ) (k : ℕ) → HasKind F x (list l e) → l.least ≤ k → k ≤ l.greatest → own ≡ tag l.width (pos k) ++ [] → IsFront F long x own (items_rest (replicate k e)) (Token.begin_array ∷ [])
   list_front l e k h low high o = items_front (replicate k e) (list l e) h (λ js qs r.
       let p = listed k e js qs r in
       let n = p.1 in
       (js, refl, p.0, (omega (arith, n, low), omega (arith, n, high), o ∙ ap (λ i. tag l.width (pos i) ++ []) (sym n))))
 
-  pub map_front : (l : Lengths) (keys : Keys) (k v e : List ℕ) (n : ℕ) → HasKind F x (entries l keys k v) → l.least ≤ n → n ≤ l.greatest → own ≡ tag l.width (pos n) ++ [] → IsFront F x own (entries_rest keys k v e n None) (Token.begin_object ∷ [])
+  pub map_front : {long : LongNumbers} (l : Lengths) (keys : Keys) (k v e : List ℕ) (n : ℕ) → HasKind F x (entries l keys k v) → l.least ≤ n → n ≤ l.greatest → own ≡ tag l.width (pos n) ++ [] → IsFront F long x own (entries_rest keys k v e n None) (Token.begin_object ∷ [])
   map_front l keys k v e n h low high o d ts qs ps bs m b =
       let es = entries_of m.0 in
       let c = m.2 in
       let t : Says F (entries l keys k v) (object m.0) own qs = (m.0, es, refl, IsPermutation-refl es, rising keys None es m.3, (omega (arith, c, low), omega (arith, c, high), o ∙ ap (λ i. tag l.width (pos i) ++ []) (sym c)), m.4) in
-      (object m.0, ap (λ l. Token.begin_object ∷ l) (sym m.1), m.5, (let i = m.6 in omega (arith, i)), next_part (entries l keys k v) own qs h t b)
+      (object m.0, ap (λ l. Token.begin_object ∷ l) (sym m.1), m.5, (let i = m.6 in omega (arith, i)), next_written F (entries l keys k v) own qs h t (λ e s q. cc) b)
 
   -- an option's value is never `null`
-  pub some_front : (p : List ℕ) → HasKind F x (optional p) → own ≡ 1 ∷ [] → IsFront F x own (value_rest (p ∷ [])) []
+  pub some_front : {long : LongNumbers} (p : List ℕ) → HasKind F x (optional p) → own ≡ 1 ∷ [] → IsFront F long x own (value_rest (p ∷ [])) []
   some_front p h o =
       let f = form_found F (optional p) h (λ e. cc) in
-      value_front p (λ j ps bs b. next_part (optional p) own ((p, j) ∷ []) h (inr ((λ z. f.2.1 (may_be_null F 128 p ps bs (subst (λ (j : Json). HaveBytes F ((p, j) ∷ ps) bs) z b))), o, refl)) b)
+      value_front p (λ j ps bs b. next_written F (optional p) own ((p, j) ∷ []) h (inr ((λ z. f.2.1 (may_be_null F 128 p ps bs (subst (λ (j : Json). HaveBytes F ((p, j) ∷ ps) bs) z b.0))), o, refl)) (λ e s q. ((λ a b k. cc), (λ f k. cc))) b)
 
-  pub variant_front : (w : ℕ) (vs : List (ℤ × List ℕ × List ℕ)) (k : ℤ) (v p : List ℕ) → HasKind F x (variants w vs) → IsDistinct bytes_eq (map (λ (v : ℤ × List ℕ × List ℕ). v.1) vs) → IsVariant k v p vs → (HasNoBytes F p → ⊥) → own ≡ tag w k → IsFront F x own (members_rest ((v, p) ∷ [])) (Token.begin_object ∷ [])
+  pub variant_front : {long : LongNumbers} (w : ℕ) (vs : List (ℤ × List ℕ × List ℕ)) (k : ℤ) (v p : List ℕ) → HasKind F x (variants w vs) → IsDistinct bytes_eq (map (λ (v : ℤ × List ℕ × List ℕ). v.1) vs) → IsVariant k v p vs → (HasNoBytes F p → ⊥) → own ≡ tag w k → IsFront F long x own (members_rest ((v, p) ∷ [])) (Token.begin_object ∷ [])
   variant_front w vs k v p h d i z o = members_front ((v, p) ∷ []) (variants w vs) h (λ ms qs m.
       let none = m.5 in
       let one : object ms ≡ object (member v m.0 no_members) = ap object (m.3 ∙ ap (λ r. member v m.0 r) none.0) in

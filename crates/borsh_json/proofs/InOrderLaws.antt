@@ -16,7 +16,7 @@ use Rattle.borsh_json.specs.Descents.{HasKeys}
 use Rattle.borsh_json.specs.Forms.{Form, sequence, tuple, IsList, shapes}
 use Rattle.borsh_json.specs.Found.{IsSetName}
 use Rattle.borsh_json.specs.Frames.{AreInOrder, IsListPlace, IsMapPlace, IsListKind, IsPlaceOf, IsPlaceIn}
-use Rattle.borsh_json.specs.InOrder.{Step, BeginsParts, IsReached, whole_value, part_of, DigitsFall, ItemsFall, Falls, InOrder, TextRepresents}
+use Rattle.borsh_json.specs.InOrder.{Step, DigitsFall, ItemsFall, Falls, InOrder, TextRepresents}
 use Rattle.borsh_json.specs.NoValue.{ShowsNoValue, IsGivenUp, FailsAt, SaysNothing}
 use Rattle.borsh_json.specs.Represents.{SaysFirst, SaysSome}
 use Rattle.borsh_json.specs.Table.{Lengths, Kind, utf8, byte_list, list, row, inner, fields, optional, variants, entries, Keys, texts, numbers, AreKeys, Entry, key_json, entry_parts, a_text, some_bytes, an_object, some_elements, SequenceKind, DefinedKind, HasKind, Part, list_parts, Says}
@@ -24,8 +24,8 @@ use Rattle.borsh_json.proofs.FormKinds.{form_found}
 use Rattle.borsh_json.proofs.FoundLaws.{full_list, list_element, set_no_map}
 use Rattle.borsh_json.proofs.OpeningLaws.{list_length}
 use Rattle.borsh_json.proofs.OrderLaws.{clash}
-use Rattle.borsh_json.proofs.ReaderLaws.{first_says}
 use Rattle.borsh_json.proofs.RepresentsLaws.{bytes_one, kind_one}
+use Rattle.borsh_json.proofs.WrittenLaws.{whole_each}
 
 -- ---- names
 string_no_set : (x e : List ℕ) → x ≡ codes "String" → IsSetName x e → ⊥
@@ -100,33 +100,9 @@ module _ (F : List ℕ → Option Form) where
   all_join [] es a b = b
   all_join (d ∷ ds) es a b = (a.0, all_join ds es a.1 b)
 
-  all_at : (ps : List Part) (p : Part) (more : List Part) → AreInOrder F ((ps ++ p ∷ []) ++ more) → InOrder F p.0 p.1
-  all_at [] p more a = a.0
-  all_at (q ∷ ps) p more a = all_at ps p more a.1
-
-  -- JSON whose paths lead to itself, or into one of its parts
-  abbrev IsPart : List ℕ → Json → Part → Type 0
-  IsPart x i p = (kind : Kind) × (own : List ℕ) × (ps : List Part) × HasKind F x kind × BeginsParts F kind i own (ps ++ p ∷ [])
-
-  abbrev Inward : List ℕ → Json → Part → Type 0
-  Inward x i q = (p : Part) × IsPart x i p × (n : ℕ) × (path : List Step) × (before : List ℕ) × IsReached F p.0 p.1 n path before q
-
-  inward : {x : List ℕ} {i : Json} {n : ℕ} {path : List Step} {before : List ℕ} {q : Part} → IsReached F x i n path before q → (q ≡ (x, i)) ⊎ Inward x i q
-  inward whole_value = inl refl
-  inward {x = x} {i = i} (part_of {x = y} {i = k} {ps = ps} {p = p} kind own steps r h b m s) = elim (inward r) [
-    | inl e ↦ (let f : y ≡ x = ap (λ (q : Part). q.0) e in let g : k ≡ i = ap (λ (q : Part). q.1) e in inr (p, (kind, own, ps, subst (λ x. HasKind F x kind) f h, subst (λ (i : Json). BeginsParts F kind i own (ps ++ p ∷ [])) g b), 0, [], [], whole_value))
-    | inr t ↦ inr (t.0, t.1, suc t.2, t.3 ++ steps, _, part_of kind own steps t.5 h b m s)
-  ]
-
   -- JSON is in order if its parts are and none of its own elements falls
   pub whole_in_order : (x : List ℕ) (i : Json) (own : List ℕ) (ds : List Part) → SaysFirst F x i own ds → AreInOrder F ds → ((index : ℕ) → Falls F x i index → ⊥) → InOrder F x i
-  whole_in_order x i own ds s all none n path before y k r index f = elim (inward r) [
-    | inl e ↦ (let g : y ≡ x = ap (λ (q : Part). q.0) e in let h : k ≡ i = ap (λ (q : Part). q.1) e in none index (subst (λ (k : Json). Falls F x k index) h (subst (λ y. Falls F y k index) g f)))
-    | inr t ↦ (let p = t.0 in
-        let b = t.1 in
-        let u = first_says F x b.0 i b.1 own (b.2 ++ p ∷ []) ds b.3 b.4 (subst (λ (q : Kind). Says F q i own ds) (kind_one F s.1 b.3) s.2) in
-        all_at b.2 p u.0 (subst (λ (l : List Part). AreInOrder F l) u.2 all) t.2 t.3 t.4 y k t.5 index f)
-  ]
+  whole_in_order x i own ds s all none = whole_each F (λ x i. (index : ℕ) → Falls F x i index → ⊥) x i own ds s all none
 
   -- JSON without parts
   pub leaf_in_order : (x : List ℕ) (i : Json) (own : List ℕ) → SaysFirst F x i own [] → ((index : ℕ) → DigitsFall F x i index → ⊥) → InOrder F x i

@@ -13,14 +13,14 @@ use Rattle.borsh_json.specs.Table.{Lengths, Keys, texts, numbers, HasKind, utf8,
 use Rattle.borsh_json.proofs.OpeningLaws.{said, one_string, refuses_plain}
 
 -- a number's key is the JSON of the number
-pub key_number : (n : ℕ) (s : List ℕ) (b : Bool) → ((nat_le n 8 ≡ true) × (n ≤ 8)) ⊎ ((nat_le n 8 ≡ false) × (8 ≤ n)) → nat_le n 8 ≡ b → IsNumber n s (if b then number s else string s)
-key_number n s true (inl t) e = inl (t.1, refl)
+pub key_number : (n : ℕ) (s : List ℕ) (b : Bool) → ((nat_le 8 n ≡ true) × (8 ≤ n)) ⊎ ((nat_le 8 n ≡ false) × (n ≤ 8)) → nat_le 8 n ≡ b → IsNumber n s (if b then string s else number s)
+key_number n s true (inl t) e = inr (t.1, refl)
 key_number n s true (inr t) e = let q : true ≡ false = sym e ∙ t.0 in cc
 key_number n s false (inl t) e = let q : false ≡ true = sym e ∙ t.0 in cc
-key_number n s false (inr t) e = inr (t.1, refl)
+key_number n s false (inr t) e = inl (t.1, refl)
 
-pub tells : (n : ℕ) → ((nat_le n 8 ≡ true) × (n ≤ 8)) ⊎ ((nat_le n 8 ≡ false) × (8 ≤ n))
-tells n = elim (leb_tells n 8) [ inl h ↦ inl (h.0, h.1) | inr h ↦ inr (h.0, (let k = h.1 in omega arith)) ]
+pub tells : (n : ℕ) → ((nat_le 8 n ≡ true) × (8 ≤ n)) ⊎ ((nat_le 8 n ≡ false) × (n ≤ 8))
+tells n = elim (leb_tells 8 n) [ inl h ↦ inl (h.0, h.1) | inr h ↦ inr (h.0, (let k = h.1 in omega arith)) ]
 
 module _ (F : List ℕ → Option Form) (ns : List Named) (k : List ℕ) (keys : Keys) (s : List ℕ) where
   pub text_key : {A : Type 0} (l : Lengths) (t old new : List ℕ) → keys ≡ texts → HasKind F k (utf8 l) → t ≡ s → IsUtf8 t → (r : Result A ReadError) → MatchResult r (λ _. (own : List ℕ) × (new ≡ old ++ own) × IsPrefixed l (length t) t own) (λ e. DeniesRead IsUnexpected e ((own : List ℕ) × IsPrefixed l (length t) t own)) → MatchResult r (λ _. (own : List ℕ) × (new ≡ old ++ own) × SaysFirst F k (key_json keys s) own []) (λ e. FailsRead F k (key_json keys s) e)
@@ -31,4 +31,4 @@ module _ (F : List ℕ → Option Form) (ns : List Named) (k : List ℕ) (keys :
       (y.0, subst (λ (t : List ℕ). IsPrefixed l (length t) t y.0) z y.2.3)) d
 
   pub number_key : (n : Number) (own : List ℕ) → keys ≡ numbers n.size → HasKind F k (whole n.size n.is_signed n.is_non_zero) → IsWhole n.size n.is_signed n.is_non_zero s own → SaysFirst F k (key_json keys s) own []
-  number_key n own q h w = (whole n.size n.is_signed n.is_non_zero, h, (s, subst (λ (q : Keys). IsNumber n.size s (key_json q s)) (sym q) (key_number n.size s (nat_le n.size 8) (tells n.size) refl), w, refl))
+  number_key n own q h w = (whole n.size n.is_signed n.is_non_zero, h, (s, subst (λ (q : Keys). IsNumber n.size s (key_json q s)) (sym q) (key_number n.size s (nat_le 8 n.size) (tells n.size) refl), w, refl))

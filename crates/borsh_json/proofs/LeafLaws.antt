@@ -7,7 +7,6 @@ use Rattle.std.specs.List.{AllByRecursion}
 use Rattle.std.specs.Str.{bytes_eq}
 use Rattle.std.proofs.Math.Nat.{pow-le-pow_right}
 use Rattle.std.proofs.lemmas.Bool.Decides.{nat_tests}
-use Rattle.std.proofs.lemmas.Fmt.{length_signed_le}
 use Rattle.json.specs.Token as token
 use Rattle.json.specs.Json.{Json, null, boolean, number, string}
 use Rattle.json.specs.Print.{IsNumber as IsNumberText}
@@ -22,19 +21,23 @@ use Rattle.borsh_json.specs.declared.error.WriteError.{WriteError}
 use Rattle.borsh_json.specs.declared.kinds.Kind.{Kind as Found}
 use Rattle.borsh_json.specs.declared.kinds.Kind.TheVariants.{Number, Bool as Truth, Text, Bytes, Float, ByteList, Numbers, List as ElementList, Map as Entries, Row, Newtype, Object, Optional, Choice, Repeated}
 use Rattle.borsh_json.specs.declared.numbers.Number.{Number as NumberOf}
+use Rattle.borsh_json.specs.declared.output.LongNumbers.{LongNumbers}
+use Rattle.borsh_json.specs.declared.output.LongNumbers.TheVariants.{Plain, Quoted}
 use Rattle.borsh_json.specs.declared.output.Output.{Output}
-use Rattle.borsh_json.specs.Forms.{Form, primitive, sequence, tuple, newtype, unnamed, named, choice, shape_of_form, shapes}
+use Rattle.borsh_json.specs.Forms.{Form, primitive, sequence, tuple, choice, named, unnamed, no_fields, shape_of_form, shapes}
 use Rattle.borsh_json.specs.Found.{IsPrimitiveKind}
 use Rattle.borsh_json.specs.Integers.{IsEncoded}
-use Rattle.borsh_json.specs.Leaves.{Adds, HasSize, IsOpenedAs, IsWritten, RefusesValue, WritesHex, WritesLeaf}
+use Rattle.borsh_json.specs.Leaves.{Adds, HasSize, IsOpenedAs, IsWritten, RefusesValue, WritesHex, WritesLeaf, long_of, long_token}
 use Rattle.borsh_json.specs.NoJson.{IsNoJson, RefusesOwn}
 use Rattle.borsh_json.specs.Places.{IsKindOf}
-use Rattle.borsh_json.specs.Represents.{SaysFirst, HaveBytes, next_part}
+use Rattle.borsh_json.specs.Represents.{SaysFirst, HaveBytes}
 use Rattle.borsh_json.specs.Table.{Kind, no_bytes, truth, whole, float, float_size, raw, utf8, byte_list, list, row, inner, fields, optional, variants, entries, a_text, some_bytes, an_object, some_elements, nullable, by_name, number_types, number_kind, primitive_kind, DefinedKind, HasKind, InRange, IsFloat, IsHex, IsNumber, Part, Says}
 use Rattle.borsh_json.specs.Floats.{IsNan}
 use Rattle.borsh_json.proofs.FloatLaws.{format_one}
+use Rattle.borsh_json.proofs.FormKinds.{unnamed_is}
 use Rattle.borsh_json.proofs.ReaderLaws.{uncons}
 use Rattle.borsh_json.proofs.RepresentsLaws.{kind_one}
+use Rattle.borsh_json.proofs.WrittenLaws.{IsFormed, next_written}
 
 -- ---- lists and bytes
 pub front_one : (xs bs cs ds : List ℕ) → xs ++ bs ≡ cs ++ ds → length xs ≡ length cs → (xs ≡ cs) × (bs ≡ ds)
@@ -98,18 +101,6 @@ printable n false (negsuc m) h r = absurd r
 printable n true (pos m) h r = let p = power_8 n h in IsNumber-decimal m (omega arith)
 printable n true (negsuc m) h r = let p = power_8 n h in IsNumber-signed_decimal (negsuc m) (omega arith)
 
--- a number of at most four bytes has at most ten digits, and perhaps a sign
-pub short : (n : ℕ) (signed : Bool) (z : ℤ) → n ≤ 4 → InRange n signed z → length (signed_decimal z) ≤ 11
-short n signed z h r =
-    let p : 256 ^ n ≤ 2 ^ 32 = omega (arith, pow-le-pow_right {n = 256} (omega arith) h) in
-    by signed z r p
-  where
-    by : (signed : Bool) (z : ℤ) → InRange n signed z → 256 ^ n ≤ 2 ^ 32 → length (signed_decimal z) ≤ 11
-    by false (pos m) r p = length_signed_le 10 (pos m) (omega arith) (omega arith)
-    by false (negsuc m) r p = absurd r
-    by true (pos m) r p = length_signed_le 10 (pos m) (omega arith) (omega arith)
-    by true (negsuc m) r p = length_signed_le 10 (negsuc m) (omega arith) (omega arith)
-
 -- ---- sizes of primitives
 sized_if : (b : Bool) (k l : Kind) (n : ℕ) → (b ≡ true → HasSize k n) → HasSize l n → HasSize (if b then k else l) n
 sized_if true k l n p q = p refl
@@ -135,20 +126,20 @@ primitive_sized x n =
 
 -- ---- tokens
 module _ (F : List ℕ → Option Form) (x own : List ℕ) (old new : Output) where
-  pub wrote : (n : ℕ) (j : Json) → Adds (json_tokens j) old new → HasNumbers j → depth j ≤ n → SaysFirst F x j own [] → WritesLeaf F n x own old new
-  wrote n j a h d s = record { json = j; adds = a; numbers = h; nests = d; says = λ ps bs r. next_part s.0 own [] s.1 s.2 r }
+  wrote : (n : ℕ) (j : Json) → Adds (json_tokens j) old new → HasNumbers j → depth j ≤ n → (s : SaysFirst F x j own []) → IsFormed (long_of old) s.0 j → WritesLeaf F n x own old new
+  wrote n j a h d s f = record { json = j; adds = a; numbers = h; nests = d; says = λ ps bs r. next_written F s.0 own [] s.1 s.2 f r }
 
   pub put_null : Adds (token.null ∷ []) old new → SaysFirst F x null own [] → WritesLeaf F 0 x own old new
-  put_null a s = wrote 0 null a tt (omega arith) s
+  put_null a s = wrote 0 null a tt (omega arith) s (λ e t q. cc)
 
   pub put_string : (s : List ℕ) → Adds (token.string s ∷ []) old new → SaysFirst F x (string s) own [] → WritesLeaf F 0 x own old new
-  put_string s a says = wrote 0 (string s) a tt (omega arith) says
+  put_string s a says = wrote 0 (string s) a tt (omega arith) says (λ e t q. cc)
 
   pub put_boolean : (b : Bool) → Adds (token.boolean b ∷ []) old new → SaysFirst F x (boolean b) own [] → WritesLeaf F 0 x own old new
-  put_boolean b a s = wrote 0 (boolean b) a tt (omega arith) s
+  put_boolean b a s = wrote 0 (boolean b) a tt (omega arith) s (λ e t q. cc)
 
-  pub put_digits : (s : List ℕ) → Adds (token.number s ∷ []) old new → IsNumberText s → SaysFirst F x (number s) own [] → WritesLeaf F 0 x own old new
-  put_digits s a h says = wrote 0 (number s) a h (omega arith) says
+  pub put_digits : (s : List ℕ) → Adds (token.number s ∷ []) old new → IsNumberText s → (says : SaysFirst F x (number s) own []) → IsFormed (long_of old) says.0 (number s) → WritesLeaf F 0 x own old new
+  put_digits s a h says f = wrote 0 (number s) a h (omega arith) says f
 
 -- bytes in hexadecimal
 pub put_hex : (F : List ℕ → Option Form) (x own bytes : List ℕ) (old new : Output) (r : Result Unit WriteError) → WritesHex bytes old new r → ((j : Json) → IsHex j bytes → SaysFirst F x j own []) → IsWritten F 0 x own old new r
@@ -211,8 +202,15 @@ module _ (F : List ℕ → Option Form) (x own : List ℕ) (old new : Output) (n
   pub number_string : (s : List ℕ) → (non_zero ≡ true → z ≡ pos 0 → ⊥) → s ≡ signed_decimal z → 8 ≤ length own → Adds (token.string s ∷ []) old new → WritesLeaf F 0 x own old new
   number_string s f t b a = put_string F x own old new s a (says_number F x own n signed non_zero s z (string s) h number_there f t (inr (omega (arith, l.0, b), refl)))
 
-  pub number_plain : (s : List ℕ) → (non_zero ≡ true → z ≡ pos 0 → ⊥) → s ≡ signed_decimal z → length own ≤ 8 → IsNumberText s → Adds (token.number s ∷ []) old new → WritesLeaf F 0 x own old new
-  number_plain s f t b p a = put_digits F x own old new s a p (says_number F x own n signed non_zero s z (number s) h number_there f t (inl (omega (arith, l.0, b), refl)))
+  pub number_plain : (s : List ℕ) → (non_zero ≡ true → z ≡ pos 0 → ⊥) → s ≡ signed_decimal z → length own ≤ 8 → (long_of old ≡ Quoted → length own < 8) → IsNumberText s → Adds (token.number s ∷ []) old new → WritesLeaf F 0 x own old new
+  number_plain s f t b q p a =
+      put_digits F x own old new s a p (whole n signed non_zero, h, (s, inl (omega (arith, l.0, b), refl), (z, t, number_there.0, number_there.1, f), refl))
+      (λ e u i. ((λ c d w. (let v : whole n signed non_zero ≡ whole 8 c d = w in let size : n ≡ 8 = cc in let less = q e in omega (arith, l.0, less, size))), (λ g w. (let v : whole n signed non_zero ≡ float g = w in cc))))
+
+  -- of 64 bits
+  pub number_long : (s : List ℕ) → (non_zero ≡ true → z ≡ pos 0 → ⊥) → s ≡ signed_decimal z → length own ≡ 8 → IsNumberText s → (long : LongNumbers) → long_of old ≡ long → Adds (long_token long s ∷ []) old new → WritesLeaf F 0 x own old new
+  number_long s f t b p Plain e a = number_plain s f t (omega (arith, b)) (λ q. (let c : Plain ≡ Quoted = sym e ∙ q in cc)) p a
+  number_long s f t b p Quoted e a = number_string s f t (omega (arith, b)) a
 
 -- ---- definitions by what was found of them
 -- the kinds of primitives
@@ -301,11 +299,11 @@ module _ (F : List ℕ → Option Form) (ns : List Named) (x : List ℕ) where
   bare_form k (sequence w lo hi e) own parts (an_object t c) b o = absurd b
   bare_form k (sequence w lo hi e) own parts (some_elements t c u v) b o = absurd b
   bare_form k (tuple ps) own parts d b o = absurd (subst IsBare d b)
-  bare_form k (newtype p) own parts d b o = absurd (subst IsBare d b)
-  bare_form k (unnamed ps) own parts d b o = absurd (subst IsBare d b)
-  bare_form k (named fs) own parts d b o = absurd (subst IsBare d b)
   bare_form k (choice w vs) own parts (nullable t) b o = absurd b
   bare_form k (choice w vs) own parts (by_name t) b o = absurd b
+  bare_form k (named fs) own parts d b o = absurd (subst IsBare d b)
+  bare_form k (unnamed ps) own parts d b o = absurd (unnamed_is (λ k. IsBare k → ⊥) (λ xs b. b) (λ y b. b) ps (subst IsBare d b))
+  bare_form k no_fields own parts d b o = absurd (subst IsBare d b)
 
   -- the own bytes of a primitive, which has no parts
   pub bare_opened : (f : Form) (k : Kind) (own : List ℕ) (parts : List (List ℕ)) → IsOpenedAs F x f own parts → IsBare k → HasKind F x k → (parts ≡ []) × HasSize k (length own)

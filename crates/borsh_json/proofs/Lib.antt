@@ -1,4 +1,3 @@
-pub mod FormsLaws
 pub mod FloatLaws
 pub mod RepresentsLaws
 pub mod IntegerLaws
@@ -48,15 +47,14 @@ pub mod OrderLaws
 pub mod OrderNumbers
 pub mod PendingLaws
 pub mod OrderedLaws
-pub mod WaitingLaws
-pub mod SearchLaws
 pub mod UnorderedLaws
 pub mod KindOrders
-pub mod KindTells
-pub mod RankLaws
 pub mod DescentLaws
+pub mod FallenLaws
+pub mod VariantLaws
+pub mod CopyLaws
 pub mod KeyRanks
-pub mod SaidRanks
+pub mod WrittenLaws
 pub mod InOrderLaws
 pub mod AscentLaws
 pub mod PackedDescent

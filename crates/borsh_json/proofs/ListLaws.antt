@@ -1,6 +1,6 @@
 -- Texts, and lists of primitives.
 use Rattle.std.proofs.Common.{◌≡◌, ◌⊎◌, inl, inr, ℕ, suc, zero, ◌+◌, ◌*◌, ◌^◌, ◌<◌, ◌≤◌, List, [], ◌∷◌, ◌++◌, length, drop, Option, Some, refl, sym, ◌∙◌, ap, subst, arith, append_assoc, append-nil, length-append, option_map}
-use Rattle.std.proofs.Math.Nat.{le_of_mul-le-mul_right, mul-le-mul_right, suc-mul}
+use Rattle.std.proofs.Math.Nat.{le_of_mul-le-mul_right, mul-le-mul_left, mul-le-mul_right, suc-mul}
 use Rattle.std.specs.Prelude.{⊤, pos, IsUtf8}
 use Rattle.std.proofs.lemmas.Bool.{cases_lt}
 use Rattle.json.specs.Token.{Token}
@@ -18,18 +18,21 @@ use Rattle.borsh_json.specs.declared.error.WriteError.{WriteError}
 use Rattle.borsh_json.specs.declared.error.WriteError.TheVariants.{OutOfMemory, Refused, Element}
 use Rattle.borsh_json.specs.declared.kinds.Elements.{Elements}
 use Rattle.borsh_json.specs.declared.kinds.Kind.TheVariants.{Numbers}
+use Rattle.borsh_json.specs.declared.output.LongNumbers.{LongNumbers}
 use Rattle.borsh_json.specs.declared.output.Output.{Output}
-use Rattle.borsh_json.specs.Forms.{Form, primitive, sequence, tuple, newtype, unnamed, named, choice, form_of, shape_of_form, shapes, IsByte}
-use Rattle.borsh_json.specs.Leaves.{Adds, HasSize, Holds, IsOpenedAs, RefusesAt, RefusesValue, WritesLeaf}
+use Rattle.borsh_json.specs.Forms.{Form, primitive, sequence, tuple, choice, named, unnamed, no_fields, form_of, shape_of_form, shapes, IsByte}
+use Rattle.borsh_json.specs.Leaves.{Adds, HasSize, Holds, IsOpenedAs, RefusesAt, RefusesValue, WritesLeaf, long_of, AreWritten}
 use Rattle.borsh_json.specs.NoJson.{IsNoJson}
 use Rattle.borsh_json.specs.Places.{IsAt, IsKindOf, IsListOf, lengths_of}
-use Rattle.borsh_json.specs.Represents.{SaysFirst, HaveBytes, next_part}
+use Rattle.borsh_json.specs.Represents.{SaysFirst, HaveBytes}
 use Rattle.borsh_json.specs.Table.{Lengths, Kind, no_bytes, truth, whole, float, raw, utf8, byte_list, list, row, inner, fields, optional, variants, entries, a_text, some_bytes, an_object, some_elements, nullable, by_name, primitive_kind, DefinedKind, HasKind, IsHex, IsPrefixed, Part, Says, list_parts}
-use Rattle.borsh_json.proofs.FormsLaws.{shape_is}
+use Rattle.borsh_json.proofs.FormKinds.{unnamed_is}
+use Rattle.borsh_walks.proofs.Forms.{shape_is}
 use Rattle.borsh_json.proofs.FoundLaws.{full_primitive}
 use Rattle.borsh_json.proofs.LeafLaws.{defined, float_length, front_one, no_json, primitive_sized, tag_length, tag_one}
 use Rattle.borsh_json.proofs.ReaderLaws.{uncons}
 use Rattle.borsh_json.proofs.RepresentsLaws.{kind_one}
+use Rattle.borsh_json.proofs.WrittenLaws.{next_written}
 
 drop_front : (xs ys : List ℕ) (n : ℕ) → length xs ≡ n → drop n (xs ++ ys) ≡ ys
 drop_front [] ys zero e = refl
@@ -39,10 +42,10 @@ drop_front (x ∷ xs) ys (suc n) e = drop_front xs ys n (omega arith)
 
 -- ---- tokens
 pub none_added : (out : Output) → Adds [] out out
-none_added out before h = subst (λ ts. Holds out ts) (sym (append-nil before)) h
+none_added out = (refl, λ before h. subst (λ ts. Holds out ts) (sym (append-nil before)) h)
 
 pub added : (xs ys : List Token) (a b c : Output) → Adds xs a b → Adds ys b c → Adds (xs ++ ys) a c
-added xs ys a b c f g before h = subst (λ ts. Holds c ts) (append_assoc before xs ys) (g (before ++ xs) (f before h))
+added xs ys a b c f g = (g.0 ∙ f.0, λ before h. subst (λ ts. Holds c ts) (append_assoc before xs ys) (g.1 (before ++ xs) (f.1 before h)))
 
 -- ---- lengths
 -- a length is the only one, or its prefix tells it
@@ -53,10 +56,10 @@ pub tells_count : (f : Form) → IsCounted (shape_of_form f) → TellsCount (len
 tells_count (primitive n) c = inr (omega arith, omega arith)
 tells_count (sequence w lo hi e) c = c
 tells_count (tuple ps) c = inr (omega arith, omega arith)
-tells_count (newtype y) c = inr (omega arith, omega arith)
-tells_count (unnamed ps) c = inr (omega arith, omega arith)
-tells_count (named fs) c = inr (omega arith, omega arith)
 tells_count (choice w vs) c = inr (omega arith, omega arith)
+tells_count (named fs) c = inr (omega arith, omega arith)
+tells_count (unnamed ps) c = inr (omega arith, omega arith)
+tells_count no_fields c = inr (omega arith, omega arith)
 
 count_one : (l : Lengths) (k m : ℕ) → TellsCount l → l.least ≤ k → k ≤ l.greatest → l.least ≤ m → m ≤ l.greatest → tag l.width (pos k) ≡ tag l.width (pos m) → k ≡ m
 count_one l k m (inl c) a b p q e = let s = c.1 in omega (arith, s, a, b, p, q)
@@ -139,11 +142,11 @@ module _ (F : List ℕ → Option Form) (x own es : List ℕ) (parts : List (Lis
   list_form k (sequence w lo hi e) n (an_object s c) b p o t = absurd b
   list_form k (sequence w lo hi e) n (some_elements s c u v) b p o t = listed w lo hi e n (p e refl) o t
   list_form k (tuple ps) n d b p o t = absurd (subst IsListKind d b)
-  list_form k (newtype y) n d b p o t = absurd (subst IsListKind d b)
-  list_form k (unnamed ps) n d b p o t = absurd (subst IsListKind d b)
-  list_form k (named fs) n d b p o t = absurd (subst IsListKind d b)
   list_form k (choice w vs) n (nullable s) b p o t = absurd b
   list_form k (choice w vs) n (by_name s) b p o t = absurd b
+  list_form k (named fs) n d b p o t = absurd (subst IsListKind d b)
+  list_form k (unnamed ps) n d b p o t = absurd (unnamed_is (λ k. IsListKind k → ⊥) (λ xs b. b) (λ y b. b) ps (subst IsListKind d b))
+  list_form k no_fields n d b p o t = absurd (subst IsListKind d b)
 
   -- a node's elements are those of its definition
   pub list_node : (k : Kind) (d : Definition) (n : ℕ) → DefinedKind F x (form_of d) k → IsListKind k → ((e : List ℕ) → HasElements k e → F e ≡ Some (primitive (suc n))) → Opens (shapes F) (shape_of_form (form_of d)) own parts → AreElementsOf (shape_of d) own es → (parts ≡ []) × IsListed (lengths_of (form_of d)) own es (suc n)
@@ -173,10 +176,10 @@ module _ (F : List ℕ → Option Form) (x own es : List ℕ) (l : Lengths) (i :
 
 -- ---- refusals
 -- of a list, of which an element is refused
-pub list_refused : (F : List ℕ → Option Form) (e : WriteError) (l : Lengths) (x y own front piece rest : List ℕ) → HasKind F x (list l y) → own ≡ front ++ (piece ++ rest) → RefusesAt F y piece e → (IsNoJson F y piece → IsNoJson F x own) → RefusesValue F x own e
-list_refused F OutOfMemory l x y own front piece rest k w h f = tt
-list_refused F (Refused r) l x y own front piece rest k w h f = absurd h
-list_refused F (Element i r) l x y own front piece rest k w h f = (l, y, front, piece, rest, k, w, h, f h.1)
+pub list_refused : (F : List ℕ → Option Form) (e : WriteError) (l : Lengths) (x y own front piece rest : List ℕ) (n : ℕ) → HasKind F x (list l y) → own ≡ front ++ (piece ++ rest) → length front ≡ l.width + n * length piece → RefusesAt F n y piece e → (IsNoJson F y piece → IsNoJson F x own) → RefusesValue F x own e
+list_refused F OutOfMemory l x y own front piece rest n k w b h f = tt
+list_refused F (Refused r) l x y own front piece rest n k w b h f = absurd h
+list_refused F (Element i r) l x y own front piece rest n k w b h f = (l, y, front, piece, rest, k, w, subst (λ (i : ℕ). length front ≡ l.width + i * length piece) (sym h.0) b, h.1, f h.1.1)
 
 -- ---- lists of primitives
 items_more : (F : List ℕ → Option Form) (e : List ℕ) (k : Kind) (size : ℕ) → HasKind F e k → HasSize k size → (j : Json) (a : List ℕ) (qs : List Part) → SaysFirst F e j a qs → (length a ≡ size) × (qs ≡ [])
@@ -199,28 +202,30 @@ items_more F e k size h l j a qs s = sized k l (subst (λ k. Says F k j a qs) (k
     sized (entries m keys d v) l s = absurd l
 
 -- these bytes are elements, so many of all; behind what was written any items that may follow make an array
-pub record IsArrayWith (F : List ℕ → Option Form) (e done : List ℕ) (n : ℕ) (written : List Token) (js : Items) : Type 0 where
+pub record IsArrayWith (F : List ℕ → Option Form) (long : LongNumbers) (e done : List ℕ) (n : ℕ) (written : List Token) (js : Items) : Type 0 where
   pub all : Items
   pub tokens : written ++ items_tokens js ≡ token.begin_array ∷ items_tokens all
   pub numbers : ItemsHaveNumbers js → ItemsHaveNumbers all
   pub nests : items_depth all ≤ items_depth js
   pub count : length (list_parts e all) ≡ n + length (list_parts e js)
-  pub says : (ps : List Part) (bs : List ℕ) → HaveBytes F (list_parts e js ++ ps) bs → HaveBytes F (list_parts e all ++ ps) (done ++ bs)
+  pub says : (ps : List Part) (bs : List ℕ) → AreWritten F long (list_parts e js ++ ps) bs → AreWritten F long (list_parts e all ++ ps) (done ++ bs)
 
-pub record IsListing (F : List ℕ → Option Form) (e : List ℕ) (size : ℕ) (all rest : List ℕ) (old now : Output) : Type 0 where
+pub record IsListing (F : List ℕ → Option Form) (e : List ℕ) (size : ℕ) (all rest : List ℕ) (count : ℕ) (old now : Output) : Type 0 where
   pub done : List ℕ
-  pub count : ℕ
   pub whole : all ≡ done ++ rest
   pub size_of : length done ≡ count * size
   pub written : List Token
   pub adds : Adds written old now
-  pub begun : (js : Items) → IsArrayWith F e done count written js
+  pub begun : (js : Items) → IsArrayWith F (long_of old) e done count written js
+
+-- none were written, or as many may be as an index counts
+abbrev pub IsIndexed : ℕ → List ℕ → List ℕ → Type 0
+IsIndexed n all rest = ((n ≡ 0) × (rest ≡ all)) ⊎ (length all < 18446744073709551616)
 
 module _ (F : List ℕ → Option Form) (e : List ℕ) (size : ℕ) (all : List ℕ) (old now : Output) where
-  pub listing_start : Adds (token.begin_array ∷ []) old now → IsListing F e size all all old now
+  pub listing_start : Adds (token.begin_array ∷ []) old now → IsListing F e size all all 0 old now
   listing_start a = record {
     done = [];
-    count = 0;
     whole = refl;
     size_of = omega arith;
     written = token.begin_array ∷ [];
@@ -235,12 +240,11 @@ module _ (F : List ℕ → Option Form) (e : List ℕ) (size : ℕ) (all : List 
     };
   }
 
-  pub listing_more : (new : Output) (rest piece after : List ℕ) → WritesLeaf F 0 e piece now new → rest ≡ piece ++ after → length piece ≡ size → IsListing F e size all rest old now → IsListing F e size all after old new
-  listing_more new rest piece after w r l g = record {
+  pub listing_more : (new : Output) (rest piece after : List ℕ) (n : ℕ) → WritesLeaf F 0 e piece now new → rest ≡ piece ++ after → length piece ≡ size → IsListing F e size all rest n old now → IsListing F e size all after (suc n) old new
+  listing_more new rest piece after n w r l g = record {
     done = g.done ++ piece;
-    count = suc g.count;
     whole = g.whole ∙ ap (λ l. g.done ++ l) r ∙ sym (append_assoc g.done piece after);
-    size_of = length-append g.done piece ∙ (let a = g.size_of in let b = suc-mul g.count size in omega (arith, a, b, l));
+    size_of = length-append g.done piece ∙ (let a = g.size_of in let b = suc-mul n size in omega (arith, a, b, l));
     written = g.written ++ json_tokens w.json;
     adds = added g.written (json_tokens w.json) old now new g.adds w.adds;
     begun = λ js. (let b = g.begun (item w.json js) in record {
@@ -249,28 +253,36 @@ module _ (F : List ℕ → Option Form) (e : List ℕ) (size : ℕ) (all : List 
       numbers = λ h. b.numbers (w.numbers, h);
       nests = (let d = w.nests in let m = b.nests in omega (arith, d, m));
       count = (let c = b.count in omega (arith, c));
-      says = λ ps bs h. subst (λ (l : List ℕ). HaveBytes F (list_parts e b.all ++ ps) l) (sym (append_assoc g.done piece bs)) (b.says ps (piece ++ bs) (w.says (list_parts e js ++ ps) bs h));
+      says = λ ps bs h. subst (λ (l : List ℕ). AreWritten F (long_of old) (list_parts e b.all ++ ps) l) (sym (append_assoc g.done piece bs)) (b.says ps (piece ++ bs) (subst (λ long. AreWritten F long (list_parts e js ++ ps) bs → AreWritten F long ((e, w.json) ∷ (list_parts e js ++ ps)) (piece ++ bs)) g.adds.0 (w.says (list_parts e js ++ ps) bs) h));
     });
   }
 
   -- some are left: enough for one
-  pub one_more : (rest : List ℕ) (k : ℕ) → length all ≡ k * size → (length rest ≡ 0 → ⊥) → IsListing F e size all rest old now → size ≤ length rest
-  one_more rest k l some g =
+  pub one_more : (rest : List ℕ) (n k : ℕ) → length all ≡ k * size → (length rest ≡ 0 → ⊥) → IsListing F e size all rest n old now → size ≤ length rest
+  one_more rest n k l some g =
       let s = ap (λ l. length l) g.whole ∙ length-append g.done rest in
       let d = g.size_of in
-      let t : k * size ≡ g.count * size + length rest = omega (arith, s, d, l) in
-      fits (cases_lt g.count k) t
+      let t : k * size ≡ n * size + length rest = omega (arith, s, d, l) in
+      fits (cases_lt n k) t
     where
-      fits : (g.count < k) ⊎ (k ≤ g.count) → k * size ≡ g.count * size + length rest → size ≤ length rest
-      fits (inl h) t = let m = mul-le-mul_right {m = suc g.count} {n = k} size h in let u = suc-mul g.count size in omega (arith, t, m, u)
-      fits (inr h) t = let m = mul-le-mul_right {m = k} {n = g.count} size h in absurd (some (omega (arith, t, m)))
+      fits : (n < k) ⊎ (k ≤ n) → k * size ≡ n * size + length rest → size ≤ length rest
+      fits (inl h) t = let m = mul-le-mul_right {m = suc n} {n = k} size h in let u = suc-mul n size in omega (arith, t, m, u)
+      fits (inr h) t = let m = mul-le-mul_right {m = k} {n = n} size h in absurd (some (omega (arith, t, m)))
+
+  -- and no more were written than all have bytes
+  pub few : (rest : List ℕ) (n : ℕ) → size ≤ length rest → 1 ≤ size → IsListing F e size all rest n old now → suc n ≤ length all
+  few rest n room some g =
+      let a = ap (λ l. length l) g.whole ∙ length-append g.done rest in
+      let b = g.size_of in
+      let m : n * 1 ≤ n * size = mul-le-mul_left n some in
+      omega (arith, a, b, m, room, some)
 
   -- all were written: the array says the list
-  pub listing_end : (new : Output) (x own : List ℕ) (l : Lengths) → IsListing F e size all [] old now → Adds (token.end_array ∷ []) now new → HasKind F x (list l e) → IsListed l own all size → 1 ≤ size → WritesLeaf F 1 x own old new
-  listing_end new x own l g a h i some =
+  pub listing_end : (new : Output) (x own : List ℕ) (l : Lengths) (c : ℕ) → IsListing F e size all [] c old now → Adds (token.end_array ∷ []) now new → HasKind F x (list l e) → IsListed l own all size → 1 ≤ size → WritesLeaf F 1 x own old new
+  listing_end new x own l c g a h i some =
       let b = g.begun no_items in
       let n = length (list_parts e b.all) in
-      let same : i.0 ≡ n = (let c = b.count in let d = counted i.0 g.count some (sym i.4 ∙ ap (λ l. length l) (g.whole ∙ append-nil g.done) ∙ g.size_of) in omega (arith, c, d)) in
+      let same : i.0 ≡ n = (let q = b.count in let d = counted i.0 c some (sym i.4 ∙ ap (λ l. length l) (g.whole ∙ append-nil g.done) ∙ g.size_of) in omega (arith, q, d)) in
       let w : own ≡ tag l.width (pos n) ++ g.done = i.3 ∙ ap (λ k. tag l.width (pos k) ++ all) same ∙ ap (λ es. tag l.width (pos n) ++ es) (g.whole ∙ append-nil g.done) in
       record {
         json = array b.all;
@@ -281,7 +293,7 @@ module _ (F : List ℕ → Option Form) (e : List ℕ) (size : ℕ) (all : List 
             let first = tag l.width (pos n) ++ [] in
             let s : Says F (list l e) (array b.all) first (list_parts e b.all) = (b.all, refl, refl, (subst (λ k. l.least ≤ k) same i.1, subst (λ k. k ≤ l.greatest) same i.2, refl)) in
             let q : first ++ (g.done ++ bs) ≡ own ++ bs = ap (λ l. l ++ (g.done ++ bs)) (append-nil (tag l.width (pos n))) ∙ sym (append_assoc (tag l.width (pos n)) g.done bs) ∙ ap (λ o. o ++ bs) (sym w) in
-            subst (λ (l : List ℕ). HaveBytes F ((x, array b.all) ∷ ps) l) q (next_part (list l e) first (list_parts e b.all) h s (b.says ps bs r));
+            subst (λ (l : List ℕ). AreWritten F (long_of old) ((x, array b.all) ∷ ps) l) q (next_written F (list l e) first (list_parts e b.all) h s (λ e s q. cc) (b.says ps bs r));
       }
     where
       counted : (k m : ℕ) → 1 ≤ size → k * size ≡ m * size → k ≡ m
@@ -319,29 +331,32 @@ module _ (F : List ℕ → Option Form) (e : List ℕ) (k : Kind) (size : ℕ) (
       peel n js t.0 more ps (omega arith) (let a = f.0 in omega (arith, a, c, d, m)) (subst (λ (l : List ℕ). HaveBytes F (list_parts e js ++ ps) l) t.2 (subst (λ (qs : List Part). HaveBytes F (qs ++ (list_parts e js ++ ps)) u.2) f.1 u.5))
 
   -- where an element is in a list
-  pub piece_there : (own all rest piece after : List ℕ) (old now : Output) (w : Lengths) → IsListing F e size all rest old now → (i : IsListed w own all size) → rest ≡ piece ++ after → (front : List ℕ) × (own ≡ front ++ (piece ++ after))
-  piece_there own all rest piece after old now w g i r =
-      let first = tag w.width (pos i.0) in
-      (first ++ g.done, i.3 ∙ ap (λ l. first ++ l) (g.whole ∙ ap (λ l. g.done ++ l) r) ∙ sym (append_assoc first g.done (piece ++ after)))
+  pub piece_there : (own all rest piece after : List ℕ) (old now : Output) (w : Lengths) (n : ℕ) → IsListing F e size all rest n old now → (i : IsListed w own all size) → rest ≡ piece ++ after → length piece ≡ size → (front : List ℕ) × (own ≡ front ++ (piece ++ after)) × (length front ≡ w.width + n * length piece)
+  piece_there own all rest piece after old now w n g i r p =
+      let first = tag w.width (pos i.0) in (
+        first ++ g.done,
+        i.3 ∙ ap (λ l. first ++ l) (g.whole ∙ ap (λ l. g.done ++ l) r) ∙ sym (append_assoc first g.done (piece ++ after)),
+        length-append first g.done ∙ (let a = tag_length w.width (pos i.0) in let b = g.size_of ∙ ap (λ s. n * s) (sym p) in omega (arith, a, b)),
+      )
 
   -- an element that no JSON says, in a list
-  pub no_list : (x own all rest piece after : List ℕ) (old now : Output) (w : Lengths) → IsListing F e size all rest old now → HasKind F x (list w e) → TellsCount w → IsListed w own all size → rest ≡ piece ++ after → length piece ≡ size → 1 ≤ size → IsNoJson F e piece → IsNoJson F x own
-  no_list x own all rest piece after old now w g kind c i r p some none = no_json F x own (list w e) kind (λ j a qs bs cs s same ps b.
+  pub no_list : (x own all rest piece after : List ℕ) (old now : Output) (w : Lengths) (n : ℕ) → IsListing F e size all rest n old now → HasKind F x (list w e) → TellsCount w → IsListed w own all size → rest ≡ piece ++ after → length piece ≡ size → 1 ≤ size → IsNoJson F e piece → IsNoJson F x own
+  no_list x own all rest piece after old now w n g kind c i r p some none = no_json F x own (list w e) kind (λ j a qs bs cs s same ps b.
       let f = s.3 in
       let o = listed_one w i.0 (length qs) own all [] bs cs a c i.1 i.2 f.0 f.1 i.3 f.2 same in
       let back : all ++ bs ≡ g.done ++ (piece ++ (after ++ bs)) = ap (λ l. l ++ bs) (g.whole ∙ ap (λ l. g.done ++ l) r) ∙ append_assoc g.done (piece ++ after) bs ∙ ap (λ l. g.done ++ l) (append_assoc piece after bs) in
       let there = subst (λ (qs : List Part). HaveBytes F (qs ++ ps) (g.done ++ (piece ++ (after ++ bs)))) s.2 (subst (λ (l : List ℕ). HaveBytes F (qs ++ ps) l) (sym o.1 ∙ back) b) in
-      let q = peel g.count s.0 g.done (piece ++ (after ++ bs)) ps (subst (λ n. g.count < n) (o.0 ∙ ap (λ (l : List Part). length l) s.2) (fewer i.0 i.4)) g.size_of there in
+      let q = peel n s.0 g.done (piece ++ (after ++ bs)) ps (subst (λ m. n < m) (o.0 ∙ ap (λ (l : List Part). length l) s.2) (fewer i.0 i.4)) g.size_of there in
       none q.0 q.1 (after ++ bs) q.2)
     where
-      fewer : (n : ℕ) → length all ≡ n * size → g.count < n
-      fewer n e =
+      fewer : (m : ℕ) → length all ≡ m * size → n < m
+      fewer m e =
           let a = ap (λ l. length l) (g.whole ∙ ap (λ l. g.done ++ l) r) ∙ length-append g.done (piece ++ after) in
           let b = length-append piece after in
           let d = g.size_of in
-          elim (cases_lt g.count n) [
+          elim (cases_lt n m) [
             | inl h ↦ h
-            | inr h ↦ (let m = mul-le-mul_right {m = n} {n = g.count} size h in absurd (omega (arith, a, b, d, e, m, p, some)))
+            | inr h ↦ (let s = mul-le-mul_right {m = m} {n = n} size h in absurd (omega (arith, a, b, d, e, s, p, some)))
           ]
 
 -- a list of primitives that was found, and its elements

@@ -2,8 +2,6 @@
 use Rattle.std.proofs.Common.{◌≡◌, inl, inr, ℕ, suc, zero, ◌+◌, ◌-◌, ◌*◌, ◌<◌, ◌≤◌, List, [], ◌∷◌, ◌++◌, length, map, replicate, drop, Bool, false, Option, Some, None, refl, sym, ◌∙◌, ap, subst, arith, append_assoc, append-nil, length-append}
 use Rattle.std.specs.Prelude.{ℤ, pos, codes, All, IfSome}
 use Rattle.std.specs.List.{AllByRecursion}
-use Rattle.std.specs.declared.cmp.Ordering.{Ordering}
-use Rattle.std.specs.declared.cmp.Ordering.TheVariants.{Less}
 use Rattle.std.proofs.Math.Nat.{suc-mul, zero-mul}
 use Rattle.std.proofs.lemmas.List.{length-replicate}
 use Rattle.json.specs.Json.{Json, array, string, Items, no_items, item, Members}
@@ -13,28 +11,27 @@ use Rattle.borsh_values.specs.Nodes.{packed_size, OpensElements, Opens}
 use Rattle.borsh_values.specs.Cursor.{OpensOnce}
 use Rattle.borsh_values.proofs.MemberLaws.{same_front}
 use Rattle.borsh_json.specs.Checked.{Due, one, ascending, IsOnly, AreChecked, empty, plain, collection, packed, elements_end, next_element}
-use Rattle.borsh_json.specs.Descents.{HasKeys, NumbersDescend}
-use Rattle.borsh_json.specs.Forms.{Form, primitive, sequence, tuple, newtype, unnamed, named, choice, shape_of_form, shapes, HasNoBytes, IsList, IsByte}
+use Rattle.borsh_json.specs.Descents.{HasKeys, PrimitivesDescend}
+use Rattle.borsh_json.specs.Forms.{Form, primitive, sequence, tuple, choice, named, unnamed, no_fields, shape_of_form, shapes, HasNoBytes, IsList, IsByte}
 use Rattle.borsh_json.specs.Found.{IsSet}
 use Rattle.borsh_json.specs.Frames.{AreInOrder, IsListKind}
 use Rattle.borsh_json.specs.InOrder.{DigitsFall, ItemsFall, Falls, InOrder}
 use Rattle.borsh_json.specs.Leaves.{HasSize}
-use Rattle.borsh_json.specs.Ordered.{numbers, HasOrder, Ranked, a_value, Rank, no_rank, more_rank, Compare, Continues}
+use Rattle.borsh_json.specs.Ordered.{Compared, a_value, IsAtLeast, all_equal, first_above, first_equal}
 use Rattle.borsh_json.specs.Represents.{SaysFirst, HaveBytes, none_left, next_part}
 use Rattle.borsh_json.specs.Table.{Lengths, Keys, Kind, no_bytes, truth, whole, float, raw, utf8, byte_list, list, row, inner, fields, optional, variants, entries, primitive_kind, a_text, some_bytes, an_object, some_elements, nullable, by_name, DefinedKind, HasKind, IsPrefixed, Part, row_parts, list_parts, field_parts, IsVariant, this, that, Entry, entry_parts, IsArray, Says}
-use Rattle.borsh_json.proofs.BytesFall.{unsigned, bytes_descend, set_ordered}
-use Rattle.borsh_json.proofs.DescentLaws.{all_left, all_right}
-use Rattle.borsh_json.proofs.FormKinds.{map_elements, form_known}
+use Rattle.borsh_json.proofs.BytesFall.{bytes_descend}
+use Rattle.borsh_json.proofs.DescentLaws.{all_left, all_right, packed_alone}
+use Rattle.borsh_json.proofs.FormKinds.{map_elements, form_known, shaped}
 use Rattle.borsh_json.proofs.FoundLaws.{full_list, full_primitive, list_element, zero_part}
 use Rattle.borsh_json.proofs.InOrderLaws.{items_said, keys_one, whole_in_order}
+use Rattle.borsh_json.proofs.WrittenLaws.{divided}
 use Rattle.borsh_json.proofs.LeafLaws.{primitive_sized, float_length}
 use Rattle.borsh_json.proofs.NameLaws.{packed_primitive}
-use Rattle.borsh_json.proofs.OrderLaws.{clash, numbers_step}
+use Rattle.borsh_json.proofs.OrderLaws.{clash, moved}
 use Rattle.borsh_json.proofs.OrderNumbers.{long_tag}
-use Rattle.borsh_json.proofs.RankLaws.{shaped}
-use Rattle.borsh_json.proofs.ReaderLaws.{field_front, uncons, split, no_parts}
+use Rattle.borsh_json.proofs.ReaderLaws.{mapped, field_front, uncons, split, no_parts}
 use Rattle.borsh_json.proofs.RepresentsLaws.{hex_one, kind_one, bytes_one}
-use Rattle.borsh_json.proofs.SaidRanks.{row_front, defined}
 
 -- all bytes are below 256
 abbrev AreBytes : List ℕ → Type 0
@@ -68,9 +65,21 @@ named_front : (e : List ℕ) (qs rs : List Part) → AreNamed e (qs ++ rs) → A
 named_front e [] rs h = tt
 named_front e (q ∷ qs) rs h = (h.0, named_front e qs rs h.1)
 
+-- parts of a row, one after another
+row_front : (x : List ℕ) (xs : List (List ℕ)) (js : Items) (qs : List Part) → row_parts (x ∷ xs) js ≡ Some qs → (j : Json) × (is : Items) × (ps : List Part) × (row_parts xs is ≡ Some ps) × (qs ≡ (x, j) ∷ ps)
+row_front x xs no_items qs e = cc
+row_front x xs (item j js) qs e = let m = mapped (λ ps. (x, j) ∷ ps) (row_parts xs js) e in (j, js, m.0, m.1, sym m.2)
+
 module _ (F : List ℕ → Option Form) where
   abbrev C : List ℕ → Option Shape
   C = shapes F
+
+  defined : {x : List ℕ} {kind : Kind} (d : Form) → F x ≡ Some d → (HasNoBytes F x → ⊥) → HasKind F x kind → DefinedKind F x d kind
+  defined d c n (inl h) = absurd (n h.0)
+  defined {x = x} {kind = kind} d c n (inr h) =
+      let g : Some h.1 ≡ Some d = sym h.2 ∙ c in
+      let e : h.1 ≡ d = cc in
+      subst (λ d. DefinedKind F x d kind) e h.3
 
   -- ---- parts and names
   -- the parts have these names, but for values without bytes, which are no parts, and tuples of two, which may be two parts
@@ -112,14 +121,14 @@ module _ (F : List ℕ → Option Form) where
   ended : {e k all : List ℕ} {b : Option (List ℕ)} {ds : List Due} → AreChecked F (ascending e k zero b ∷ ds) all → AreChecked F ds all
   ended (elements_end a) = a
 
-  next : {e k all : List ℕ} {n : ℕ} {b : Option (List ℕ)} {ds : List Due} → AreChecked F (ascending e k (suc n) b ∷ ds) all → IfSome b (λ earlier. (r : Ordering) → Compare F (a_value k ∷ []) (a_value k ∷ []) earlier all r → r ≡ Less) × AreChecked F (one e ∷ ascending e k n (Some all) ∷ ds) all
+  next : {e k all : List ℕ} {n : ℕ} {b : Option (List ℕ)} {ds : List Due} → AreChecked F (ascending e k (suc n) b ∷ ds) all → IfSome b (λ earlier. IsAtLeast F (a_value k ∷ []) earlier all → ⊥) × AreChecked F (one e ∷ ascending e k n (Some all) ∷ ds) all
   next (next_element f a) = (f, a)
 
   skipped : {x all : List ℕ} {ds : List Due} → HasNoBytes F x → AreChecked F (one x ∷ ds) all → AreChecked F ds all
   skipped z (empty h a) = a
   skipped z (plain own parts full needs only a) = absurd (full z)
   skipped z (collection own n keys p only a) = absurd (full_list F keys.0 z)
-  skipped z (packed own n signed set order rise only a) = absurd (full_list F set.0 z)
+  skipped z (packed own n set size rise only a) = absurd (full_list F set.0 z)
 
   parted : {e k v all : List ℕ} {ds : List Due} → F e ≡ Some (tuple (k ∷ v ∷ [])) → AreChecked F (one e ∷ ds) all → AreChecked F (one k ∷ one v ∷ ds) all
   parted {e} c (empty z a) = let d = shaped (F e) c in empty (zero_part F d z first) (empty (zero_part F d z (later first)) a)
@@ -127,7 +136,7 @@ module _ (F : List ℕ → Option Form) where
       let o = only_one (tuple (k ∷ v ∷ [])) c only [] (k ∷ v ∷ []) (own ++ bs) bs (refl, refl) refl in
       subst (λ l. AreChecked F (one k ∷ one v ∷ ds) l) (sym o.1) (subst (λ (l : List (List ℕ)). AreChecked F (map one l ++ ds) bs) (sym o.2) a)
   parted c (collection own n keys p only a) = absurd (clash (F _) c keys.0 (λ q. cc))
-  parted c (packed own n signed set order rise only a) = absurd (clash (F _) c set.0 (λ q. cc))
+  parted c (packed own n set size rise only a) = absurd (clash (F _) c set.0 (λ q. cc))
 
   -- the next name that is due
   due_first : (ds others : List Due) (x : List ℕ) (xs : List (List ℕ)) (all : List ℕ) → due_names ds ≡ x ∷ xs → AreChecked F (ds ++ others) all → (es : List Due) × (due_names es ≡ xs) × AreChecked F (one x ∷ (es ++ others)) all
@@ -185,7 +194,7 @@ module _ (F : List ℕ → Option Form) where
 
   number_said : {e own : List ℕ} {j : Json} {qs : List Part} (n : ℕ) → F e ≡ Some (primitive (suc n)) → SaysFirst F e j own qs → (length own ≡ suc n) × (qs ≡ [])
   number_said {e} {own} {j} {qs} n c s =
-      let k : s.0 ≡ primitive_kind e (suc n) = defined F (primitive (suc n)) c (full_primitive F c) s.1 in
+      let k : s.0 ≡ primitive_kind e (suc n) = defined (primitive (suc n)) c (full_primitive F c) s.1 in
       sized (primitive_kind e (suc n)) (suc n) j own qs (primitive_sized e (suc n)) (subst (λ (k : Kind). Says F k j own qs) k s.2)
 
   -- the parts match what is due of the bytes; the first of them may be numbers that were passed with the list that has them
@@ -275,6 +284,9 @@ module _ (F : List ℕ → Option Form) where
   listed this = first_variant
   listed (that i) = later_variant (listed i)
 
+  row_opens : (xs : List (List ℕ)) (j : Json) (own bs : List ℕ) (qs ps : List Part) → Says F (row xs) j own qs → Opened (shape.product xs) own bs qs ps
+  row_opens xs j own bs qs ps t = parts_open own bs qs ps (shape.product xs) xs (t.0, refl) (λ ys m. match_row xs t.1 qs t.3 m)
+
   value_opens : (x : List ℕ) (f : Form) (kind : Kind) (j : Json) (own bs : List ℕ) (qs ps : List Part) → DefinedKind F x f kind → F x ≡ Some f → Says F kind j own qs → HaveBytes F (qs ++ ps) bs → AreBytes (own ++ bs) → Opened (shape_of_form f) own bs qs ps
   value_opens x (primitive n) kind j own bs qs ps d c s h small =
       let t = sized (primitive_kind x n) n j own qs (primitive_sized x n) (subst (λ (k : Kind). Says F k j own qs) d s) in
@@ -286,15 +298,13 @@ module _ (F : List ℕ → Option Form) where
       let t = map_elements F w lo hi e c m in
       parts_open own bs qs ps (shape.sequence w lo hi e) (replicate (length s.1) e) (elements_open w lo hi e (length s.1) own (ap (λ d. packed_size d) (shaped (F e) t)) s.5.0 s.5.1 s.5.2) (λ xs n. subst (λ (l : List Part). Match (l ++ ps) (replicate (length s.1) e ++ xs)) (sym s.6) (match_entries keys e k v t s.1 n))
   value_opens x (sequence w lo hi e) kind j own bs qs ps (some_elements a b y z) c s h small = array_opens w lo hi e j own bs qs ps s h small (packed_size (C e)) refl
-  value_opens x (tuple xs) kind j own bs qs ps d c s h small =
-      let t = subst (λ (k : Kind). Says F k j own qs) d s in
-      parts_open own bs qs ps (shape.product xs) xs (t.0, refl) (λ ys m. match_row xs t.1 qs t.3 m)
-  value_opens x (newtype p) kind j own bs qs ps d c s h small =
+  value_opens x (tuple xs) kind j own bs qs ps d c s h small = row_opens xs j own bs qs ps (subst (λ (k : Kind). Says F k j own qs) d s)
+  value_opens x (unnamed []) kind j own bs qs ps d c s h small = row_opens [] j own bs qs ps (subst (λ (k : Kind). Says F k j own qs) d s)
+  value_opens x (unnamed (p ∷ [])) kind j own bs qs ps d c s h small =
       let t = subst (λ (k : Kind). Says F k j own qs) d s in
       one_opens own bs qs ps (shape.product (p ∷ [])) p j (t.0, refl) t.1
-  value_opens x (unnamed xs) kind j own bs qs ps d c s h small =
-      let t = subst (λ (k : Kind). Says F k j own qs) d s in
-      parts_open own bs qs ps (shape.product xs) xs (t.0, refl) (λ ys m. match_row xs t.1 qs t.3 m)
+  value_opens x (unnamed (p ∷ q ∷ xs)) kind j own bs qs ps d c s h small = row_opens (p ∷ q ∷ xs) j own bs qs ps (subst (λ (k : Kind). Says F k j own qs) d s)
+  value_opens x no_fields kind j own bs qs ps d c s h small = row_opens [] j own bs qs ps (subst (λ (k : Kind). Says F k j own qs) d s)
   value_opens x (named fs) kind j own bs qs ps d c s h small =
       let t = subst (λ (k : Kind). Says F k j own qs) d s in
       parts_open own bs qs ps (shape_of_form (named fs)) (map (λ (f : List ℕ × List ℕ). f.1) fs) (t.1, refl) (λ ys m. match_fields fs t.2 qs t.5 m)
@@ -315,7 +325,7 @@ module _ (F : List ℕ → Option Form) where
   module _ (others : List Due) (left : List ℕ) {x : List ℕ} {j : Json} {own bs : List ℕ} {qs ps : List Part} (says : SaysFirst F x j own qs) (more : HaveBytes F (qs ++ ps) bs) (small : AreBytes (own ++ bs)) where
     opened : {front cs : List ℕ} {parts : List (List ℕ)} → (HasNoBytes F x → ⊥) → IsOnly F x front parts → own ++ (bs ++ left) ≡ front ++ cs → (ds : List Due) (xs : List (List ℕ)) → due_names ds ≡ parts ++ xs → Match ps xs → AreChecked F (ds ++ others) cs → Locked others left (qs ++ ps) bs
     opened {front} {cs} full only e ds xs q m a =
-        let o = value_opens x only.0 says.0 j own bs qs ps (defined F only.0 only.1 full says.1) only.1 says.2 more small in
+        let o = value_opens x only.0 says.0 j own bs qs ps (defined only.0 only.1 full says.1) only.1 says.2 more small in
         let is = append_assoc own o.more (o.rest ++ left) ∙ ap (λ l. own ++ l) (sym (append_assoc o.more o.rest left) ∙ ap (λ l. l ++ left) (sym o.bytes_are)) in
         let u = only.2 (own ++ o.more) o.names (o.rest ++ left) cs o.opens (is ∙ e) in
         o.locked others left ds xs (q ∙ ap (λ l. l ++ xs) (sym u.2)) m (subst (λ l. AreChecked F (ds ++ others) l) (sym u.1) a)
@@ -328,7 +338,7 @@ module _ (F : List ℕ → Option Form) where
         subst (λ (l : List Part). Locked others left (l ++ ps) bs) (sym s.2) (due ds m (subst (λ l. AreChecked F (ds ++ others) l) (sym b) a))
     follow ds {all} (plain {bs = cs} front parts full needs only a) e m = opened full only e (map one parts ++ ds) (due_names ds) (due_parts parts ds) m (subst (λ (l : List Due). AreChecked F l cs) (sym (append_assoc (map one parts) ds others)) a)
     follow ds {all} (collection {e = y} {k = k} front n keys p only a) e m = opened (full_list F keys.0) only e (ascending y k n None ∷ ds) (due_names ds) refl m a
-    follow ds {all} (packed front n signed set order rise only a) e m = opened (full_list F set.0) only e ds (due_names ds) refl m a
+    follow ds {all} (packed front n set size rise only a) e m = opened (full_list F set.0) only e ds (due_names ds) refl m a
 
   module _ {others : List Due} {left : List ℕ} where
     -- behind the own bytes of the first part
@@ -347,18 +357,19 @@ module _ (F : List ℕ → Option Form) where
     passed (next_part {bs = bs} kind own qs h s r) k small = passed r (onward k (kind, h, s) r small refl) (behind own bs small)
 
   -- ---- elements that ascend
-  longer : {ts : List Ranked} {bs : List ℕ} {rs : List ℤ} (more : List ℕ) → Rank F ts bs rs → Rank F ts (bs ++ more) rs
-  longer more no_rank = no_rank
-  longer more (more_rank {t = t} {ts = ts} {bs = bs} {rs = rs} own zs us f r) = subst (λ l. Rank F (t ∷ ts) l (zs ++ rs)) (sym (append_assoc own bs more)) (more_rank own zs us f (longer more r))
+  longer : {ts : List Compared} {bs cs : List ℕ} (more most : List ℕ) → IsAtLeast F ts bs cs → IsAtLeast F ts (bs ++ more) (cs ++ most)
+  longer more most all_equal = all_equal
+  longer more most (first_above {t = t} {ts = ts} l r bs cs us f) = moved F {ts = t ∷ ts} refl (sym (append_assoc l bs more)) (sym (append_assoc r cs most)) (first_above l r (bs ++ more) (cs ++ most) us f)
+  longer more most (first_equal {t = t} {ts = ts} {bs = bs} {cs = cs} l r us f h) = moved F {ts = t ∷ ts} refl (sym (append_assoc l bs more)) (sym (append_assoc r cs most)) (first_equal l r us f (longer more most h))
 
-  longer_compare : (k xs ys more : List ℕ) (r : Ordering) → Compare F (a_value k ∷ []) (a_value k ∷ []) (xs ++ ys) ys r → Compare F (a_value k ∷ []) (a_value k ∷ []) (xs ++ (ys ++ more)) (ys ++ more) r
-  longer_compare k xs ys more r c = (c.0, c.1, subst (λ l. Rank F (a_value k ∷ []) l c.0) (append_assoc xs ys more) (longer more c.2), longer more c.3, c.4)
+  longer_keys : (k xs ys more : List ℕ) → IsAtLeast F (a_value k ∷ []) (xs ++ ys) ys → IsAtLeast F (a_value k ∷ []) (xs ++ (ys ++ more)) (ys ++ more)
+  longer_keys k xs ys more h = subst (λ l. IsAtLeast F (a_value k ∷ []) l (ys ++ more)) (append_assoc xs ys more) (longer more more h)
 
   -- two neighbours have these bytes, and the key of the second is above that of the first
   abbrev AreAbove : List ℕ → Part → Part → Type 0
   AreAbove k p q =
       (xs : List ℕ) × (ys : List ℕ) × (tail : List ℕ) × HaveBytes F (p ∷ []) xs × HaveBytes F (q ∷ []) ys
-      × ((r : Ordering) → Compare F (a_value k ∷ []) (a_value k ∷ []) (xs ++ (ys ++ tail)) (ys ++ tail) r → r ≡ Less)
+      × (IsAtLeast F (a_value k ∷ []) (xs ++ (ys ++ tail)) (ys ++ tail) → ⊥)
 
   module _ (e k : List ℕ) (ds : List Due) (left : List ℕ) where
     -- one element is passed
@@ -377,7 +388,7 @@ module _ (F : List ℕ → Option Form) where
         let f = (next t.5).0 in
         let is : t.1 ++ left ≡ s.0 ++ (s.1 ++ left) = ap (λ l. l ++ left) s.4 ∙ append_assoc s.0 s.1 left in
         let all : bytes ++ left ≡ t.0 ++ (s.0 ++ (s.1 ++ left)) = ap (λ l. l ++ left) t.4 ∙ append_assoc t.0 t.1 left ∙ ap (λ l. t.0 ++ l) is in
-        (t.0, s.0, s.1 ++ left, t.2, s.2, λ r c. f r (subst (λ l. Compare F (a_value k ∷ []) (a_value k ∷ []) (bytes ++ left) l r) (sym is) (subst (λ l. Compare F (a_value k ∷ []) (a_value k ∷ []) l (s.0 ++ (s.1 ++ left)) r) (sym all) c)))
+        (t.0, s.0, s.1 ++ left, t.2, s.2, λ c. f (subst (λ l. IsAtLeast F (a_value k ∷ []) (bytes ++ left) l) (sym is) (subst (λ l. IsAtLeast F (a_value k ∷ []) l (s.0 ++ (s.1 ++ left))) (sym all) c)))
     climb (o ∷ front) p q after b bytes same h small a =
         let t = up o (front ++ p ∷ q ∷ after) (length (front ++ p ∷ q ∷ after)) b bytes same.0 h small a in
         climb front p q after (Some (bytes ++ left)) t.1 same.1 t.3 (behind t.0 t.1 (subst (λ b. AreBytes b) t.4 small)) t.5
@@ -402,11 +413,6 @@ module _ (F : List ℕ → Option Form) where
         | inr t ↦ in_four l d e f.0 (length qs) [] own t.3
       ]
 
-  numbers_some : {e : List ℕ} {signed : Bool} (n : ℕ) → HasOrder F e (numbers n signed) → (m : ℕ) × (n ≡ suc m) × (F e ≡ Some (primitive (suc m)))
-  numbers_some n (inl z) = let p = z.1 in cc
-  numbers_some {e} zero (inr h) = absurd (h.0 (zeroed (shape.primitive 0) [] (shaped (F e) h.1.0) refl (λ p i. elim i [ ])))
-  numbers_some (suc m) (inr h) = (m, refl, h.1.0)
-
   -- ---- nothing falls
   falls_list : {x : List ℕ} {j : Json} {index : ℕ} → Falls F x j index → (e : List ℕ) × IsList F x e
   falls_list (inl d) = (d.1, d.7.0)
@@ -423,9 +429,9 @@ module _ (F : List ℕ → Option Form) where
   -- an element that falls isn't above the one before it
   fallen : {x : List ℕ} {j : Json} {index : ℕ} (f : ItemsFall F x j index) (k : List ℕ) → f.k ≡ k → AreAbove k (f.e, f.left) (f.e, f.right) → ⊥
   fallen f k key r =
-      let c = subst (λ k. Compare F (a_value k ∷ []) (a_value k ∷ []) (f.first ++ f.second) f.second f.result) key f.compares in
-      let d = subst (λ ys. Compare F (a_value k ∷ []) (a_value k ∷ []) (r.0 ++ ys) ys f.result) (bytes_one F f.right_says r.4) (subst (λ xs. Compare F (a_value k ∷ []) (a_value k ∷ []) (xs ++ f.second) f.second f.result) (bytes_one F f.left_says r.3) c) in
-      f.falls (r.5 f.result (longer_compare k r.0 r.1 r.2 f.result d))
+      let c = subst (λ k. IsAtLeast F (a_value k ∷ []) (f.first ++ f.second) f.second) key f.falls in
+      let d = subst (λ ys. IsAtLeast F (a_value k ∷ []) (r.0 ++ ys) ys) (bytes_one F f.right_says r.4) (subst (λ xs. IsAtLeast F (a_value k ∷ []) (xs ++ f.second) f.second) (bytes_one F f.left_says r.3) c) in
+      r.5 (longer_keys k r.0 r.1 r.2 d)
 
   module _ (left : List ℕ) (ps : List Part) {x : List ℕ} {j : Json} {own bs : List ℕ} {qs : List Part} (says : SaysFirst F x j own qs) (more : HaveBytes F (qs ++ ps) bs) (small : AreBytes (own ++ bs)) (index : ℕ) where
     -- elements that come next
@@ -446,13 +452,12 @@ module _ (F : List ℕ → Option Form) where
         let r = climb e k ds (t.1 ++ left) f.before (f.e, f.left) (f.e, f.right) f.after None t.0 (subst (λ (l : List Part). AreNamed e l) parts all_e) (subst (λ (l : List Part). HaveBytes F l t.0) parts t.2) fine (subst (λ (l : List Part). AreChecked F (ascending e k (length l) None ∷ ds) (t.0 ++ (t.1 ++ left))) parts there) in
         fallen f k key r
 
-    module _ (cs : List ℕ) {e front : List ℕ} (n : ℕ) (signed : Bool) (set : IsSet F x e) (order : HasOrder F e (numbers n signed)) (rise : (i : ℕ) → NumbersDescend n signed (drop 4 front) i → ⊥) (only : IsOnly F x front []) (eq : own ++ (bs ++ left) ≡ front ++ cs) where
+    module _ (cs : List ℕ) {e front : List ℕ} (n : ℕ) (set : IsSet F x e) (size : F e ≡ Some (primitive (suc n))) (rise : (i : ℕ) → PrimitivesDescend F e (suc n) (drop 4 front) i → ⊥) (only : IsOnly F x front []) (eq : own ++ (bs ++ left) ≡ front ++ cs) where
       -- numbers as an array
       numbers_rise : ItemsFall F x j index → ⊥
       numbers_rise f =
           let said = items_said F x j index says.0 own qs f says.1 says.2 in
           let o = array_counts x e says.0 j f.items own qs says.1 set.0 said.0 f.is_array says.2 in
-          let m = numbers_some n order in
           let same : f.e ≡ e = list_element F x e 4 0 4294967295 set.0 f.e f.keys.0 in
           let keys : HasKeys F x e e = (set.0, inl (set.1, refl)) in
           let key : f.k ≡ e = keys_one F x f.e e f.k e f.keys keys in
@@ -461,41 +466,40 @@ module _ (F : List ℕ → Option Form) where
           let q : Part = (f.e, f.right) in
           let parts : qs ≡ f.before ++ p ∷ q ∷ f.after = said.1 ∙ f.parts in
           let all_e : AreNamed e qs = subst (λ (l : List Part). AreNamed e l) (sym said.1) (subst (λ y. AreNamed y (list_parts f.e f.items)) same (list_named f.e f.items)) in
-          let v = numbers_said e m.0 m.2 qs all_e t.2 in
+          let v = numbers_said e n size qs all_e t.2 in
           let is : own ++ t.0 ≡ tag 4 (pos (length qs)) ++ t.0 = ap (λ b. b ++ t.0) (o.1 ∙ append-nil (tag 4 (pos (length qs)))) in
           let there : (own ++ t.0) ++ (t.1 ++ left) ≡ own ++ (bs ++ left) = append_assoc own t.0 (t.1 ++ left) ∙ ap (λ l. own ++ l) (sym (append_assoc t.0 t.1 left) ∙ ap (λ l. l ++ left) (sym t.4)) in
           let fine = before (own ++ t.0) t.1 (subst (λ b. AreBytes b) (ap (λ b. own ++ b) t.4 ∙ sym (append_assoc own t.0 t.1)) small) in
-          let u = only_one (sequence 4 0 4294967295 e) set.0 only (own ++ t.0) [] (t.1 ++ left) cs (numbers_open 4 0 4294967295 e m.0 (length qs) (own ++ t.0) t.0 m.2 (omega arith) o.0 is v.0 fine) (there ∙ eq) in
+          let u = only_one (sequence 4 0 4294967295 e) set.0 only (own ++ t.0) [] (t.1 ++ left) cs (numbers_open 4 0 4294967295 e n (length qs) (own ++ t.0) t.0 size (omega arith) o.0 is v.0 fine) (there ∙ eq) in
           let body : drop 4 front ≡ t.0 = ap (λ b. drop 4 b) (sym u.0 ∙ is) in
           let a = split F t.2 f.before (p ∷ q ∷ f.after) parts in
           let b = split F a.3 (p ∷ []) (q ∷ f.after) refl in
           let c = split F b.3 (q ∷ []) f.after refl in
-          let passed_by = (numbers_said e m.0 m.2 f.before (named_front e f.before (p ∷ q ∷ f.after) (subst (λ (l : List Part). AreNamed e l) parts all_e)) a.2).0 in
-          let one_is = (numbers_said e m.0 m.2 (p ∷ []) (same, tt) b.2).0 in
-          let two_is = (numbers_said e m.0 m.2 (q ∷ []) (same, tt) c.2).0 in
-          let compares = subst (λ k. Compare F (a_value k ∷ []) (a_value k ∷ []) (f.first ++ f.second) f.second f.result) key f.compares in
-          let s = numbers_step F e n signed [] [] (f.first ++ f.second) f.second f.result order compares in
+          let passed_by = (numbers_said e n size f.before (named_front e f.before (p ∷ q ∷ f.after) (subst (λ (l : List Part). AreNamed e l) parts all_e)) a.2).0 in
+          let one_is = (numbers_said e n size (p ∷ []) (same, tt) b.2).0 in
+          let two_is = (numbers_said e n size (q ∷ []) (same, tt) c.2).0 in
           let first_is = bytes_one F b.2 f.left_says in
           let second_is = bytes_one F c.2 f.right_says in
-          let h = m.1 in
           let i = f.index_is in
-          let w = suc-mul 0 (suc m.0) in
-          let z = zero-mul (suc m.0) in
-          let one_n : 1 * suc m.0 ≡ n = omega (arith, h, w, z) in
-          let y_is = same_front f.first (tag n s.0) f.second s.2 s.6 (ap (λ l. length l) (sym first_is) ∙ one_is ∙ one_n ∙ sym (long_tag n s.0)) in
-          let z_is = same_front f.second (tag n s.1) [] s.3 (append-nil f.second ∙ s.7) (ap (λ l. length l) (sym second_is) ∙ two_is ∙ one_n ∙ sym (long_tag n s.1)) in
+          let w = suc-mul 0 (suc n) in
+          let z = zero-mul (suc n) in
+          let one_n : 1 * suc n ≡ suc n = omega (arith, w, z) in
+          let one_long : length f.first ≡ suc n = ap (λ l. length l) (sym first_is) ∙ one_is ∙ one_n in
+          let two_long : length f.second ≡ suc n = ap (λ l. length l) (sym second_is) ∙ two_is ∙ one_n in
+          let falls = subst (λ k. IsAtLeast F (a_value k ∷ []) (f.first ++ f.second) f.second) key f.falls in
+          let alone = packed_alone F e n size f.first f.second f.second [] one_long two_long (subst (λ r. IsAtLeast F (a_value e ∷ []) (f.first ++ f.second) r) (sym (append-nil f.second)) falls) in
           let at : length f.before ≡ index - 1 = omega (arith, i) in
-          rise index (subst (λ l. NumbersDescend n signed l index) (sym body) (record {
+          rise index (subst (λ l. PrimitivesDescend F e (suc n) l index) (sym body) (record {
             before = a.0;
+            first = f.first;
+            second = f.second;
             after = c.1;
-            y = s.0;
-            z = s.1;
             some = omega (arith, i);
-            passed = passed_by ∙ ap (λ i. i * suc m.0) at ∙ ap (λ n. (index - 1) * n) (sym h);
-            bytes_are = a.4 ∙ ap (λ l. a.0 ++ l) (b.4 ∙ ap (λ l. l ++ b.1) (first_is ∙ y_is.0) ∙ ap (λ l. tag n s.0 ++ l) (c.4 ∙ ap (λ l. l ++ c.1) (second_is ∙ z_is.0)));
-            first = s.4;
-            second = s.5;
-            falls = λ q. f.falls (subst (λ o. Continues F o [] [] s.2 s.3 f.result) q s.8);
+            passed = passed_by ∙ ap (λ i. i * suc n) at;
+            bytes_are = a.4 ∙ ap (λ l. a.0 ++ l) (b.4 ∙ ap (λ l. l ++ b.1) first_is ∙ ap (λ l. f.first ++ l) (c.4 ∙ ap (λ l. l ++ c.1) second_is));
+            first_is = one_long;
+            second_is = two_long;
+            falls = alone;
           }))
 
       -- bytes as digits
@@ -508,25 +512,22 @@ module _ (F : List ℕ → Option Form) where
             | inl s ↦ (let o = in_four d.0 d.1 e f.0 (length s.0) s.0 own s.2 in
                 let u = only_one (sequence 4 0 4294967295 e) set.0 only own [] (bs ++ left) cs (numbers_open 4 0 4294967295 e 0 (length s.0) own s.0 byte.1 (omega arith) o.0 o.1 (omega arith) (before own bs small)) eq in
                 let body : drop 4 front ≡ s.0 = ap (λ b. drop 4 b) (sym u.0 ∙ o.1) in
-                let m = numbers_some n order in
-                let g : Some (primitive (suc m.0)) ≡ Some (primitive 1) = sym m.2 ∙ byte.1 in
-                let one_is : suc m.0 ≡ 1 = cc in
-                let num : n ≡ 1 = m.1 ∙ one_is in
-                let sign = unsigned F e signed byte.0 (subst (λ n. HasOrder F e (numbers n signed)) num order) in
+                let g : Some (primitive (suc n)) ≡ Some (primitive 1) = sym size ∙ byte.1 in
+                let num : suc n ≡ 1 = cc in
                 let fine = behind (tag 4 (pos (length s.0))) s.0 (subst (λ b. AreBytes b) o.1 (before own bs small)) in
-                let falls = bytes_descend d.2 d.5 s.0 d.3 d.4 index fine (hex_one s.1 d.8) d.9 d.10 in
-                rise index (subst (λ l. NumbersDescend n signed l index) (sym body) (subst (λ (g : Bool). NumbersDescend n g s.0 index) (sym sign) (subst (λ n. NumbersDescend n false s.0 index) (sym num) falls))))
+                let falls = bytes_descend F e byte d.2 d.5 s.0 d.3 d.4 index fine (hex_one s.1 d.8) d.9 d.10 in
+                rise index (subst (λ l. PrimitivesDescend F e (suc n) l index) (sym body) (subst (λ n. PrimitivesDescend F e n s.0 index) (sym num) falls)))
             | inr s ↦ (let q : array s.0 ≡ string _ = sym s.1 ∙ d.8.1 in cc)
           ]
 
     none_falls : {all : List ℕ} {ds : List Due} → Falls F x j index → AreChecked F (one x ∷ ds) all → own ++ (bs ++ left) ≡ all → ⊥
     none_falls f (empty z a) e = full_list F (falls_list f).1 z
-    none_falls (inl d) (plain front parts full needs only a) e = let k = set_ordered F x d.0 d.1 d.6 d.7 in needs (byte_list d.0 d.1) d.6 (d.0, d.1, inr refl) d.1 d.1 k.0 k.1
-    none_falls (inr f) (plain front parts full needs only a) e = needs says.0 says.1 (items_said F x j index says.0 own qs f says.1 says.2).0 f.e f.k f.keys f.known
+    none_falls (inl d) (plain front parts full needs only a) e = needs (byte_list d.0 d.1) d.6 (d.0, d.1, inr refl) d.1 d.1 (d.7.0, inl (d.7.1, refl))
+    none_falls (inr f) (plain front parts full needs only a) e = needs says.0 says.1 (items_said F x j index says.0 own qs f says.1 says.2).0 f.e f.k f.keys
     none_falls (inl d) (collection {e = y} front n keys p only a) e = bytes_packed d.0 d.1 y d.6 keys.0 p
     none_falls (inr f) (collection front n keys p only a) e = items_rise f keys p only a e
-    none_falls (inl d) (packed {bs = cs} front n signed set order rise only a) e = digits_rise cs n signed set order rise only e d
-    none_falls (inr f) (packed {bs = cs} front n signed set order rise only a) e = numbers_rise cs n signed set order rise only e f
+    none_falls (inl d) (packed {bs = cs} front n set size rise only a) e = digits_rise cs n set size rise only e d
+    none_falls (inr f) (packed {bs = cs} front n set size rise only a) e = numbers_rise cs n set size rise only e f
 
   module _ {others : List Due} {left : List ℕ} where
     rises : {x all own bs : List ℕ} {j : Json} {qs ps : List Part} → Locked others left ((x, j) ∷ ps) all → SaysFirst F x j own qs → HaveBytes F (qs ++ ps) bs → AreBytes (own ++ bs) → all ≡ own ++ bs → (index : ℕ) → Falls F x j index → ⊥
@@ -537,12 +538,8 @@ module _ (F : List ℕ → Option Form) where
     all_in_order none_left k small = tt
     all_in_order (next_part {x = x} {bs = bs} {j = j} {ps = ps} kind own qs h s r) k small =
         let t = all_in_order r (onward k (kind, h, s) r small refl) (behind own bs small) in
-        let d = divided qs ps t in
+        let d = divided F (λ x i. (index : ℕ) → Falls F x i index → ⊥) qs ps t in
         (whole_in_order F x j own qs (kind, h, s) d.0 (rises k (kind, h, s) r small refl), d.1)
-      where
-        divided : (qs ps : List Part) → AreInOrder F (qs ++ ps) → AreInOrder F qs × AreInOrder F ps
-        divided [] ps t = (tt, t)
-        divided (q ∷ qs) ps t = let d = divided qs ps t.1 in ((t.0, d.0), d.1)
 
   -- JSON that says bytes that were checked has what has to ascend in order
   pub in_order : (root : List ℕ) (j : Json) (bytes : List ℕ) → AreBytes bytes → HaveBytes F ((root, j) ∷ []) bytes → AreChecked F (one root ∷ []) bytes → InOrder F root j

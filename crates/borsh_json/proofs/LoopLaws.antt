@@ -8,7 +8,6 @@ use Rattle.json.specs.Token.{Token}
 use Rattle.json.specs.Json.{Json, object, Items, no_items, item, Members}
 use Rattle.json.specs.Find.{BeginsWith, get_member}
 use Rattle.borsh_plan.specs.declared.named.Named.{Named}
-use Rattle.borsh_json.specs.declared.definitions.Known.{Known}
 use Rattle.borsh_json.specs.declared.error.ReadError.{ReadError}
 use Rattle.borsh_json.specs.declared.kinds.Entries.{Entries as FoundEntries}
 use Rattle.borsh_json.specs.declared.order.Ascent.{Ascent}
@@ -21,7 +20,7 @@ use Rattle.borsh_json.specs.declared.position.Parts.TheVariants.{Root, List as E
 use Rattle.borsh_json.specs.declared.position.Part.{Part as FoundPart}
 use Rattle.borsh_json.specs.declared.position.Place.{Place}
 use Rattle.borsh_json.specs.declared.sources.Source.{Source}
-use Rattle.borsh_json.specs.Forms.{Form, form_of}
+use Rattle.borsh_json.specs.Forms.{Form, form_of, field_bytes}
 use Rattle.borsh_json.specs.Frames.{FailsRead, name_step, first_steps, last_steps, steps_at, Left, items_left, fields_left, entries_left, Wanted, IsWanted, IsObject, IsMapPlace, IsKey, HasItems, HasFields, HasEntries, NoneLeft, IsLeft, AreEntriesOf, HasLeft, SaysOn, IsPlaceOf, IsPlaceIn, AscendIn, IsDoing, SaysAll, IsNext, DeniesKey, IsNextEntry}
 use Rattle.borsh_json.specs.InOrder.{field as field_step, place as place_step, element as element_step, AreSteps}
 use Rattle.borsh_json.specs.NoValue.{SaysOwn, LacksField, HasOther}
@@ -177,7 +176,7 @@ module _ (F : List ℕ → Option Form) (ns : List Named) where
   missing_step (Elements at n) b c kind i ds gs f fs o e l k h = absurd o
   missing_step (Row at n) b c kind i ds gs f fs o e l k h = absurd o
   missing_step (Object at os) b c kind i ds gs f fs o e l k h =
-      let names : List Wanted = map (λ f. (string_bytes f.0, string_bytes f.1)) os.now.items in
+      let names : List Wanted = map field_bytes os.now.items in
       let all = fields_same names (gs ++ f ∷ fs) (sym h.0 ∙ k) in
       let n : c - 1 ≡ length gs = (let t = h.1 in omega (arith, t, e, l)) in
       ap (λ n. name_step (slice_get names n) ++ []) n ∙ ap (λ (l : List Wanted). name_step (slice_get l (length gs)) ++ []) all ∙ ap (λ (o : Option Wanted). name_step o ++ []) (get_behind gs f fs)
@@ -248,16 +247,16 @@ module _ (F : List ℕ → Option Form) (ns : List Named) (d : ℕ) (x : List �
   module _ (out : List ℕ) (p q : Place) (s t : Source) (part : FoundPart)
       (wanted : (ws : List Wanted) → IsWanted F ns p.parts p.begun ws → (w : Wanted) × (rest : List Wanted) × (ws ≡ w ∷ rest) × IsAt ns part.at w.1 × IsKey p.parts part.key w.0 × IsWanted F ns q.parts q.begun rest)
       (same : q.parts ≡ p.parts) (begun : q.begun ≡ p.begun + 1) (order : q.ascent ≡ p.ascent)
-      (orders : List Known) (ascends : AscendIn F ns orders p.ascent p.parts x i) where
-    still_ascends : AscendIn F ns orders q.ascent q.parts x i
-    still_ascends = subst (λ (a : Option Ascent). AscendIn F ns orders a q.parts x i) (sym order) (subst (λ (r : Parts). AscendIn F ns orders p.ascent r x i) (sym same) ascends)
+      (ascends : AscendIn F ns p.ascent p.parts x i) where
+    still_ascends : AscendIn F ns q.ascent q.parts x i
+    still_ascends = subst (λ (a : Option Ascent). AscendIn F ns a q.parts x i) (sym order) (subst (λ (r : Parts). AscendIn F ns p.ascent r x i) (sym same) ascends)
 
     module _ (field : List ℕ) (name : (name : Bor (List ℕ)) → part.key ≡ Name name → field ≡ name.now) (single : (es : FoundEntries) → part.key ≡ EntryOf es → ⊥) where
       pub part_next : (o : Option (List Token)) (n : Next)
           → ((js : Items) → HasItems s js → MatchOption o (js ≡ no_items) (λ e. (i : Json) × (rest : Items) × (js ≡ item i rest) × BeginsWith e i × HasItems t rest))
           → ((gs : List Wanted) (f : Wanted) (fs : List Wanted) (ms : Members) (c : ℕ) → HasFields s gs (f ∷ fs) ms c → field ≡ f.0 → MatchOption o (get_member f.0 ms ≡ None) (λ e. (i : Json) × (m : ℕ) × (get_member f.0 ms ≡ Some i) × BeginsWith e i × (c ≡ suc m) × HasFields t (gs ++ f ∷ []) fs ms m))
           → MatchOption o (n ≡ Missing) (λ e. n ≡ Part part.at e)
-          → (l : Left) → HasLeft F ns p.parts p.begun s l → SaysOn F ns kind i own ds l → IsPlaceIn F ns d p x kind i ds → IsNext F ns orders d x i own ds q t out out n
+          → (l : Left) → HasLeft F ns p.parts p.begun s l → SaysOn F ns kind i own ds l → IsPlaceIn F ns d p x kind i ds → IsNext F ns d x i own ds q t out out n
       part_next None n of_items of_fields found (items_left xs js) h says is =
           let w = wanted h.0 h.1 in
           let e : xs ≡ w.0.1 ∷ map (λ (w : Wanted). w.1) w.1 = h.2 ∙ ap (λ l. map (λ (w : Wanted). w.1) l) w.2 in
@@ -272,7 +271,7 @@ module _ (F : List ℕ → Option Form) (ns : List Named) (d : ℕ) (x : List �
           let says1 = subst (λ (l : List (List ℕ)). SaysOn F ns kind i own ds (items_left l js)) k says in
           let says2 = subst (λ (j : Items). SaysOn F ns kind i own ds (items_left (w.0.1 ∷ ys) j)) m.2 says1 in
           let more = items_more F ns kind i own ds w.0.1 ys m.0 m.1 says2 in
-          let doing : IsDoing F ns orders q t d x i own (ds ++ (w.0.1, m.0) ∷ []) = record {
+          let doing : IsDoing F ns q t d x i own (ds ++ (w.0.1, m.0) ∷ []) = record {
             left = items_left ys m.1;
             here = (w.1, w.5, refl, m.4, more.0, more.1, λ z. h.6 (subst IsMapPlace same z));
             kind = kind;
@@ -280,12 +279,12 @@ module _ (F : List ℕ → Option Form) (ns : List Named) (d : ℕ) (x : List �
             is_place = part_begun F ns d p q x kind i ds (w.0.1, m.0) same begun h.6 is;
             ascends = still_ascends;
           } in
-          subst (λ (n : Next). IsNext F ns orders d x i own ds q t out out n) (sym found) ([], [], w.0.1, m.0, none_left, sym (append-nil out), w.3, m.3, doing, inl refl, tt)
+          subst (λ (n : Next). IsNext F ns d x i own ds q t out out n) (sym found) ([], [], w.0.1, m.0, none_left, sym (append-nil out), w.3, m.3, doing, inl refl, tt)
       part_next None n of_items of_fields found (fields_left gs fs ms c) h says is =
           let w = wanted fs h.1 in
           let f = field_is p.parts part.key w.0.0 field name h.0 w.4 in
           let g = of_fields gs w.0 w.1 ms c (subst (λ (l : List Wanted). HasFields s gs l ms c) w.2 h.2) f in
-          subst (λ (n : Next). IsNext F ns orders d x i own ds q t out out n) (sym found) (missing d w.0 w.1 g h.0 (subst (λ (l : List Wanted). SaysOn F ns kind i own ds (fields_left gs l ms c)) w.2 says) is)
+          subst (λ (n : Next). IsNext F ns d x i own ds q t out out n) (sym found) (missing d w.0 w.1 g h.0 (subst (λ (l : List Wanted). SaysOn F ns kind i own ds (fields_left gs l ms c)) w.2 says) is)
         where
           missing : (d : ℕ) (f : Wanted) (fs : List Wanted) → get_member f.0 ms ≡ None → IsObject p.parts → SaysOn F ns kind i own ds (fields_left gs (f ∷ fs) ms c) → IsPlaceIn F ns d p x kind i ds → (name : List ℕ) × LacksField F x i name × (0 < d) × (steps_at q ≡ field_step name ∷ [])
           missing zero f fs g o says is = let e : inner x ≡ fields (gs ++ f ∷ fs) = sym is.1 ∙ says.0 in cc
@@ -299,7 +298,7 @@ module _ (F : List ℕ → Option Form) (ns : List Named) (d : ℕ) (x : List �
           let w = wanted fs h.1 in
           let f = field_is p.parts part.key w.0.0 field name h.0 w.4 in
           let g = of_fields gs w.0 w.1 ms c (subst (λ (l : List Wanted). HasFields s gs l ms c) w.2 h.2) f in
-          let doing : IsDoing F ns orders q t d x i own (ds ++ (w.0.1, g.0) ∷ []) = record {
+          let doing : IsDoing F ns q t d x i own (ds ++ (w.0.1, g.0) ∷ []) = record {
             left = fields_left (gs ++ w.0 ∷ []) w.1 ms g.1;
             here = (subst IsObject (sym same) h.0, w.5, g.5);
             kind = kind;
@@ -307,7 +306,7 @@ module _ (F : List ℕ → Option Form) (ns : List Named) (d : ℕ) (x : List �
             is_place = part_begun F ns d p q x kind i ds (w.0.1, g.0) same begun (object_or_map p.parts h.0) is;
             ascends = still_ascends;
           } in
-          subst (λ (n : Next). IsNext F ns orders d x i own ds q t out out n) (sym found) ([], [], w.0.1, g.0, none_left, sym (append-nil out), w.3, g.3, doing, inl refl, tt)
+          subst (λ (n : Next). IsNext F ns d x i own ds q t out out n) (sym found) ([], [], w.0.1, g.0, none_left, sym (append-nil out), w.3, g.3, doing, inl refl, tt)
       part_next o n of_items of_fields found (entries_left keys k v es) h says is =
           let w = wanted h.0 h.1 in
           absurd (no_map p.parts part.key w.0.0 single w.4 (map_place F ns p.parts s keys k v es h.3))
@@ -316,7 +315,7 @@ module _ (F : List ℕ → Option Form) (ns : List Named) (d : ℕ) (x : List �
     module _ (new : List ℕ) (m : FoundEntries) (key : part.key ≡ EntryOf m) where
       pub entry_next : (r : Result Next ReadError)
           → ((keys : Keys) (k v : List ℕ) (es : List Entry) → IsAt ns m.value v → AreKeysOf F ns k (form_of m.key_definition.now) m.key_kind keys → HasEntries m.key_kind s es → MatchResult r (λ n. IsNextEntry F ns keys k v es m.key_kind t out new n) (λ e. (s : List ℕ) × (j : Json) × (rest : List Entry) × (es ≡ (s, j) ∷ rest) × FailsRead F k (key_json keys s) e))
-          → (l : Left) → HasLeft F ns p.parts p.begun s l → SaysOn F ns kind i own ds l → IsPlaceIn F ns d p x kind i ds → MatchResult r (λ n. IsNext F ns orders d x i own ds q t out new n) (λ e. DeniesKey F ns d x i own ds q e)
+          → (l : Left) → HasLeft F ns p.parts p.begun s l → SaysOn F ns kind i own ds l → IsPlaceIn F ns d p x kind i ds → MatchResult r (λ n. IsNext F ns d x i own ds q t out new n) (λ e. DeniesKey F ns d x i own ds q e)
       entry_next r g (items_left xs js) h says is = let w = wanted h.0 h.1 in absurd (h.6 (of_map p.parts part.key w.0.0 m key w.4))
       entry_next r g (fields_left gs fs ms c) h says is = let w = wanted fs h.1 in absurd (object_or_map p.parts h.0 (of_map p.parts part.key w.0.0 m key w.4))
       entry_next (Err e) g (entries_left keys k v es) h says is =
@@ -350,7 +349,7 @@ module _ (F : List ℕ → Option Form) (ns : List Named) (d : ℕ) (x : List �
           let z = entries_here F ns p.parts part.key w.0.0 m s keys k v es key w.4 h.3 in
           let a = g keys k v es z.1 z.2 z.3 in
           let says2 = subst (λ (l : List Entry). SaysOn F ns kind i own ds (entries_left keys k v l)) a.4 says in
-          let doing : IsDoing F ns orders q t d x i own (ds ++ (k, key_json keys a.0) ∷ (v, a.1) ∷ []) = record {
+          let doing : IsDoing F ns q t d x i own (ds ++ (k, key_json keys a.0) ∷ (v, a.1) ∷ []) = record {
             left = entries_left keys k v a.2;
             here = (w.1, w.5, fewer w.0 w.1 h.0 (a.0, a.1) a.2 es w.2 h.2 a.4, subst (λ (p : Parts). AreEntriesOf F ns p t keys k v a.2) (sym same) (z.4 t a.2 a.7));
             kind = kind;

@@ -17,7 +17,6 @@ use Rattle.json.specs.Json.{Json, object, Members, no_members, member}
 use Rattle.json.specs.Find.{BeginsWith, InMembers}
 use Rattle.borsh_walks.specs.Container.{tag}
 use Rattle.borsh_plan.specs.declared.named.Named.{Named}
-use Rattle.borsh_json.specs.declared.definitions.Known.{Known}
 use Rattle.borsh_json.specs.declared.error.ReadError.{ReadError}
 use Rattle.borsh_json.specs.declared.kinds.Entries.{Entries as FoundEntries}
 use Rattle.borsh_json.specs.declared.kinds.KeyKind.{KeyKind}
@@ -161,7 +160,7 @@ module _ (F : List ℕ → Option Form) (ns : List Named) (x : List ℕ) (j : Js
     number_said : (s : List ℕ) → SaysOwn F k (key_json keys s) → (own : List ℕ) × IsWhole n.size n.is_signed n.is_non_zero s own
     number_said s d =
         let g = said F ns k (key_json keys s) (whole n.size n.is_signed n.is_non_zero) w d in
-        let a : IsNumber n.size s (key_json keys s) = subst (λ (q : Keys). IsNumber n.size s (key_json q s)) (sym q) (key_number n.size s (nat_le n.size 8) (tells n.size) refl) in
+        let a : IsNumber n.size s (key_json keys s) = subst (λ (q : Keys). IsNumber n.size s (key_json q s)) (sym q) (key_number n.size s (nat_le 8 n.size) (tells n.size) refl) in
         (g.0, subst (λ (s : List ℕ). IsWhole n.size n.is_signed n.is_non_zero s g.0) (number_one n.size g.2.0 s (key_json keys s) g.2.1 a) g.2.2)
 
     pub numbers_fail : (e : ReadError) → ShowsRead (IsKeyReason j) e ((((ms : Members) × (j ≡ object ms) × HaveOneEach (entries_of ms)) → ⊥) ⊎ HasNoNumber n j) → FailsRead F x j e
@@ -173,8 +172,8 @@ module _ (F : List ℕ → Option Form) (ns : List Named) (x : List ℕ) (j : Js
 
   -- ---- its frame
   module _ (kind : KeyKind) (s : Source) (n : ℕ) (t : AreSorted keys kind j (s, n)) where
-    pub map_opened : (orders : List Known) (m : FoundEntries) (place : Place) (old new : List ℕ) → IsAt ns m.key k → IsAt ns m.value v → AreKeysOf F ns k (form_of m.key_definition.now) m.key_kind keys → m.key_kind ≡ kind → place.parts ≡ MapEntries m n → place.begun ≡ 0 → l.least ≤ n → n ≤ l.greatest → new ≡ old ++ tag l.width (pos n) → place.ascent ≡ None → IsOpened F ns orders x j old new (Ok (Some (record { place = place; source = s })))
-    map_opened orders m place old new a b c d p g low high o none =
+    pub map_opened : (m : FoundEntries) (place : Place) (old new : List ℕ) → IsAt ns m.key k → IsAt ns m.value v → AreKeysOf F ns k (form_of m.key_definition.now) m.key_kind keys → m.key_kind ≡ kind → place.parts ≡ MapEntries m n → place.begun ≡ 0 → l.least ≤ n → n ≤ l.greatest → new ≡ old ++ tag l.width (pos n) → place.ascent ≡ None → IsOpened F ns x j old new (Ok (Some (record { place = place; source = s })))
+    map_opened m place old new a b c d p g low high o none =
         let es = t.1 in
         let z = t.6 in
         let ps = entry_parts keys k v es in
@@ -184,7 +183,7 @@ module _ (F : List ℕ → Option Form) (ns : List Named) (x : List ℕ) (j : Js
         let w : Wanted = ([], v) in
         let there : HasLeft F ns (MapEntries m n) 0 s left = (replicate n w, (v, b, ap (λ (i : ℕ). replicate i w) least), copies_length n w ∙ z, (a, b, c, subst (λ (kind : KeyKind). HasEntries kind s es) (sym d) t.5)) in
         let q : own ≡ tag l.width (pos n) = append-nil (tag l.width (pos (length es))) ∙ ap (λ i. tag l.width (pos i)) (sym z) in
-        (own, o ∙ ap (λ y. old ++ y) (sym q), framed F ns orders x j place s (MapEntries m n) (entries l keys k v) own left p g h there (t.0, es, t.2, t.3, t.4, (omega (arith, z, low), omega (arith, z, high), refl), refl) (l, keys, k, v, refl, refl) (no_ascent F ns orders x j place (MapEntries m n) (λ z. absurd (let q = z.2 in cc)) none))
+        (own, o ∙ ap (λ y. old ++ y) (sym q), framed F ns x j place s (MapEntries m n) (entries l keys k v) own left p g h there (t.0, es, t.2, t.3, t.4, (omega (arith, z, low), omega (arith, z, high), refl), refl) (l, keys, k, v, refl, refl) (no_ascent F ns x j place (MapEntries m n) (λ z. absurd (let q = z.2 in cc)) none))
 
     pub map_range : (e : ReadError) → DeniesRead IsUnexpected e ((l.least ≤ n) × (n ≤ l.greatest)) → FailsRead F x j e
     map_range e d = refuses_plain F ns x j e (λ y.

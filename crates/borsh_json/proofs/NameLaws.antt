@@ -16,7 +16,7 @@ use Rattle.borsh_json.specs.declared.kinds.Elements.{Elements}
 use Rattle.borsh_json.specs.declared.kinds.Kind.{Kind as Found}
 use Rattle.borsh_json.specs.declared.kinds.Kind.TheVariants.{Number as NumberKind, Bool as Truth, Text, Bytes, Float, ByteList, Numbers, List as ElementList, Map as Entries, Row, Newtype, Object, Optional, Choice, Repeated}
 use Rattle.borsh_json.specs.declared.numbers.Number.{Number}
-use Rattle.borsh_json.specs.Forms.{Form, primitive, sequence, tuple, newtype, unnamed, named, choice, HasNoBytes, IsByte, IsOption, IsMap, shape_of_form, shapes}
+use Rattle.borsh_json.specs.Forms.{Form, primitive, sequence, tuple, choice, named, unnamed, no_fields, HasNoBytes, IsByte, IsOption, IsMap, shape_of_form, shapes}
 use Rattle.borsh_json.specs.Table.{Lengths, IsString, Keys, texts, numbers, Kind, truth, whole, float, float_size, utf8, byte_list, list, fields, variants, optional, entries, inner, DefinedKind, number_types, number_kind, primitive_kind, AreKeys, SequenceKind, a_text, some_bytes, an_object, some_elements, nullable, by_name, HasKind, IsNullable, MayBeNull, without_bytes, an_option, in_newtype, Says, ComesTwice, HasEmptyElements, RepeatsName}
 use Rattle.borsh_json.specs.Ranks.{number_found}
 use Rattle.borsh_json.specs.Places.{IsAt, IsKindOf, IsListOf, IsUnsayable, lengths_of}
@@ -140,18 +140,14 @@ module _ (F : List ℕ → Option Form) where
     primitive_found ns n (Choice w vs) e k = absurd k
     primitive_found ns n (Repeated name) e k = absurd k
 
-    pub row_found : (ns : List Named) (f : Form) (ps : List (List ℕ)) (n : ℕ) → F x ≡ Some f → (f ≡ unnamed ps) ⊎ (f ≡ tuple ps) → n ≡ length ps → IsKindOf F ns x f (Row n)
-    row_found ns f ps n e (inl q) l = subst (λ f. IsKindOf F ns x f (Row n)) (sym q) (inr (full, unnamed ps, e ∙ ap (λ f. Some f) q, refl), sym l)
-    row_found ns f ps n e (inr q) l = subst (λ f. IsKindOf F ns x f (Row n)) (sym q) (inr (full, tuple ps, e ∙ ap (λ f. Some f) q, refl), sym l)
-
     pub fields_kind : (fs : List (List ℕ × List ℕ)) → F x ≡ Some (named fs) → HasKind F x (fields fs)
     fields_kind fs e = inr (full, named fs, e, refl)
 
     pub fields_repeated : (ns : List Named) (fs : List (List ℕ × List ℕ)) (name : List ℕ) → F x ≡ Some (named fs) → (IsDistinct bytes_eq (map (λ f. f.0) fs) → ⊥) → ComesTwice name (map (λ f. f.0) fs) → IsUnsayable F ns x × RepeatsName F x name
     fields_repeated ns fs name e n t = ((λ kind j own ps k s. n (subst (λ k. Says F k j own ps) (kind_one F k (fields_kind fs e)) s).0), inl (fs, fields_kind fs e, t))
 
-    pub newtype_kind : (p : List ℕ) → F x ≡ Some (newtype p) → HasKind F x (inner p)
-    newtype_kind p e = inr (full, newtype p, e, refl)
+    pub newtype_kind : (p : List ℕ) → F x ≡ Some (unnamed (p ∷ [])) → HasKind F x (inner p)
+    newtype_kind p e = inr (full, unnamed (p ∷ []), e, refl)
 
     pub optional_kind : (w : ℕ) (vs : List (ℤ × List ℕ × List ℕ)) (p : List ℕ) → F x ≡ Some (choice w vs) → IsNullable F x p → HasKind F x (optional p)
     optional_kind w vs p e n = inr (full, choice w vs, e, nullable n)
@@ -206,15 +202,15 @@ module _ (F : List ℕ → Option Form) where
   null_missing n x e (an_option p o) = let g = sym o.1 ∙ e in cc
   null_missing n x e (in_newtype p f m) = let g = sym f ∙ e in cc
 
-  pub null_other : (n : ℕ) (x : List ℕ) (f : Form) → F x ≡ Some f → (HasNoBytes F x → ⊥) → ((p : List ℕ) → IsOption F x p → ⊥) → ((p : List ℕ) → f ≡ newtype p → ⊥) → MayBeNull F (suc n) x → ⊥
+  pub null_other : (n : ℕ) (x : List ℕ) (f : Form) → F x ≡ Some f → (HasNoBytes F x → ⊥) → ((p : List ℕ) → IsOption F x p → ⊥) → ((p : List ℕ) → f ≡ unnamed (p ∷ []) → ⊥) → MayBeNull F (suc n) x → ⊥
   null_other n x f e full o t (without_bytes z) = full z
   null_other n x f e full o t (an_option p q) = o p q
-  null_other n x f e full o t (in_newtype p g m) = let h : Some f ≡ Some (newtype p) = sym e ∙ g in t p cc
+  null_other n x f e full o t (in_newtype p g m) = let h : Some f ≡ Some (unnamed (p ∷ [])) = sym e ∙ g in t p cc
 
-  pub null_inner : (n : ℕ) (x p : List ℕ) → F x ≡ Some (newtype p) → (HasNoBytes F x → ⊥) → ((p : List ℕ) → IsOption F x p → ⊥) → MayBeNull F (suc n) x → MayBeNull F n p
+  pub null_inner : (n : ℕ) (x p : List ℕ) → F x ≡ Some (unnamed (p ∷ [])) → (HasNoBytes F x → ⊥) → ((p : List ℕ) → IsOption F x p → ⊥) → MayBeNull F (suc n) x → MayBeNull F n p
   null_inner n x p e full o (without_bytes z) = absurd (full z)
   null_inner n x p e full o (an_option q r) = absurd (o q r)
-  null_inner n x p e full o (in_newtype q g m) = let h : Some (newtype q) ≡ Some (newtype p) = sym g ∙ e in let i : q ≡ p = cc in subst (λ p. MayBeNull F n p) i m
+  null_inner n x p e full o (in_newtype q g m) = let h : Some (unnamed (q ∷ [])) ≡ Some (unnamed (p ∷ [])) = sym g ∙ e in let i : q ≡ p = cc in subst (λ p. MayBeNull F n p) i m
 
   pub refused_is : (ns : List Named) (x : List ℕ) (f : Form) (kind : Found) → IsRefusedList kind → IsUnsayable F ns x × HasEmptyElements F x → IsKindOf F ns x f kind
   refused_is ns x f kind r u = subst (λ k. IsKindOf F ns x f k) (sym r.1) (subst (λ b. IsListOf F ns x f r.0.at b) (sym r.2) u, λ n. (let t = r.2 in cc))
@@ -228,10 +224,10 @@ module _ (F : List ℕ → Option Form) where
       there (Some (primitive k)) q = ap (λ k. Some (primitive k)) (sym q)
       there (Some (sequence w lo hi y)) q = cc
       there (Some (tuple ps)) q = cc
-      there (Some (newtype y)) q = cc
-      there (Some (unnamed ps)) q = cc
-      there (Some (named fs)) q = cc
       there (Some (choice w vs)) q = cc
+      there (Some (named fs)) q = cc
+      there (Some (unnamed ps)) q = cc
+      there (Some no_fields) q = cc
 
   pub numbers_found : (ns : List Named) (x : List ℕ) (f : Form) (e : List ℕ) (es : Elements) → IsAt ns es.at e → HasKind F x (list (lengths_of f) e) → es.is_refused ≡ false → (n : ℕ) → es.size ≡ suc n → es.size ≡ packed_size (shapes F e) → IsKindOf F ns x f (Numbers es)
   numbers_found ns x f e es i h r n s p =

@@ -145,6 +145,14 @@ tag_is d w fill f e = ap (λ z. take (min w 8) (to_le_bytes w64 (cast_unsigned w
     plain (pos n) f e = ap (λ k. take (min w 8) (to_le_bytes w64 n) ++ replicate (w - 8) k) e ∙ count_bytes w n (omega (arith, f.sfits))
     plain (negsuc n) f e = ap (λ k. take (min w 8) (to_le_bytes w64 (2 ^ 64 - suc n)) ++ replicate (w - 8) k) e ∙ tag_bytes w n (omega (arith, f.sfits))
 
+-- at most eight bytes of a number
+pub tag_taken : (d : ℤ) (n : ℕ) (bs : List ℕ) → SFits w64 d → n ≤ 8 → bs ≡ to_le_bytes w64 (cast_unsigned w64 (cast_signed w64 (cast_unsigned w64 d))) → take n bs ≡ tag n d
+tag_taken d n bs f low e =
+    let a : min n 8 ≡ n = omega (arith, low) in
+    let b : n - 8 ≡ 0 = omega (arith, low) in
+    let number = to_le_bytes w64 (cast_unsigned w64 (cast_signed w64 (cast_unsigned w64 d))) in
+    ap (λ l. take n l) e ∙ sym (nothing_after (take n number)) ∙ ap (λ k. take n number ++ replicate k (fill_of d)) (sym b) ∙ ap (λ k. take k number ++ replicate (n - 8) (fill_of d)) (sym a) ∙ tag_is d n (fill_of d) f refl
+
 replicate_more : (k f : ℕ) → replicate (suc k) f ≡ replicate k f ++ f ∷ []
 replicate_more zero f = refl
 replicate_more (suc k) f = ap (λ l. f ∷ l) (replicate_more k f)

@@ -5,7 +5,6 @@ use Rattle.json.specs.Token.{Token}
 use Rattle.json.specs.Json.{Json, null, boolean, number, string, array, object, Items, no_items, item}
 use Rattle.json.specs.Find.{BeginsWith, is_null, as_bool, as_str, as_number}
 use Rattle.borsh_plan.specs.declared.named.Named.{Named}
-use Rattle.borsh_json.specs.declared.definitions.Known.{Known}
 use Rattle.borsh_json.specs.declared.error.ReadError.{ReadError}
 use Rattle.borsh_json.specs.declared.error.ReadError.TheVariants.{OutOfMemory, Refused, Descends as DescendsAt}
 use Rattle.borsh_json.specs.declared.error.Refusal.{Refusal}
@@ -128,9 +127,9 @@ module _ (F : List ℕ → Option Form) (ns : List Named) (x : List ℕ) (j : Js
   pub said : (kind : Kind) → HasKind F x kind → SaysOwn F x j → (own : List ℕ) × (ps : List Part) × Says F kind j own ps
   said kind h s = let f = s.2 in (s.0, s.1, subst (λ k. Says F k j s.0 s.1) (kind_one F f.1 h) f.2)
 
-module _ (F : List ℕ → Option Form) (ns : List Named) (orders : List Known) (x : List ℕ) (j : Json) where
+module _ (F : List ℕ → Option Form) (ns : List Named) (x : List ℕ) (j : Json) where
   -- the frame of a place whose value was opened
-  pub framed : (place : Place) (t : Source) (p : Parts) (kind : Kind) (own : List ℕ) (l : Left) → place.parts ≡ p → place.begun ≡ 0 → HasKind F x kind → HasLeft F ns p 0 t l → SaysOn F ns kind j own [] l → IsPlaceOf F ns p 0 kind j [] → AscendIn F ns orders place.ascent p x j × IsUnbegun place.ascent → IsFound F ns orders x j own (Some (record { place = place; source = t }))
+  pub framed : (place : Place) (t : Source) (p : Parts) (kind : Kind) (own : List ℕ) (l : Left) → place.parts ≡ p → place.begun ≡ 0 → HasKind F x kind → HasLeft F ns p 0 t l → SaysOn F ns kind j own [] l → IsPlaceOf F ns p 0 kind j [] → AscendIn F ns place.ascent p x j × IsUnbegun place.ascent → IsFound F ns x j own (Some (record { place = place; source = t }))
   framed place t p kind own l e b h there says is a = (
     record {
       left = l;
@@ -138,30 +137,30 @@ module _ (F : List ℕ → Option Form) (ns : List Named) (orders : List Known) 
       kind = kind;
       says = says;
       is_place = (h, subst (λ (q : Parts). IsPlaceOf F ns q place.begun kind j []) (sym e) (subst (λ (k : ℕ). IsPlaceOf F ns p k kind j []) (sym b) is));
-      ascends = subst (λ (q : Parts). AscendIn F ns orders place.ascent q x j) (sym e) a.0;
+      ascends = subst (λ (q : Parts). AscendIn F ns place.ascent q x j) (sym e) a.0;
     },
     a.1,
   )
 
   -- parts that need not ascend
-  pub no_ascent : (place : Place) (p : Parts) → (IsListPlace p → (index : ℕ) → ItemsFall F x j index → ⊥) → place.ascent ≡ None → AscendIn F ns orders place.ascent p x j × IsUnbegun place.ascent
-  no_ascent place p none e = subst (λ (a : Option Ascent). AscendIn F ns orders a p x j × IsUnbegun a) (sym e) (none, tt)
+  pub no_ascent : (place : Place) (p : Parts) → (IsListPlace p → (index : ℕ) → ItemsFall F x j index → ⊥) → place.ascent ≡ None → AscendIn F ns place.ascent p x j × IsUnbegun place.ascent
+  no_ascent place p none e = subst (λ (a : Option Ascent). AscendIn F ns a p x j × IsUnbegun a) (sym e) (none, tt)
 
-  pub opened_digits : (kind : Kind) (old new own : List ℕ) → HasKind F x kind → ((index : ℕ) → DigitsFall F x j index → ⊥) → new ≡ old ++ own → Says F kind j own [] → IsOpened F ns orders x j old new (Ok None)
+  pub opened_digits : (kind : Kind) (old new own : List ℕ) → HasKind F x kind → ((index : ℕ) → DigitsFall F x j index → ⊥) → new ≡ old ++ own → Says F kind j own [] → IsOpened F ns x j old new (Ok None)
   opened_digits kind old new own h none e s = (own, e, ((kind, h, s), none))
 
-  pub opened_leaf : (kind : Kind) → ((l : Lengths) (e : List ℕ) → kind ≡ byte_list l e → ⊥) → (old new own : List ℕ) → HasKind F x kind → new ≡ old ++ own → Says F kind j own [] → IsOpened F ns orders x j old new (Ok None)
+  pub opened_leaf : (kind : Kind) → ((l : Lengths) (e : List ℕ) → kind ≡ byte_list l e → ⊥) → (old new own : List ℕ) → HasKind F x kind → new ≡ old ++ own → Says F kind j own [] → IsOpened F ns x j old new (Ok None)
   opened_leaf kind plain old new own h e s = opened_digits kind old new own h (λ index d. plain d.0 d.1 (kind_one F h d.6)) e s
 
   -- what is opened doesn't fall
-  pub opened : (old new : List ℕ) (r : Result (Option Frame) ReadError) → IsOpened F ns orders x j old new r → IsOpenedOrFalls F ns orders x j old new r
+  pub opened : (old new : List ℕ) (r : Result (Option Frame) ReadError) → IsOpened F ns x j old new r → IsOpenedOrFalls F ns x j old new r
   opened old new (Ok found) o = o
   opened old new (Err OutOfMemory) o = o
   opened old new (Err (Refused r)) o = o
   opened old new (Err (DescendsAt i)) o = absurd o
 
   -- without own bytes the output may be any
-  pub unmoved : (out : List ℕ) (r : Result (Option Frame) ReadError) → IsOpened F ns orders x j [] [] r → IsOpened F ns orders x j out out r
+  pub unmoved : (out : List ℕ) (r : Result (Option Frame) ReadError) → IsOpened F ns x j [] [] r → IsOpened F ns x j out out r
   unmoved out (Ok found) o = (o.0, sym (append-nil out) ∙ ap (λ l. out ++ l) o.1, o.2)
   unmoved out (Err e) o = o
 
@@ -222,12 +221,12 @@ pub no_variant : (k : ℤ) (v p : List ℕ) (vs : List (ℤ × List ℕ × List 
 no_variant k v p vs e h = elim (subst (λ (l : List (ℤ × List ℕ × List ℕ)). IsVariant k v p l) e h) [ ]
 
 -- ---- a value whose only part is another
-module _ (F : List ℕ → Option Form) (ns : List Named) (orders : List Known) (x : List ℕ) (j : Json) where
+module _ (F : List ℕ → Option Form) (ns : List Named) (x : List ℕ) (j : Json) where
   -- where the place wants one part
-  pub only_found : (kind : Kind) (own : List ℕ) (p : Parts) (y : List ℕ) (i : Json) (e : List Token) (o : Option Frame) → MatchOption o ⊥ (λ f. (f.place.parts ≡ p) × (f.place.begun ≡ 0) × (f.source ≡ One (Some e)) × (f.place.ascent ≡ None)) → ((b : ℕ) → (z : List ℕ) × (z ≡ y) × ((ws : List Wanted) → ws ≡ drop b (([], z) ∷ []) → IsWanted F ns p b ws)) → (IsMapPlace p → ⊥) → (IsListPlace p → ⊥) → IsPlaceOf F ns p 0 kind j [] → HasKind F x kind → BeginsWith e i → Says F kind j own ((y, i) ∷ []) → IsFound F ns orders x j own o
+  pub only_found : (kind : Kind) (own : List ℕ) (p : Parts) (y : List ℕ) (i : Json) (e : List Token) (o : Option Frame) → MatchOption o ⊥ (λ f. (f.place.parts ≡ p) × (f.place.begun ≡ 0) × (f.source ≡ One (Some e)) × (f.place.ascent ≡ None)) → ((b : ℕ) → (z : List ℕ) × (z ≡ y) × ((ws : List Wanted) → ws ≡ drop b (([], z) ∷ []) → IsWanted F ns p b ws)) → (IsMapPlace p → ⊥) → (IsListPlace p → ⊥) → IsPlaceOf F ns p 0 kind j [] → HasKind F x kind → BeginsWith e i → Says F kind j own ((y, i) ∷ []) → IsFound F ns x j own o
   only_found kind own p y i e None o g n nl is h b s = absurd o
   only_found kind own p y i e (Some f) o g n nl is h b s =
       let w = g 0 in
       let l = items_left (y ∷ []) (item i no_items) in
       let there : HasLeft F ns p 0 (One (Some e)) l = (([], y) ∷ [], w.2 (([], y) ∷ []) (ap (λ (z : List ℕ). ([], z) ∷ []) (sym w.1)), refl, (i, refl, b), (y, i) ∷ [], refl, n) in
-      framed F ns orders x j f.place f.source p kind own l o.0 o.1 h (subst (λ (t : Source). HasLeft F ns p 0 t l) (sym o.2) there) ((y, i) ∷ [], refl, s) is (no_ascent F ns orders x j f.place p (λ z. absurd (nl z)) o.3)
+      framed F ns x j f.place f.source p kind own l o.0 o.1 h (subst (λ (t : Source). HasLeft F ns p 0 t l) (sym o.2) there) ((y, i) ∷ [], refl, s) is (no_ascent F ns x j f.place p (λ z. absurd (nl z)) o.3)

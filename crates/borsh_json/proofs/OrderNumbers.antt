@@ -14,7 +14,7 @@ use Rattle.borsh_values.proofs.TagLaws.{drop_at}
 use Rattle.borsh_json.specs.Table.{InRange}
 use Rattle.borsh_values.specs.Tags.{is_negative}
 
-one_low : (n x y : ℕ) → x < 256 ^ n → y < 256 ^ n → little_endian n x ≡ little_endian n y → x ≡ y
+pub one_low : (n x y : ℕ) → x < 256 ^ n → y < 256 ^ n → little_endian n x ≡ little_endian n y → x ≡ y
 one_low zero x y a b e = let p : 256 ^ 0 ≡ 1 = refl in omega (arith, p)
 one_low (suc n) x y a b e =
     let h : x % 256 ≡ y % 256 = cc in

@@ -13,17 +13,17 @@ use Rattle.json.specs.Find.{InItems, Finds, as_str, as_array, get_member}
 use Rattle.borsh_walks.specs.Container.{tag, references, variant_names}
 use Rattle.borsh_walks.specs.Tables.{mark_of}
 use Rattle.borsh_plan.specs.declared.named.Named.{Named}
-use Rattle.borsh_json.specs.declared.definitions.Known.{Known}
 use Rattle.borsh_json.specs.declared.error.ReadError.{ReadError}
 use Rattle.borsh_json.specs.declared.position.Parts.TheVariants.{List as Elements, Row, Object}
 use Rattle.borsh_json.specs.declared.position.Place.{Place}
 use Rattle.borsh_json.specs.declared.sources.Source.{Source}
 use Rattle.borsh_json.specs.declared.sources.Source.TheVariants.{Items as TheItems}
-use Rattle.borsh_json.specs.Forms.{Form, primitive, sequence, tuple, newtype, unnamed, named, choice, shape_of_form, HasNoBytes}
+use Rattle.borsh_json.specs.Forms.{Form, named, choice, shape_of_form, HasNoBytes, field_bytes}
 use Rattle.borsh_json.specs.Frames.{DeniesRead, FailsRead, Wanted, AreFound, AreOthers, HasFields, HasLeft, AscendIn, IsUnbegun, IsOpened, NamesVariant, items_left, fields_left, IsListKind, IsUnexpected}
 use Rattle.borsh_json.specs.NoValue.{SaysOwn, NamesNoVariant}
 use Rattle.borsh_json.specs.Places.{IsAt, IsUnsayable}
 use Rattle.borsh_json.specs.Table.{Lengths, Kind, truth, whole, float, byte_list, row, inner, fields, variants, number_types, number_kind, primitive_kind, a_text, some_bytes, an_object, some_elements, nullable, by_name, DefinedKind, HasKind, Part, row_parts, list_parts, entries_of, IsVariant, IsHex, IsPrefixed, IsArray, Says}
+use Rattle.borsh_json.proofs.FormKinds.{form_found}
 use Rattle.borsh_json.proofs.RepresentsLaws.{variant_one}
 use Rattle.borsh_json.proofs.OpeningLaws.{no_ascent, denied, said, framed, row_fits, rows_there, list_row, list_length, second_map, second_copies, refuses_plain}
 
@@ -40,14 +40,14 @@ module _ (F : List ℕ → Option Form) (ns : List Named) (x : List ℕ) (j : Js
 
   -- ---- rows
   module _ (f : Form) (at n : ℕ) (i : IsAt ns at x) (d : F x ≡ Some f) (h : HasKind F x (row (references (shape_of_form f)))) (c : length (references (shape_of_form f)) ≡ n) where
-    pub row_opened : (orders : List Known) (place : Place) (ts : List Token) (js : Items) (k : ℕ) → place.parts ≡ Row at n → place.begun ≡ 0 → j ≡ array js → InItems ts js → k ≡ length (list_parts [] js) → k ≡ n → place.ascent ≡ None → IsOpened F ns orders x j [] [] (Ok (Some (record { place = place; source = TheItems ts })))
-    row_opened orders place ts js k p b e t l q a =
+    pub row_opened : (place : Place) (ts : List Token) (js : Items) (k : ℕ) → place.parts ≡ Row at n → place.begun ≡ 0 → j ≡ array js → InItems ts js → k ≡ length (list_parts [] js) → k ≡ n → place.ascent ≡ None → IsOpened F ns x j [] [] (Ok (Some (record { place = place; source = TheItems ts })))
+    row_opened place ts js k p b e t l q a =
         let refs = references (shape_of_form f) in
         let nameless : List ℕ → Wanted = λ y. ([], y) in
         let r = rows_there refs js k l (c ∙ sym q) in
         let left = items_left refs js in
         let there : HasLeft F ns (Row at n) 0 (TheItems ts) left = (map nameless refs, (x, f, i, d, c, refl), sym (second_map refs), t, r.0, r.1, λ z. z) in
-        ([], refl, framed F ns orders x j place (TheItems ts) (Row at n) (row refs) [] left p b h there (r.0, r.1, (refl, js, e, r.1)) (refs, refl, refl) (no_ascent F ns orders x j place (Row at n) (λ z. absurd (let q = z.2 in cc)) a))
+        ([], refl, framed F ns x j place (TheItems ts) (Row at n) (row refs) [] left p b h there (r.0, r.1, (refl, js, e, r.1)) (refs, refl, refl) (no_ascent F ns x j place (Row at n) (λ z. absurd (let q = z.2 in cc)) a))
 
     pub row_count : (js : Items) (k : ℕ) → j ≡ array js → k ≡ length (list_parts [] js) → (k ≡ n → ⊥) → SaysOwn F x j → ⊥
     row_count js k e l q = denied F ns x j (row (references (shape_of_form f))) h (λ own ps s.
@@ -61,8 +61,8 @@ module _ (F : List ℕ → Option Form) (ns : List Named) (x : List ℕ) (j : Js
   module _ (kind : Kind) (l : Lengths) (e : List ℕ) (at : ℕ) (i : IsAt ns at e) (h : HasKind F x kind) (is : IsListKind kind)
       (to : (own : List ℕ) (ps : List Part) → IsArray l e j own ps → Says F kind j own ps)
       (back : (own : List ℕ) (ps : List Part) → Says F kind j own ps → IsArray l e j own ps) where
-    pub list_opened : (orders : List Known) (place : Place) (ts : List Token) (js : Items) (n : ℕ) (old new : List ℕ) → place.parts ≡ Elements at n → place.begun ≡ 0 → j ≡ array js → InItems ts js → n ≡ length (list_parts [] js) → l.least ≤ n → n ≤ l.greatest → new ≡ old ++ tag l.width (pos n) → AscendIn F ns orders place.ascent (Elements at n) x j × IsUnbegun place.ascent → IsOpened F ns orders x j old new (Ok (Some (record { place = place; source = TheItems ts })))
-    list_opened orders place ts js n old new p b g t c low high o a =
+    pub list_opened : (place : Place) (ts : List Token) (js : Items) (n : ℕ) (old new : List ℕ) → place.parts ≡ Elements at n → place.begun ≡ 0 → j ≡ array js → InItems ts js → n ≡ length (list_parts [] js) → l.least ≤ n → n ≤ l.greatest → new ≡ old ++ tag l.width (pos n) → AscendIn F ns place.ascent (Elements at n) x j × IsUnbegun place.ascent → IsOpened F ns x j old new (Ok (Some (record { place = place; source = TheItems ts })))
+    list_opened place ts js n old new p b g t c low high o a =
         let ps = list_parts e js in
         let k : length ps ≡ n = list_length e js ∙ sym c in
         let own = tag l.width (pos (length ps)) ++ [] in
@@ -71,7 +71,7 @@ module _ (F : List ℕ → Option Form) (ns : List Named) (x : List ℕ) (j : Js
         let r : row_parts (replicate n e) js ≡ Some ps = ap (λ m. row_parts (replicate m e) js) c ∙ list_row e js in
         let there : HasLeft F ns (Elements at n) 0 (TheItems ts) left = (replicate n ([], e), (e, i, ap (λ (k : ℕ). replicate k ([], e)) least), sym (second_copies n e), t, ps, r, λ z. z) in
         let q : own ≡ tag l.width (pos n) = append-nil (tag l.width (pos (length ps))) ∙ ap (λ m. tag l.width (pos m)) k in
-        (own, o ∙ ap (λ z. old ++ z) (sym q), framed F ns orders x j place (TheItems ts) (Elements at n) kind own left p b h there (ps, r, to own ps (js, g, refl, (omega (arith, k, low), omega (arith, k, high), refl))) (is, refl, (js, g)) a)
+        (own, o ∙ ap (λ z. old ++ z) (sym q), framed F ns x j place (TheItems ts) (Elements at n) kind own left p b h there (ps, r, to own ps (js, g, refl, (omega (arith, k, low), omega (arith, k, high), refl))) (is, refl, (js, g)) a)
 
     pub no_list : as_array j ≡ None → SaysOwn F x j → ⊥
     no_list g = denied F ns x j kind h (λ own ps s. let q = back own ps s in let k = ap as_array q.1 in cc)
@@ -85,40 +85,8 @@ module _ (F : List ℕ → Option Form) (ns : List Named) (x : List ℕ) (j : Js
         (let low = q.3.0 in omega (arith, k, low), let high = q.3.1 in omega (arith, k, high))) d
 
 -- ---- objects
--- neither of fields nor of variants
-abbrev IsFieldless : Kind → Type 0
-IsFieldless kind = ((fs : List (List ℕ × List ℕ)) → kind ≡ fields fs → ⊥) × ((w : ℕ) (vs : List (ℤ × List ℕ × List ℕ)) → kind ≡ variants w vs → ⊥)
-
-fieldless_if : (b : Bool) (k l : Kind) → IsFieldless k → IsFieldless l → IsFieldless (if b then k else l)
-fieldless_if true k l p q = p
-fieldless_if false k l p q = q
-
-number_fieldless : (ts : List (List ℕ × ℕ × Bool × Bool)) (x : List ℕ) (n : ℕ) → IsFieldless (number_kind ts x n)
-number_fieldless [] x n = ((λ fs e. cc), (λ w vs e. cc))
-number_fieldless (t ∷ ts) x n = fieldless_if (bytes_eq x t.0 && (t.1 == n)) (whole t.1 t.2 t.3) (number_kind ts x n) ((λ fs e. cc), (λ w vs e. cc)) (number_fieldless ts x n)
-
-primitive_fieldless : (x : List ℕ) (n : ℕ) → IsFieldless (primitive_kind x n)
-primitive_fieldless x n =
-    let doubles = fieldless_if (bytes_eq x (codes "f64") && (n == 8)) (float binary64) (number_kind number_types x n) ((λ fs e. cc), (λ w vs e. cc)) (number_fieldless number_types x n) in
-    let floats = fieldless_if (bytes_eq x (codes "f32") && (n == 4)) (float binary32) _ ((λ fs e. cc), (λ w vs e. cc)) doubles in
-    fieldless_if (bytes_eq x (codes "bool") && (n == 1)) truth _ ((λ fs e. cc), (λ w vs e. cc)) floats
-
-named_is : (F : List ℕ → Option Form) (x : List ℕ) (d : Form) (kind : Kind) (fs : List (List ℕ × List ℕ)) → kind ≡ fields fs → DefinedKind F x d kind → d ≡ named fs
-named_is F x (primitive n) kind fs e p = absurd ((primitive_fieldless x n).0 fs (sym p ∙ e))
-named_is F x (sequence w lo hi y) kind fs e (a_text s b) = cc
-named_is F x (sequence w lo hi y) kind fs e (some_bytes s b) = cc
-named_is F x (sequence w lo hi y) kind fs e (an_object s b) = cc
-named_is F x (sequence w lo hi y) kind fs e (some_elements s b c d) = cc
-named_is F x (tuple ps) kind fs e p = let q : row ps ≡ fields fs = sym p ∙ e in cc
-named_is F x (newtype y) kind fs e p = let q : inner y ≡ fields fs = sym p ∙ e in cc
-named_is F x (unnamed ps) kind fs e p = let q : row ps ≡ fields fs = sym p ∙ e in cc
-named_is F x (named gs) kind fs e p = let q : fields gs ≡ fields fs = sym p ∙ e in let r : gs ≡ fs = cc in ap named r
-named_is F x (choice w vs) kind fs e (nullable s) = cc
-named_is F x (choice w vs) kind fs e (by_name s) = cc
-
 form_named : (F : List ℕ → Option Form) (x : List ℕ) (fs : List (List ℕ × List ℕ)) → HasKind F x (fields fs) → F x ≡ Some (named fs)
-form_named F x fs (inl h) = let e = h.1 in cc
-form_named F x fs (inr h) = h.2 ∙ ap (λ d. Some d) (named_is F x h.1 (fields fs) fs refl h.3)
+form_named F x fs h = let f = form_found F (fields fs) h (λ e. cc) in f.1 ∙ ap (λ d. Some d) f.2
 
 pub all_found : (m : BTreeMap (Bor (List ℕ)) (List Token)) (fs : List Wanted) (ms : Members) → ((name : List ℕ) → Finds (mark_of m name) (get_member name ms)) → AreFound m fs ms
 all_found m [] ms h = tt
@@ -137,32 +105,18 @@ names_of a b [] = refl
 names_of a b (x ∷ xs) = ap (λ l. a x ∷ l) (names_of a b xs)
 
 module _ (F : List ℕ → Option Form) (ns : List Named) (x : List ℕ) (j : Json) (at : ℕ) (fs : Bor (Vec (String Global × String Global) Global)) (i : IsAt ns at x) where
-  pub object_opened : (orders : List Known) (place : Place) (s : Source) (ms : Members) (n : ℕ) → HasKind F x (fields (map (λ f. (string_bytes f.0, string_bytes f.1)) fs.now.items)) → IsDistinct bytes_eq (map (λ f. string_bytes f.0) fs.now.items) → place.parts ≡ Object at fs → place.begun ≡ 0 → j ≡ object ms → n ≡ length (entries_of ms) → HasFields s [] (map (λ f. (string_bytes f.0, string_bytes f.1)) fs.now.items) ms n → place.ascent ≡ None → IsOpened F ns orders x j [] [] (Ok (Some (record { place = place; source = s })))
-  object_opened orders place s ms n h u p b e c g a =
+  pub object_opened : (place : Place) (s : Source) (ms : Members) (n : ℕ) → HasKind F x (fields (map field_bytes fs.now.items)) → IsDistinct bytes_eq (map (λ f. string_bytes f.0) fs.now.items) → place.parts ≡ Object at fs → place.begun ≡ 0 → j ≡ object ms → n ≡ length (entries_of ms) → HasFields s [] (map field_bytes fs.now.items) ms n → place.ascent ≡ None → IsOpened F ns x j [] [] (Ok (Some (record { place = place; source = s })))
+  object_opened place s ms n h u p b e c g a =
       let pair : String Global × String Global → Wanted = λ f. (string_bytes f.0, string_bytes f.1) in
       let all = map pair fs.now.items in
       let d = subst (λ (l : List (List ℕ)). IsDistinct bytes_eq l) (sym (names_of (λ (f : String Global × String Global). string_bytes f.0) (λ f. string_bytes f.1) fs.now.items)) u in
       let left = fields_left [] all ms n in
       let there : HasLeft F ns (Object at fs) 0 s left = (tt, (x, i, form_named F x all h, refl), g) in
-      ([], refl, framed F ns orders x j place s (Object at fs) (fields all) [] left p b h there (refl, d, refl, e, refl, omega (arith, c)) (refl, refl) (no_ascent F ns orders x j place (Object at fs) (λ z. absurd (let q = z.2 in cc)) a))
+      ([], refl, framed F ns x j place s (Object at fs) (fields all) [] left p b h there (refl, d, refl, e, refl, omega (arith, c)) (refl, refl) (no_ascent F ns x j place (Object at fs) (λ z. absurd (let q = z.2 in cc)) a))
 
 -- ---- variants
-choice_is : (F : List ℕ → Option Form) (x : List ℕ) (d : Form) (kind : Kind) (w : ℕ) (vs : List (ℤ × List ℕ × List ℕ)) → kind ≡ variants w vs → DefinedKind F x d kind → d ≡ choice w vs
-choice_is F x (primitive n) kind w vs e p = absurd ((primitive_fieldless x n).1 w vs (sym p ∙ e))
-choice_is F x (sequence u lo hi y) kind w vs e (a_text s b) = cc
-choice_is F x (sequence u lo hi y) kind w vs e (some_bytes s b) = cc
-choice_is F x (sequence u lo hi y) kind w vs e (an_object s b) = cc
-choice_is F x (sequence u lo hi y) kind w vs e (some_elements s b c d) = cc
-choice_is F x (tuple ps) kind w vs e p = let q : row ps ≡ variants w vs = sym p ∙ e in cc
-choice_is F x (newtype y) kind w vs e p = let q : inner y ≡ variants w vs = sym p ∙ e in cc
-choice_is F x (unnamed ps) kind w vs e p = let q : row ps ≡ variants w vs = sym p ∙ e in cc
-choice_is F x (named gs) kind w vs e p = let q : fields gs ≡ variants w vs = sym p ∙ e in cc
-choice_is F x (choice u us) kind w vs e (nullable s) = cc
-choice_is F x (choice u us) kind w vs e (by_name s) = let a : u ≡ w = cc in let b : us ≡ vs = cc in ap (λ u. choice u us) a ∙ ap (λ us. choice w us) b
-
 pub form_choice : (F : List ℕ → Option Form) (x : List ℕ) (w : ℕ) (vs : List (ℤ × List ℕ × List ℕ)) → HasKind F x (variants w vs) → F x ≡ Some (choice w vs)
-form_choice F x w vs (inl h) = let e = h.1 in cc
-form_choice F x w vs (inr h) = h.2 ∙ ap (λ d. Some d) (choice_is F x h.1 (variants w vs) w vs refl h.3)
+form_choice F x w vs h = let f = form_found F (variants w vs) h (λ e. cc) in f.1 ∙ ap (λ d. Some d) f.2
 
 pub variant_part : (vs : List (ℤ × List ℕ × List ℕ)) (i : ℕ) (k : ℤ) (v p : List ℕ) → slice_get vs i ≡ Some (k, v, p) → slice_get (variant_names (map (λ (v : ℤ × List ℕ × List ℕ). (v.0, v.2)) vs)) i ≡ Some p
 variant_part [] zero k v p e = cc

@@ -1,37 +1,31 @@
 -- What is still to be compared.
-use Rattle.std.proofs.Common.{◌≡◌, ◌⊎◌, inl, inr, ℕ, suc, zero, ◌+◌, ◌-◌, ◌<◌, ◌≤◌, ◌^◌, List, [], ◌∷◌, ◌++◌, length, map, drop, Bool, Option, Some, refl, sym, ◌∙◌, ap, subst, arith}
-use Rattle.std.specs.Prelude.{ℤ, pos, reverse, option_map, slice_get}
-use Rattle.std.specs.Ordering.{nat_cmp, int_cmp, MatchOrdering}
-use Rattle.std.specs.Cmp.Lexicographic.{slice_cmp}
+use Rattle.std.proofs.Common.{◌≡◌, ◌⊎◌, inl, inr, ℕ, suc, zero, ◌+◌, ◌-◌, ◌<◌, ◌≤◌, ◌^◌, List, [], ◌∷◌, ◌++◌, length, map, drop, replicate, Bool, Option, Some, None, refl, sym, ◌∙◌, ap, subst, arith}
+use Rattle.std.specs.Prelude.{pos, reverse, slice_get, MatchBool, true, false}
+use Rattle.std.specs.Ordering.{nat_cmp, MatchOrdering}
 use Rattle.std.specs.Cmp.{nat_cmp_is}
 use Rattle.std.specs.declared.cmp.Ordering.{Ordering}
 use Rattle.std.specs.declared.cmp.Ordering.TheVariants.{Less, Equal, Greater}
 use Rattle.std.proofs.lemmas.List.{reverse-append}
-use Rattle.borsh_walks.specs.Container.{tag, IsIn, first, later, zeroed}
-use Rattle.borsh_walks.specs.Container as shape
+use Rattle.std.proofs.lemmas.Cmp.{ranked}
+use Rattle.borsh_walks.specs.Container.{references, tag}
+use Rattle.borsh_plan.specs.Names.{name_of}
 use Rattle.borsh_plan.specs.declared.named.Named.{Named}
-use Rattle.borsh_json.specs.declared.definitions.Known.{Known}
-use Rattle.borsh_json.specs.declared.order.Ordered.TheVariants.{Single, Number, Text, Array, List as Counted, Tuple}
+use Rattle.borsh_json.specs.declared.order.Ordered.{Ordered}
+use Rattle.borsh_json.specs.declared.order.Ordered.TheVariants.{Single, Number, Text, Array, List as Counted, Tuple, Other}
 use Rattle.borsh_json.specs.declared.order.Pending.{Pending}
-use Rattle.borsh_json.specs.declared.order.Pending.TheVariants.{Elements, Parts}
+use Rattle.borsh_json.specs.declared.order.Pending.TheVariants.{Elements, Parts, Copies, PartCopies}
 use Rattle.borsh_json.specs.Forms.{Form, tuple, shape_of_form, HasNoBytes}
-use Rattle.borsh_json.specs.Table.{InRange}
-use Rattle.borsh_json.specs.Ordered.{Order, single, numbers, text, array, list, parts, HasOrder, Ranked, a_value, elements, Compare, Continues}
-use Rattle.borsh_json.specs.Orders.{HasFound, OrdersFound, IsOrderIn, IsPending, ArePending}
+use Rattle.borsh_json.specs.Ordered.{Order, single, numbers, text, array, list, parts, other, HasOrder, Compared, a_value, a_copy, elements, IsAtLeast, all_equal}
+use Rattle.borsh_json.specs.Orders.{FindsOrder, IsOrderOf, IsPending, ArePending, IsTurn, IsPartAt, AreAlike}
 use Rattle.borsh_json.specs.Places.{IsAt}
-use Rattle.borsh_json.proofs.OrderLaws.{single_step, numbers_step, text_step, array_step, list_step, parts_step, end_step, element_step, empty_step, all_compared}
+use Rattle.borsh_json.proofs.OrderLaws.{Tells, NumbersCompare, TextsCompare, IsCopyOf, single_tells, numbers_tell, texts_tell, array_tells, parts_tell, list_tells, list_short, element_tells, end_tells, empty_tell, alike_then, other_copy, copy_copy, zeros_tell}
 
 drop_get : (i : ℕ) (qs : List (List ℕ)) (p : List ℕ) → slice_get qs i ≡ Some p → drop i qs ≡ p ∷ drop (suc i) qs
 drop_get i [] p e = cc
 drop_get zero (q ∷ qs) p e = let g : q ≡ p = cc in ap (λ p. p ∷ qs) g
 drop_get (suc i) (q ∷ qs) p e = drop_get i qs p e
 
-pub in_list : (i : ℕ) (qs : List (List ℕ)) (p : List ℕ) → slice_get qs i ≡ Some p → IsIn p qs
-in_list i [] p e = cc
-in_list zero (q ∷ qs) p e = let g : q ≡ p = cc in subst (λ q. IsIn p (q ∷ qs)) (sym g) first
-in_list (suc i) (q ∷ qs) p e = later (in_list i qs p e)
-
-pub short_get : (i : ℕ) (qs : List (List ℕ)) → i < length qs → (p : List ℕ) × (slice_get qs i ≡ Some p)
+short_get : (i : ℕ) (qs : List (List ℕ)) → i < length qs → (p : List ℕ) × (slice_get qs i ≡ Some p)
 short_get i [] h = absurd (omega (arith, h))
 short_get zero (q ∷ qs) h = (q, refl)
 short_get (suc i) (q ∷ qs) h = short_get i qs (omega (arith, h))
@@ -42,155 +36,266 @@ past (suc i) [] h = refl
 past zero (q ∷ qs) h = absurd (omega (arith, h))
 past (suc i) (q ∷ qs) h = past i qs (omega (arith, h))
 
-module _ (F : List ℕ → Option Form) (ns : List Named) (orders : List Known) where
-  abbrev Pends : List Pending → List ℕ → List ℕ → Ordering → Type 0
-  Pends ps L R r = (ts : List Ranked) × (us : List Ranked) × ArePending F ns orders (reverse ps) ts us × Compare F ts us L R r
+past_all : (i : ℕ) (qs : List (List ℕ)) → slice_get qs i ≡ None → drop i qs ≡ []
+past_all zero [] h = refl
+past_all (suc i) [] h = refl
+past_all zero (q ∷ qs) h = cc
+past_all (suc i) (q ∷ qs) h = past_all i qs h
 
-  abbrev Values : List ℕ → List Pending → List ℕ → List ℕ → Ordering → Type 0
-  Values x ps L R r = (ts : List Ranked) × (us : List Ranked) × ArePending F ns orders (reverse ps) ts us × Compare F (a_value x ∷ ts) (a_value x ∷ us) L R r
-
-  abbrev Fronts : List Pending → List ℕ → List ℕ → Ordering → Ordering → Type 0
-  Fronts ps L R r o = MatchOrdering o (r ≡ Less) (Pends ps L R r) (r ≡ Greater)
-
-  fronts : (o : Ordering) (ps : List Pending) (ts us : List Ranked) (L R : List ℕ) (r : Ordering) → ArePending F ns orders (reverse ps) ts us → Continues F o ts us L R r → Fronts ps L R r o
-  fronts Less ps ts us L R r a c = c
-  fronts Equal ps ts us L R r a c = (ts, us, a, c)
-  fronts Greater ps ts us L R r a c = c
+module _ (F : List ℕ → Option Form) (ns : List Named) where
+  -- an order that decides, or what is pending then
+  abbrev pub Fronts : List Pending → List Compared → List ℕ → List ℕ → List ℕ → List ℕ → Ordering → Type 0
+  Fronts ps ts L R M S o = MatchOrdering o (IsAtLeast F ts L R → ⊥) ((us : List Compared) × ArePending F ns (reverse ps) us × AreAlike F ts L R us M S) (IsAtLeast F ts L R)
 
   last_first : (ps : List Pending) (p : Pending) → reverse (ps ++ p ∷ []) ≡ p ∷ reverse ps
   last_first ps p = reverse-append ps (p ∷ [])
 
-  pushed : (ps : List Pending) (p : Pending) (ts us vs ws : List Ranked) → IsPending F ns orders p vs ws → ArePending F ns orders (reverse ps) ts us → ArePending F ns orders (reverse (ps ++ p ∷ [])) (vs ++ ts) (ws ++ us)
-  pushed ps p ts us vs ws i a = subst (λ (l : List Pending). ArePending F ns orders l (vs ++ ts) (ws ++ us)) (sym (last_first ps p)) (vs, ws, ts, us, i, a, refl, refl)
+  pushed : (ps new : List Pending) (p : Pending) (us ts : List Compared) → new ≡ ps ++ p ∷ [] → IsPending F ns p us → ArePending F ns (reverse ps) ts → ArePending F ns (reverse new) (us ++ ts)
+  pushed ps new p us ts e i a = subst (λ (l : List Pending). ArePending F ns l (us ++ ts)) (sym (ap (λ (l : List Pending). reverse l) e ∙ last_first ps p)) (us, ts, i, a, refl)
 
   -- what was pending last, and what is pending before it
-  popped : (all ps : List Pending) (p : Pending) (L R : List ℕ) (r : Ordering) → all ≡ ps ++ p ∷ [] → Pends all L R r → (vs : List Ranked) × (ws : List Ranked) × (ts : List Ranked) × (us : List Ranked) × IsPending F ns orders p vs ws × ArePending F ns orders (reverse ps) ts us × Compare F (vs ++ ts) (ws ++ us) L R r
-  popped all ps p L R r e h =
-      let a = subst (λ (l : List Pending). ArePending F ns orders l h.0 h.1) (ap (λ (l : List Pending). reverse l) e ∙ last_first ps p) h.2 in
-      (a.0, a.1, a.2, a.3, a.4, a.5, subst (λ (us : List Ranked). Compare F (a.0 ++ a.2) us L R r) a.7 (subst (λ (ts : List Ranked). Compare F ts h.1 L R r) a.6 h.3))
+  popped : (all ps : List Pending) (p : Pending) (ts : List Compared) → all ≡ ps ++ p ∷ [] → ArePending F ns (reverse all) ts → (us : List Compared) × (more : List Compared) × IsPending F ns p us × ArePending F ns (reverse ps) more × (ts ≡ us ++ more)
+  popped all ps p ts e a = subst (λ (l : List Pending). ArePending F ns l ts) (ap (λ (l : List Pending). reverse l) e ∙ last_first ps p) a
+
+  kept : (ps : List Pending) (t : Compared) (ts : List Compared) (L R M S : List ℕ) (o : Ordering) → ArePending F ns (reverse ps) ts → Tells F t ts L R M S o [] → Fronts ps (t ∷ ts) L R M S o
+  kept ps t ts L R M S Less a h = h
+  kept ps t ts L R M S Equal a h = (ts, a, h)
+  kept ps t ts L R M S Greater a h = h
 
   -- ---- by the order of a value
-  module _ (x : List ℕ) (ps : List Pending) (L R : List ℕ) (r : Ordering) where
-    pub front_single : IsOrderIn F ns orders x Single → Values x ps L R r → Pends ps L R r
-    front_single o v = (v.0, v.1, v.2, single_step F x (subst (λ (q : Order). HasOrder F x q) o.2 o.1) v.3)
+  module _ (ps : List Pending) (ts : List Compared) (L R : List ℕ) (a : ArePending F ns (reverse ps) ts) where
+    pub front_single : (t : Compared) → IsTurn F ns Single t → Fronts ps (t ∷ ts) L R L R Equal
+    front_single (a_value x) i = (ts, a, single_tells F x ts L R (subst (λ (q : Order). HasOrder F x q) i.2 i.1))
+    front_single (a_copy x) i = let e = i.2 in cc
+    front_single (elements e n m) i = absurd i
 
-    some_bytes : (n : ℕ) (signed : Bool) → HasOrder F x (numbers n signed) → 0 < n
-    some_bytes n signed (inl (z, e)) = cc
-    some_bytes zero signed (inr (z, f)) = absurd (z (zeroed (shape.primitive 0) [] (ap (λ o. option_map shape_of_form o) f.0) refl (λ p i. elim i [ ])))
-    some_bytes (suc n) signed (inr h) = omega arith
+    pub front_number : (t : Compared) (n : ℕ) (signed : Bool) (M S : List ℕ) (o : Ordering) → IsTurn F ns (Number n signed) t → NumbersCompare F n signed L R M S o → Fronts ps (t ∷ ts) L R M S o
+    front_number (a_value x) n signed M S o i c = kept ps (a_value x) ts L R M S o a (numbers_tell F x n signed ts L R M S o (subst (λ (q : Order). HasOrder F x q) i.2 i.1) c)
+    front_number (a_copy x) n signed M S o i c = let e = i.2 in cc
+    front_number (elements e k m) n signed M S o i c = absurd i
 
-    pub front_number : (n : ℕ) (signed : Bool) → IsOrderIn F ns orders x (Number n signed) → Values x ps L R r → (y : ℤ) × (z : ℤ) × (bs : List ℕ) × (cs : List ℕ) × (0 < n) × InRange n signed y × InRange n signed z × (L ≡ tag n y ++ bs) × (R ≡ tag n z ++ cs) × Fronts ps bs cs r (int_cmp y z)
-    front_number n signed o v =
-        let h : HasOrder F x (numbers n signed) = subst (λ (q : Order). HasOrder F x q) o.2 o.1 in
-        let s = numbers_step F x n signed v.0 v.1 L R r h v.3 in
-        (s.0, s.1, s.2, s.3, some_bytes n signed h, s.4, s.5, s.6, s.7, fronts (int_cmp s.0 s.1) ps v.0 v.1 s.2 s.3 r v.2 s.8)
+    pub front_text : (t : Compared) (M S : List ℕ) (o : Ordering) → IsTurn F ns Text t → TextsCompare F L R M S o → Fronts ps (t ∷ ts) L R M S o
+    front_text (a_value x) M S o i c = kept ps (a_value x) ts L R M S o a (texts_tell F x ts L R M S o (subst (λ (q : Order). HasOrder F x q) i.2 i.1) c)
+    front_text (a_copy x) M S o i c = let e = i.2 in cc
+    front_text (elements e k m) M S o i c = absurd i
 
-    pub front_text : IsOrderIn F ns orders x Text → Values x ps L R r → (s : List ℕ) × (t : List ℕ) × (bs : List ℕ) × (cs : List ℕ) × (length s < 256 ^ 4) × (length t < 256 ^ 4) × (L ≡ tag 4 (pos (length s)) ++ s ++ bs) × (R ≡ tag 4 (pos (length t)) ++ t ++ cs) × Fronts ps bs cs r (slice_cmp nat_cmp s t)
-    front_text o v =
-        let s = text_step F x v.0 v.1 L R r (subst (λ (q : Order). HasOrder F x q) o.2 o.1) v.3 in
-        (s.0, s.1, s.2, s.3, s.4, s.5, s.6, s.7, fronts (slice_cmp nat_cmp s.0 s.1) ps v.0 v.1 s.2 s.3 r v.2 s.8)
+    pub front_array : (t : Compared) (new : List Pending) (n at : ℕ) → new ≡ ps ++ Elements at n n ∷ [] → IsTurn F ns (Array n at) t → Fronts new (t ∷ ts) L R L R Equal
+    front_array (a_value x) new n at p i =
+        let o = i.2 in
+        let e = o.0 in
+        (elements e n n ∷ ts, pushed ps new (Elements at n n) (elements e n n ∷ []) ts p (e, o.1, refl) a, array_tells F x n e ts L R (subst (λ (q : Order). HasOrder F x q) o.2 i.1))
+    front_array (a_copy x) new n at p i = let e = i.2 in cc
+    front_array (elements e k m) new n at p i = absurd i
 
-    pub front_array : (n at : ℕ) → IsOrderIn F ns orders x (Array n at) → Values x ps L R r → Pends (ps ++ Elements at n n ∷ []) L R r
-    front_array n at o v =
-        let e = o.2.0 in
-        let q = o.2.2 in
-        let f : HasFound orders at = o.3 e at (subst (λ (q : Order). IsIn e (Rattle.borsh_json.specs.Ordered.needs q)) (sym q) first) o.2.1 in
-        (elements e n ∷ v.0, elements e n ∷ v.1, pushed ps (Elements at n n) v.0 v.1 (elements e n ∷ []) (elements e n ∷ []) (e, o.2.1, f, refl, refl) v.2, array_step F x n e (subst (λ (q : Order). HasOrder F x q) q o.1) v.3)
-
-    widths : (w : ℕ) (e : List ℕ) → HasOrder F x (list w e) → (w ≡ 1) ⊎ (w ≡ 4)
-    widths w e (inl (z, q)) = cc
-    widths w e (inr (z, inl h)) = inr h.0
-    widths w e (inr (z, inr h)) = inl h.0
-
-    -- a list is compared by its elements; or, where these have no bytes, by their numbers
-    pub front_list : (w at : ℕ) → IsOrderIn F ns orders x (Counted w at) → Values x ps L R r → (n : ℕ) × (m : ℕ) × (bs : List ℕ) × (cs : List ℕ) × ((w ≡ 1) ⊎ (w ≡ 4)) × (n < 256 ^ w) × (m < 256 ^ w) × (L ≡ tag w (pos n) ++ bs) × (R ≡ tag w (pos m) ++ cs) × Pends (ps ++ Elements at n m ∷ []) bs cs r × ((e : List ℕ) × IsAt ns at e × (HasNoBytes F e → Fronts ps bs cs r (nat_cmp n m)))
-    front_list w at o v =
-        let e = o.2.0 in
-        let q = o.2.2 in
-        let h : HasOrder F x (list w e) = subst (λ (q : Order). HasOrder F x q) q o.1 in
-        let f : HasFound orders at = o.3 e at (subst (λ (q : Order). IsIn e (Rattle.borsh_json.specs.Ordered.needs q)) (sym q) first) o.2.1 in
-        let s = list_step F x w e v.0 v.1 L R r h v.3 in
-        (s.0, s.1, s.2, s.3, widths w e h, s.4, s.5, s.6, s.7, (elements e s.0 ∷ v.0, elements e s.1 ∷ v.1, pushed ps (Elements at s.0 s.1) v.0 v.1 (elements e s.0 ∷ []) (elements e s.1 ∷ []) (e, o.2.1, f, refl, refl) v.2, s.8), (e, o.2.1, λ z. fronts (nat_cmp s.0 s.1) ps v.0 v.1 s.2 s.3 r v.2 (empty_step F e s.0 s.1 v.0 v.1 s.2 s.3 r z s.8)))
-
-    pub front_tuple : (at n : ℕ) → IsOrderIn F ns orders x (Tuple at n) → Values x ps L R r → Pends (ps ++ Parts at n 0 ∷ []) L R r
-    front_tuple at n o v =
-        let qs = o.2.0 in
-        let q = o.2.4 in
+    pub front_tuple : (t : Compared) (new : List Pending) (at n : ℕ) → new ≡ ps ++ Parts at n 0 ∷ [] → IsTurn F ns (Tuple at n) t → Fronts new (t ∷ ts) L R L R Equal
+    front_tuple (a_value x) new at n p i =
+        let o = i.2 in
+        let qs = o.0 in
         let vs = map (λ p. a_value p) qs in
-        let f : OrdersFound ns orders qs = subst (λ (q : Order). OrdersFound ns orders (Rattle.borsh_json.specs.Ordered.needs q)) q o.3 in
-        (vs ++ v.0, vs ++ v.1, pushed ps (Parts at n 0) v.0 v.1 vs vs (x, qs, o.2.1, o.2.2, o.2.3, f, refl, refl) v.2, parts_step F x qs (subst (λ (q : Order). HasOrder F x q) q o.1) v.3)
+        (vs ++ ts, pushed ps new (Parts at n 0) vs ts p (x, qs, o.1, o.2, o.3, refl) a, parts_tell F x qs ts L R (subst (λ (q : Order). HasOrder F x q) o.4 i.1))
+    front_tuple (a_copy x) new at n p i = let e = i.2 in cc
+    front_tuple (elements e k m) new at n p i = absurd i
 
-  pub fronts_at : (ps : List Pending) (L M R S : List ℕ) (r o q : Ordering) → Fronts ps L R r o → q ≡ o → M ≡ L → S ≡ R → Fronts ps M S r q
-  fronts_at ps L M R S r o q f e l k =
-      subst (λ q. Fronts ps M S r q) (sym e) (subst (λ M. Fronts ps M S r o) (sym l) (subst (λ S. Fronts ps L S r o) (sym k) f))
+    widths : (x : List ℕ) (w : ℕ) (e : List ℕ) → HasOrder F x (list w e) → (w ≡ 1) ⊎ (w ≡ 4)
+    widths x w e (inl (z, q)) = cc
+    widths x w e (inr (z, inl (inl h))) = inr h.0
+    widths x w e (inr (z, inl (inr h))) = inl h.0
+    widths x w e (inr (z, inr h)) = let q = h.0 in cc
 
-  pub pends_at : (ps : List Pending) (L M R S : List ℕ) (r : Ordering) → Pends ps L R r → M ≡ L → S ≡ R → Pends ps M S r
-  pends_at ps L M R S r f l k = subst (λ M. Pends ps M S r) (sym l) (subst (λ S. Pends ps L S r) (sym k) f)
+    -- a list has a count of one byte or four
+    pub turn_list : (t : Compared) (w at : ℕ) → IsTurn F ns (Counted w at) t → (x : List ℕ) × (e : List ℕ) × (t ≡ a_value x) × IsAt ns at e × HasOrder F x (list w e) × ((w ≡ 1) ⊎ (w ≡ 4))
+    turn_list (a_value x) w at i =
+        let o = i.2 in
+        let h : HasOrder F x (list w o.0) = subst (λ (q : Order). HasOrder F x q) o.2 i.1 in
+        (x, o.0, refl, o.1, h, widths x w o.0 h)
+    turn_list (a_copy x) w at i = let e = i.2 in cc
+    turn_list (elements e k m) w at i = absurd i
 
-  pub pends_for : (ps qs : List Pending) (L R : List ℕ) (r : Ordering) → Pends ps L R r → qs ≡ ps → Pends qs L R r
-  pends_for ps qs L R r p e = subst (λ (ps : List Pending). Pends ps L R r) (sym e) p
+    pub front_short : (t : Compared) (x : List ℕ) (w : ℕ) (e : List ℕ) → t ≡ a_value x → HasOrder F x (list w e) → (w ≤ length L → w ≤ length R → ⊥) → IsAtLeast F (t ∷ ts) L R → ⊥
+    front_short t x w e q h short = subst (λ (t : Compared). IsAtLeast F (t ∷ ts) L R → ⊥) (sym q) (list_short F x w e ts L R h short)
 
-  pub values_for : (x : List ℕ) (ps qs : List Pending) (L R : List ℕ) (r : Ordering) → Values x ps L R r → qs ≡ ps → Values x qs L R r
-  values_for x ps qs L R r v e = subst (λ (ps : List Pending). Values x ps L R r) (sym e) v
+    module _ (t : Compared) (x : List ℕ) (w at : ℕ) (e : List ℕ) (q : t ≡ a_value x) (h : HasOrder F x (list w e)) (n m : ℕ) (M S : List ℕ) (i : n < 256 ^ w) (j : m < 256 ^ w) (l : L ≡ tag w (pos n) ++ M) (r : R ≡ tag w (pos m) ++ S) where
+      alike : AreAlike F (t ∷ ts) L R (elements e n m ∷ ts) M S
+      alike = subst (λ (t : Compared). AreAlike F (t ∷ ts) L R (elements e n m ∷ ts) M S) (sym q) (list_tells F x w e n m ts L R M S h i j l r)
 
-  pub decided_front : (ps : List Pending) (L R : List ℕ) (r o : Ordering) → (o ≡ Equal → ⊥) → Fronts ps L R r o → o ≡ r
-  decided_front ps L R r Less n f = sym f
-  decided_front ps L R r Equal n f = absurd (n refl)
-  decided_front ps L R r Greater n f = sym f
+      -- a list is compared by its elements; or, where these have no bytes, by their numbers
+      pub front_list : (new : List Pending) → new ≡ ps ++ Elements at n m ∷ [] → IsAt ns at e → Fronts new (t ∷ ts) L R M S Equal
+      front_list new p k = (elements e n m ∷ ts, pushed ps new (Elements at n m) (elements e n m ∷ []) ts p (e, k, refl) a, alike)
+
+      pub front_empty : (o : Ordering) → HasNoBytes F e → o ≡ nat_cmp n m → Fronts ps (t ∷ ts) L R M S o
+      front_empty o z c = kept ps t ts L R M S o a (subst (λ o. Tells F t ts L R M S o []) (sym c) (alike_then F ts (nat_cmp n m) alike (empty_tell F e n m ts M S z)))
+
+  -- ---- a value whose order isn't told
+  pub turn_at : (t : Compared) (at : ℕ) → IsTurn F ns (Other at) t → (x : List ℕ) × IsAt ns at x
+  turn_at (a_value y) at i = (y, i.2.0)
+  turn_at (a_copy y) at i =
+      let e : Other at ≡ Other i.0 = i.2 in
+      let p : at ≡ i.0 = cc in
+      (y, subst (λ k. IsAt ns k y) (sym p) i.1)
+  turn_at (elements e n m) at i = absurd i
+
+  pub turn_other : (t : Compared) (x : List ℕ) (at : ℕ) → IsAt ns at x → IsTurn F ns (Other at) t → IsCopyOf F x t
+  turn_other (a_value y) x at k i =
+      let o = i.2 in
+      let e : Some y ≡ Some x = sym o.0 ∙ k in
+      let q : y ≡ x = cc in
+      subst (λ y. IsCopyOf F x (a_value y)) (sym q) (other_copy F x (subst (λ y. HasOrder F y other) q (subst (λ (q : Order). HasOrder F y q) o.1 i.1)))
+  turn_other (a_copy y) x at k i =
+      let e : Other at ≡ Other i.0 = i.2 in
+      let p : at ≡ i.0 = cc in
+      let g : Some y ≡ Some x = sym i.1 ∙ ap (λ j. name_of ns j) (sym p) ∙ k in
+      let q : y ≡ x = cc in
+      subst (λ y. IsCopyOf F x (a_copy y)) (sym q) (copy_copy F x)
+  turn_other (elements e n m) x at k i = absurd i
+
+  pub front_copies : (ps new : List Pending) (p : Pending) (t : Compared) (ts us : List Compared) (L R M S : List ℕ) → ArePending F ns (reverse ps) ts → new ≡ ps ++ p ∷ [] → IsPending F ns p us → AreAlike F (t ∷ ts) L R (us ++ ts) M S → Fronts new (t ∷ ts) L R M S Equal
+  front_copies ps new p t ts us L R M S a e i h = (us ++ ts, pushed ps new p us ts e i a, h)
 
   -- ---- what comes next
-  module _ (all ps : List Pending) (L R : List ℕ) (r : Ordering) where
+  abbrev pub Nexts : List Pending → Ordered → List Compared → Type 0
+  Nexts new found us = (t : Compared) × (vs : List Compared) × IsTurn F ns found t × ArePending F ns (reverse new) vs × ((L R : List ℕ) → AreAlike F us L R (t ∷ vs) L R)
+
+  pub alike_both : {ts us vs : List Compared} {L R M S N T : List ℕ} → AreAlike F ts L R us M S → AreAlike F us M S vs N T → AreAlike F ts L R vs N T
+  alike_both a b = ((λ h. a.0 (b.0 h)), (λ h. b.1 (a.1 h)))
+
+  alike_same : {us vs : List Compared} (L R : List ℕ) → us ≡ vs → AreAlike F us L R vs L R
+  alike_same {us = us} L R e = subst (λ (vs : List Compared). AreAlike F us L R vs L R) e ((λ h. h), (λ h. h))
+
+  module _ (all ps : List Pending) (us : List Compared) (a : ArePending F ns (reverse all) us) where
     -- the next elements of two lists
-    pub next_elements : (at n m : ℕ) → all ≡ ps ++ Elements at n m ∷ [] → 0 < n → 0 < m → Pends all L R r → (e : List ℕ) × IsAt ns at e × HasFound orders at × Values e (ps ++ Elements at (n - 1) (m - 1) ∷ []) L R r
-    next_elements at n m q i j h =
-        let p = popped all ps (Elements at n m) L R r q h in
-        let k = p.4 in
-        let a : n ≡ suc (n - 1) = omega (arith, i) in
-        let b : m ≡ suc (m - 1) = omega (arith, j) in
-        let e = k.0 in
-        let c : Compare F (elements e (suc (n - 1)) ∷ p.2) (elements e (suc (m - 1)) ∷ p.3) L R r = subst (λ (us : List Ranked). Compare F (elements e (suc (n - 1)) ∷ p.2) us L R r) (ap (λ (ws : List Ranked). ws ++ p.3) k.4 ∙ ap (λ m. elements e m ∷ p.3) b) (subst (λ (ts : List Ranked). Compare F ts (p.1 ++ p.3) L R r) (ap (λ (vs : List Ranked). vs ++ p.2) k.3 ∙ ap (λ n. elements e n ∷ p.2) a) p.6) in
-        (e, k.1, k.2, (elements e (n - 1) ∷ p.2, elements e (m - 1) ∷ p.3, pushed ps (Elements at (n - 1) (m - 1)) p.2 p.3 (elements e (n - 1) ∷ []) (elements e (m - 1) ∷ []) (e, k.1, k.2, refl, refl) p.5, element_step F e (n - 1) (m - 1) p.2 p.3 L R r c))
+    pub next_elements : (new : List Pending) (at n m : ℕ) (found : Ordered) → all ≡ ps ++ Elements at n m ∷ [] → 0 < n → 0 < m → ((x : List ℕ) → IsAt ns at x → FindsOrder F ns x found) → new ≡ ps ++ Elements at (n - 1) (m - 1) ∷ [] → Nexts new found us
+    next_elements new at n m found q i j o e =
+        let p = popped all ps (Elements at n m) us q a in
+        let k = p.2 in
+        let x = k.0 in
+        let c : n ≡ suc (n - 1) = omega (arith, i) in
+        let d : m ≡ suc (m - 1) = omega (arith, j) in
+        let s : us ≡ elements x (suc (n - 1)) (suc (m - 1)) ∷ p.1 = p.4 ∙ ap (λ (l : List Compared). l ++ p.1) k.2 ∙ ap (λ n. elements x n m ∷ p.1) c ∙ ap (λ m. elements x (suc (n - 1)) m ∷ p.1) d in
+        (a_value x, elements x (n - 1) (m - 1) ∷ p.1, o x k.1, pushed ps new (Elements at (n - 1) (m - 1)) (elements x (n - 1) (m - 1) ∷ []) p.1 e (x, k.1, refl) p.3, λ L R. alike_both (alike_same L R s) (element_tells F x (n - 1) (m - 1) p.1 L R))
 
     -- the end of one of the lists
-    pub end_elements : (at n m : ℕ) → all ≡ ps ++ Elements at n m ∷ [] → (n ≡ 0) ⊎ (m ≡ 0) → Pends all L R r → Fronts ps L R r (nat_cmp n m)
-    end_elements at n m q z h =
-        let p = popped all ps (Elements at n m) L R r q h in
-        let k = p.4 in
-        let e = k.0 in
-        let c : Compare F (elements e n ∷ p.2) (elements e m ∷ p.3) L R r = subst (λ (us : List Ranked). Compare F (elements e n ∷ p.2) us L R r) (ap (λ (ws : List Ranked). ws ++ p.3) k.4) (subst (λ (ts : List Ranked). Compare F ts (p.1 ++ p.3) L R r) (ap (λ (vs : List Ranked). vs ++ p.2) k.3) p.6) in
-        fronts (nat_cmp n m) ps p.2 p.3 L R r p.5 (end_step F e n m p.2 p.3 L R r z c)
+    ends : (at n m : ℕ) → all ≡ ps ++ Elements at n m ∷ [] → (n ≡ 0) ⊎ (m ≡ 0) → (vs : List Compared) × ArePending F ns (reverse ps) vs × ((L R : List ℕ) → MatchOrdering (nat_cmp n m) (IsAtLeast F us L R → ⊥) (AreAlike F us L R vs L R) (IsAtLeast F us L R))
+    ends at n m q z =
+        let p = popped all ps (Elements at n m) us q a in
+        let k = p.2 in
+        let x = k.0 in
+        let s : us ≡ elements x n m ∷ p.1 = p.4 ∙ ap (λ (l : List Compared). l ++ p.1) k.2 in
+        (p.1, p.3, λ L R. alike_then F p.1 (nat_cmp n m) (alike_same L R s) (end_tells F x n m p.1 L R z))
 
-    pub both_end : (at n m : ℕ) → all ≡ ps ++ Elements at n m ∷ [] → (n ≡ 0) ⊎ (m ≡ 0) → n ≡ m → Pends all L R r → Pends ps L R r
-    both_end at n m q z e h = subst (λ o. Fronts ps L R r o) (sym (nat_cmp_is n m Equal e)) (end_elements at n m q z h)
+    pub both_end : (at n m : ℕ) → all ≡ ps ++ Elements at n m ∷ [] → (n ≡ 0) ⊎ (m ≡ 0) → n ≡ m → (vs : List Compared) × ArePending F ns (reverse ps) vs × ((L R : List ℕ) → AreAlike F us L R vs L R)
+    both_end at n m q z e =
+        let t = ends at n m q z in
+        let k : nat_cmp n m ≡ Equal = sym (nat_cmp_is n m Equal e) in
+        (t.0, t.1, λ L R. subst (λ o. MatchOrdering o (IsAtLeast F us L R → ⊥) (AreAlike F us L R t.0 L R) (IsAtLeast F us L R)) k (t.2 L R))
 
-    pub one_ends : (at n m : ℕ) → all ≡ ps ++ Elements at n m ∷ [] → (n ≡ 0) ⊎ (m ≡ 0) → (n ≡ m → ⊥) → Pends all L R r → nat_cmp n m ≡ r
-    one_ends at n m q z d h = decided (nat_cmp n m) refl (end_elements at n m q z h)
+    pub one_ends : (at n m : ℕ) → all ≡ ps ++ Elements at n m ∷ [] → (n ≡ 0) ⊎ (m ≡ 0) → (n ≡ m → ⊥) → (L R : List ℕ) → MatchOrdering (nat_cmp n m) (IsAtLeast F us L R → ⊥) (IsAtLeast F us L R) (IsAtLeast F us L R)
+    one_ends at n m q z d L R = by (ends at n m q z).0 (nat_cmp n m) refl ((ends at n m q z).2 L R)
       where
-        decided : (o : Ordering) → nat_cmp n m ≡ o → Fronts ps L R r o → o ≡ r
-        decided Less k f = sym f
-        decided Equal k f = absurd (d (subst (λ o. MatchOrdering o (n < m) (n ≡ m) (m < n)) k (Rattle.std.proofs.lemmas.Cmp.ranked n m (nat_cmp n m) refl)))
-        decided Greater k f = sym f
+        by : (vs : List Compared) (o : Ordering) → nat_cmp n m ≡ o → MatchOrdering o (IsAtLeast F us L R → ⊥) (AreAlike F us L R vs L R) (IsAtLeast F us L R) → MatchOrdering o (IsAtLeast F us L R → ⊥) (IsAtLeast F us L R) (IsAtLeast F us L R)
+        by vs Less k f = f
+        by vs Equal k f = absurd (d (subst (λ o. MatchOrdering o (n < m) (n ≡ m) (m < n)) k (ranked n m (nat_cmp n m) refl)))
+        by vs Greater k f = f
 
     -- the next part of two tuples
-    pub next_part : (at n i : ℕ) → all ≡ ps ++ Parts at n i ∷ [] → i < n → Pends all L R r → (x : List ℕ) × (qs : List (List ℕ)) × (p : List ℕ) × IsAt ns at x × (F x ≡ Some (tuple qs)) × (slice_get qs i ≡ Some p) × ((k : ℕ) → IsAt ns k p → HasFound orders k) × Values p (ps ++ Parts at n (i + 1) ∷ []) L R r
-    next_part at n i q l h =
-        let p = popped all ps (Parts at n i) L R r q h in
-        let k = p.4 in
+    pub part_there : (at n i : ℕ) → all ≡ ps ++ Parts at n i ∷ [] → i < n → (x : List ℕ) × (qs : List (List ℕ)) × (p : List ℕ) × IsAt ns at x × (F x ≡ Some (tuple qs)) × (slice_get qs i ≡ Some p)
+    part_there at n i q l =
+        let k = (popped all ps (Parts at n i) us q a).2 in
+        let g = short_get i k.1 (let h = k.4 in omega (arith, l, h)) in
+        (k.0, k.1, g.0, k.2, k.3, g.1)
+
+    pub next_part : (new : List Pending) (at n i : ℕ) (found : Ordered) (q : all ≡ ps ++ Parts at n i ∷ []) (l : i < n) → FindsOrder F ns (part_there at n i q l).2 found → new ≡ ps ++ Parts at n (i + 1) ∷ [] → Nexts new found us
+    unfolding short_get part_there
+    next_part new at n i found q l o e =
+        let p = popped all ps (Parts at n i) us q a in
+        let k = p.2 in
         let qs = k.1 in
-        let g = short_get i qs (omega (arith, l, k.4)) in
+        let g = short_get i qs (let h = k.4 in omega (arith, l, h)) in
         let s : suc i ≡ i + 1 = omega arith in
         let vs = map (λ p. a_value p) (drop (i + 1) qs) in
         let d : map (λ p. a_value p) (drop i qs) ≡ a_value g.0 ∷ vs = ap (λ (l : List (List ℕ)). map (λ p. a_value p) l) (drop_get i qs g.0 g.1 ∙ ap (λ j. g.0 ∷ drop j qs) s) in
-        let c : Compare F (a_value g.0 ∷ vs ++ p.2) (a_value g.0 ∷ vs ++ p.3) L R r = subst (λ (us : List Ranked). Compare F (a_value g.0 ∷ vs ++ p.2) us L R r) (ap (λ (ws : List Ranked). ws ++ p.3) (k.7 ∙ d)) (subst (λ (ts : List Ranked). Compare F ts (p.1 ++ p.3) L R r) (ap (λ (vs : List Ranked). vs ++ p.2) (k.6 ∙ d)) p.6) in
-        (k.0, qs, g.0, k.2, k.3, g.1, (λ j a. k.5 g.0 j (in_list i qs g.0 g.1) a), (vs ++ p.2, vs ++ p.3, pushed ps (Parts at n (i + 1)) p.2 p.3 vs vs (k.0, qs, k.2, k.3, k.4, k.5, refl, refl) p.5, c))
+        (a_value g.0, vs ++ p.1, o, pushed ps new (Parts at n (i + 1)) vs p.1 e (k.0, qs, k.2, k.3, k.4, refl) p.3, λ L R. alike_same L R (p.4 ∙ ap (λ (l : List Compared). l ++ p.1) (k.5 ∙ d)))
 
-    pub end_parts : (at n i : ℕ) → all ≡ ps ++ Parts at n i ∷ [] → n ≤ i → Pends all L R r → Pends ps L R r
-    end_parts at n i q l h =
-        let p = popped all ps (Parts at n i) L R r q h in
-        let k = p.4 in
-        let d : map (λ p. a_value p) (drop i k.1) ≡ [] = ap (λ (l : List (List ℕ)). map (λ p. a_value p) l) (past i k.1 (omega (arith, l, k.4))) in
-        (p.2, p.3, p.5, subst (λ (us : List Ranked). Compare F p.2 us L R r) (ap (λ (ws : List Ranked). ws ++ p.3) (k.7 ∙ d)) (subst (λ (ts : List Ranked). Compare F ts (p.1 ++ p.3) L R r) (ap (λ (vs : List Ranked). vs ++ p.2) (k.6 ∙ d)) p.6))
+    pub end_parts : (at n i : ℕ) → all ≡ ps ++ Parts at n i ∷ [] → n ≤ i → (vs : List Compared) × ArePending F ns (reverse ps) vs × ((L R : List ℕ) → AreAlike F us L R vs L R)
+    end_parts at n i q l =
+        let p = popped all ps (Parts at n i) us q a in
+        let k = p.2 in
+        let d : map (λ p. a_value p) (drop i k.1) ≡ [] = ap (λ (l : List (List ℕ)). map (λ p. a_value p) l) (past i k.1 (let h = k.4 in omega (arith, l, h))) in
+        (p.1, p.3, λ L R. alike_same L R (p.4 ∙ ap (λ (l : List Compared). l ++ p.1) (k.5 ∙ d)))
 
-  pub nothing_pends : (ps : List Pending) (L R : List ℕ) (r : Ordering) → length ps ≡ 0 → Pends ps L R r → Equal ≡ r
-  nothing_pends (p ∷ ps) L R r e h = absurd (omega (arith, e))
-  nothing_pends [] L R r e h = all_compared F L R r (subst (λ (us : List Ranked). Compare F [] us L R r) h.2.1 (subst (λ (ts : List Ranked). Compare F ts h.1 L R r) h.2.0 h.3))
+    -- the next of some copies
+    pub next_copy : (new : List Pending) (at n : ℕ) → all ≡ ps ++ Copies at n ∷ [] → 0 < n → new ≡ ps ++ Copies at (n - 1) ∷ [] → Nexts new (Other at) us
+    next_copy new at n q i e =
+        let p = popped all ps (Copies at n) us q a in
+        let k = p.2 in
+        let x = k.0 in
+        let c : n ≡ suc (n - 1) = omega (arith, i) in
+        let s : us ≡ a_copy x ∷ replicate (n - 1) (a_copy x) ++ p.1 = p.4 ∙ ap (λ (l : List Compared). l ++ p.1) (k.2 ∙ ap (λ n. replicate n (a_copy x)) c) in
+        (a_copy x, replicate (n - 1) (a_copy x) ++ p.1, (at, k.1, refl), pushed ps new (Copies at (n - 1)) (replicate (n - 1) (a_copy x)) p.1 e (x, k.1, refl) p.3, λ L R. alike_same L R s)
+
+    -- there is none, or they have no bytes
+    pub end_copies : (at n : ℕ) → all ≡ ps ++ Copies at n ∷ [] → ((x : List ℕ) → IsAt ns at x → (n ≡ 0) ⊎ HasNoBytes F x) → (vs : List Compared) × ArePending F ns (reverse ps) vs × ((L R : List ℕ) → AreAlike F us L R vs L R)
+    end_copies at n q z =
+        let p = popped all ps (Copies at n) us q a in
+        let k = p.2 in
+        let x = k.0 in
+        let s : us ≡ replicate n (a_copy x) ++ p.1 = p.4 ∙ ap (λ (l : List Compared). l ++ p.1) k.2 in (
+          p.1,
+          p.3,
+          λ L R. alike_both (alike_same L R s) (elim (z x k.1) [
+            | inl e ↦ alike_same L R (ap (λ n. replicate n (a_copy x) ++ p.1) e)
+            | inr h ↦ zeros_tell F x n p.1 L R h
+          ]),
+        )
+
+    pub copied_at : (at i : ℕ) → all ≡ ps ++ PartCopies at i ∷ [] → (x : List ℕ) × (f : Form) × IsAt ns at x × (F x ≡ Some f)
+    copied_at at i q = let k = (popped all ps (PartCopies at i) us q a).2 in (k.0, k.1, k.2, k.3)
+
+    -- the next part of a definition
+    pub next_part_copy : (new : List Pending) (at i part : ℕ) (q : all ≡ ps ++ PartCopies at i ∷ []) → IsPartAt ns (references (shape_of_form (copied_at at i q).1)) i (Some part) → new ≡ ps ++ PartCopies at (i + 1) ∷ [] → Nexts new (Other part) us
+    unfolding popped copied_at
+    next_part_copy new at i part q g e =
+        let p = popped all ps (PartCopies at i) us q a in
+        let k = p.2 in
+        let qs = references (shape_of_form k.1) in
+        let s : suc i ≡ i + 1 = omega arith in
+        let vs = map (λ p. a_copy p) (drop (i + 1) qs) in
+        let d : map (λ p. a_copy p) (drop i qs) ≡ a_copy g.0 ∷ vs = ap (λ (l : List (List ℕ)). map (λ p. a_copy p) l) (drop_get i qs g.0 g.1 ∙ ap (λ j. g.0 ∷ drop j qs) s) in
+        (a_copy g.0, vs ++ p.1, (part, g.2, refl), pushed ps new (PartCopies at (i + 1)) vs p.1 e (k.0, k.1, k.2, k.3, refl) p.3, λ L R. alike_same L R (p.4 ∙ ap (λ (l : List Compared). l ++ p.1) (k.4 ∙ d)))
+
+    pub end_part_copies : (at i : ℕ) (q : all ≡ ps ++ PartCopies at i ∷ []) → IsPartAt ns (references (shape_of_form (copied_at at i q).1)) i None → (vs : List Compared) × ArePending F ns (reverse ps) vs × ((L R : List ℕ) → AreAlike F us L R vs L R)
+    unfolding popped copied_at
+    end_part_copies at i q g =
+        let p = popped all ps (PartCopies at i) us q a in
+        let k = p.2 in
+        let d : map (λ p. a_copy p) (drop i (references (shape_of_form k.1))) ≡ [] = ap (λ (l : List (List ℕ)). map (λ p. a_copy p) l) (past_all i (references (shape_of_form k.1)) g) in
+        (p.1, p.3, λ L R. alike_same L R (p.4 ∙ ap (λ (l : List Compared). l ++ p.1) (k.4 ∙ d)))
+
+  pub nothing_pends : (ps : List Pending) (us : List Compared) (L R : List ℕ) → length ps ≡ 0 → ArePending F ns (reverse ps) us → IsAtLeast F us L R
+  nothing_pends (p ∷ ps) us L R e a = absurd (omega (arith, e))
+  nothing_pends [] us L R e a = subst (λ (us : List Compared). IsAtLeast F us L R) (sym a) all_equal
+
+  -- ---- answers
+  -- of what comes first
+  pub front_answers : (ts : List Compared) (L R : List ℕ) (x : List Compared) (M S N T : List ℕ) (ps : List Pending) (o : Ordering) (b : Bool) → AreAlike F ts L R x M S → Fronts ps x M S N T o → (o ≡ Equal → ⊥) → MatchBool b (o ≡ Less → ⊥) (o ≡ Less) → MatchBool b (IsAtLeast F ts L R) (IsAtLeast F ts L R → ⊥)
+  front_answers ts L R x M S N T ps Less true a h n t = absurd (t refl)
+  front_answers ts L R x M S N T ps Less false a h n t = λ v. h (a.1 v)
+  front_answers ts L R x M S N T ps Equal b a h n t = absurd (n refl)
+  front_answers ts L R x M S N T ps Greater true a h n t = a.0 h
+  front_answers ts L R x M S N T ps Greater false a h n t = cc
+
+  -- of what is pending
+  pub pending_answers : (ts : List Compared) (L R : List ℕ) (x : List Compared) (M S : List ℕ) (o : Ordering) (b : Bool) → AreAlike F ts L R x M S → MatchOrdering o (IsAtLeast F x M S → ⊥) (IsAtLeast F x M S) (IsAtLeast F x M S) → MatchBool b (o ≡ Less → ⊥) (o ≡ Less) → MatchBool b (IsAtLeast F ts L R) (IsAtLeast F ts L R → ⊥)
+  pending_answers ts L R x M S Less true a h t = absurd (t refl)
+  pending_answers ts L R x M S Less false a h t = λ v. h (a.1 v)
+  pending_answers ts L R x M S Equal true a h t = a.0 h
+  pending_answers ts L R x M S Equal false a h t = cc
+  pending_answers ts L R x M S Greater true a h t = a.0 h
+  pending_answers ts L R x M S Greater false a h t = cc
+
+  pub pending_decides : (ts x : List Compared) (L R : List ℕ) (o q : Ordering) → AreAlike F ts L R x L R → o ≡ q → MatchOrdering q (IsAtLeast F x L R → ⊥) (IsAtLeast F x L R) (IsAtLeast F x L R) → MatchOrdering o (IsAtLeast F ts L R → ⊥) (IsAtLeast F ts L R) (IsAtLeast F ts L R)
+  pending_decides ts x L R o q a e h = subst (λ o. MatchOrdering o (IsAtLeast F ts L R → ⊥) (IsAtLeast F ts L R) (IsAtLeast F ts L R)) (sym e) (by q h)
+    where
+      by : (q : Ordering) → MatchOrdering q (IsAtLeast F x L R → ⊥) (IsAtLeast F x L R) (IsAtLeast F x L R) → MatchOrdering q (IsAtLeast F ts L R → ⊥) (IsAtLeast F ts L R) (IsAtLeast F ts L R)
+      by Less h = λ v. h (a.1 v)
+      by Equal h = a.0 h
+      by Greater h = a.0 h

@@ -1,20 +1,21 @@
 -- The names and definitions at places.
 use Rattle.std.proofs.Common.{◌≡◌, ◌⊎◌, inl, inr, ℕ, suc, zero, List, [], ◌∷◌, ◌++◌, length, Some, None, refl, sym, ◌∙◌, ap, subst, arith, Bool, Decides}
-use Rattle.std.specs.Prelude.{Option, option_map, slice_get}
+use Rattle.std.specs.Prelude.{◌<◌, MatchOption, Option, option_map, slice_get}
 use Rattle.std.specs.Borrow.{Bor}
 use Rattle.std.proofs.lemmas.Option.{slice_get-get_or}
 use Rattle.borsh_walks.specs.declared.definition.Definition.{Definition}
 use Rattle.borsh_walks.specs.Container.{Shape, references, IsZeroSize}
 use Rattle.borsh_plan.specs.declared.plan.Plan.{Plan}
 use Rattle.borsh_plan.specs.declared.named.Named.{Named}
-use Rattle.borsh_plan.specs.Names.{IsPlaceOf, name_of, found_definition, shape_at, parts_in}
+use Rattle.borsh_plan.specs.Names.{IsPlaceOf, name_at, name_of, found_definition, shape_at, parts_in}
 use Rattle.borsh_plan.proofs.Laws.{defined, looked_up}
 use Rattle.borsh_plan.proofs.Places.{name_is, name_there}
 use Rattle.borsh_plan.specs.Plan.{IsZeroAt, definitions_of, map_of, names_of as plan_names}
 use Rattle.borsh_json.specs.declared.kinds.Kind.{Kind as Found}
+use Rattle.borsh_json.specs.Orders.{IsPartAt}
 use Rattle.borsh_json.specs.Places.{IsAt}
 use Rattle.borsh_json.specs.Forms.{Form, form_of, forms_in, shape_of_form, HasNoBytes}
-use Rattle.borsh_json.proofs.FormsLaws.{shapes_are}
+use Rattle.borsh_walks.proofs.Forms.{shapes_are}
 
 module _ (l : Plan) where
   -- the definition at a place is that of the map
@@ -35,6 +36,16 @@ module _ (l : Plan) where
       found : (o : Option ℕ) → IsPlaceOf (plan_names l) at index o → slice_get (parts_in (shape_at (plan_names l) at)) index ≡ Some y → (k : ℕ) × (o ≡ Some k) × (name_of (plan_names l) k ≡ Some y)
       found None p q = cc
       found (Some k) p q = (k, refl, name_there (plan_names l) k p.0 ∙ sym p.1 ∙ q)
+
+  -- whether there is that part
+  pub part_found : (at index : ℕ) (x : List ℕ) (f : Form) (o : Option ℕ) → IsPlaceOf (plan_names l) at index o → name_of (plan_names l) at ≡ Some x → forms_in (map_of l) x ≡ Some f → IsPartAt (plan_names l) (references (shape_of_form f)) index o
+  part_found at index x f o place n d =
+      let c : Some (shape_of_form f) ≡ shape_at (plan_names l) at = ap (λ o. option_map shape_of_form o) (sym d) ∙ ap (λ C. C x) (shapes_are (map_of l)) ∙ defined l x at n in
+      found o (subst (λ s. MatchOption o (slice_get (parts_in s) index ≡ None) (λ k. (k < length (plan_names l)) × (slice_get (parts_in s) index ≡ Some (name_at (plan_names l) k)))) (sym c) place)
+    where
+      found : (o : Option ℕ) → MatchOption o (slice_get (references (shape_of_form f)) index ≡ None) (λ k. (k < length (plan_names l)) × (slice_get (references (shape_of_form f)) index ≡ Some (name_at (plan_names l) k))) → IsPartAt (plan_names l) (references (shape_of_form f)) index o
+      found None p = p
+      found (Some k) p = (name_at (plan_names l) k, p.1, name_there (plan_names l) k p.0)
 
   -- whether a name has no bytes
   pub zero_there : (at : ℕ) (x : List ℕ) (b : Bool) → IsZeroAt l at b → name_of (plan_names l) at ≡ Some x → Decides b (HasNoBytes (forms_in (map_of l)) x)

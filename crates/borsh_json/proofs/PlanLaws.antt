@@ -13,7 +13,7 @@ use Rattle.borsh_json.specs.Forms.{forms_in}
 use Rattle.borsh_json.specs.InOrder.{InOrder}
 use Rattle.borsh_json.specs.Found.{SaysBy}
 use Rattle.borsh_json.specs.Represents.{HaveBytes}
-use Rattle.borsh_json.proofs.FormsLaws.{shapes_are}
+use Rattle.borsh_walks.proofs.Forms.{shapes_are}
 
 pub by_plan : (P : List ℕ → BTreeMap (String Global) Definition → Type 0) (d : Definitions) (p : Plan) {m : BTreeMap (String Global) Definition} {x : List ℕ} → d.plan.now ≡ p → IsPlanOf m x p → P (root_of d.plan.now) (map_of d.plan.now) → P x m
 by_plan P d p {m = m} {x = x} e h q = subst (λ (m : BTreeMap (String Global) Definition). P x m) h.map (subst (λ y. P y (map_of p)) h.root (subst (λ (p : Plan). P (root_of p) (map_of p)) e q))

@@ -14,7 +14,6 @@ use Rattle.borsh_json.specs.declared.error.ReadError.TheVariants.{OutOfMemory, R
 use Rattle.borsh_json.specs.declared.error.Refusal.{Refusal}
 use Rattle.borsh_json.specs.declared.error.Refusal.TheVariants.{TooDeep, RepeatedName, EmptyElements, NotBool, NotUtf8, Zero, NotNumber, Descends, Expected, MissingField, UnknownName, RepeatedKey, Undefined}
 use Rattle.borsh_json.specs.declared.definitions.Definitions.{Definitions}
-use Rattle.borsh_json.specs.declared.definitions.Known.{Known}
 use Rattle.borsh_json.specs.declared.opening.Frame.{Frame}
 use Rattle.borsh_json.specs.declared.order.Ascent.{Ascent}
 use Rattle.borsh_json.specs.declared.order.Ordered.{Ordered}
@@ -26,7 +25,7 @@ use Rattle.borsh_json.specs.declared.position.Place.{Place}
 use Rattle.borsh_json.specs.declared.sources.Source.{Source}
 use Rattle.borsh_json.specs.declared.sources.Source.TheVariants.{One}
 use Rattle.borsh_json.specs.Errors.{IsUnreadable}
-use Rattle.borsh_json.specs.Forms.{Form}
+use Rattle.borsh_json.specs.Forms.{Form, field_bytes}
 use Rattle.borsh_json.specs.Found.{forms_of, names_of}
 use Rattle.borsh_json.specs.Frames.{ShowsOr, HasPath, error_steps, name_step, first_steps, last_steps, steps_at, steps_through, IsUnread, IsOf, IsOfRead, Left, items_left, fields_left, entries_left, Wanted, IsUnbegun, BeginsAscending, AreInOrder, AscentFalls, AscentRises, AscendIn, IsListPlace, IsMapPlace, SaysAll, HasLeft, SaysOn, IsPlaceOf, IsPlaceIn, IsDoing, IsNext, NoneLeft, DeniesKey, Stands, IsInside, IsBegun, IsEnded, HaveAround, HasRead, HasBegun, IsReadOn, ReadsOn}
 use Rattle.borsh_json.specs.InOrder.{Step, field as field_step, place as place_step, element as element_step, variant as variant_step, AreSteps, BeginsParts, DigitsFall, ItemsFall, IsReached, whole_value, part_of, InOrder}
@@ -95,7 +94,7 @@ module _ (F : List ℕ → Option Form) (ns : List Named) where
       ]
   steps_there (Row at n) b kind i own ds q h f = subst (λ (k : Kind). AreSteps k i (length ds) (place_step (b - 1) ∷ [])) (sym h.1) (ap (λ n. place_step n ∷ []) (before_last b ds q h.2))
   steps_there (Object at fs) b kind i own ds q h f =
-      let names : List Wanted = map (λ f. (string_bytes f.0, string_bytes f.1)) fs.now.items in
+      let names : List Wanted = map field_bytes fs.now.items in
       let t = get_there names (length ds) (fields_long names i own ds q (subst (λ (k : Kind). BeginsParts F k i own (ds ++ q ∷ [])) h.0 f)) in
       subst (λ (k : Kind). AreSteps k i (length ds) (first_steps (Object at fs) b ++ [])) (sym h.0)
       (t.0, t.1, ap (λ n. name_step (slice_get names n) ++ []) (before_last b ds q h.1) ∙ ap (λ (o : Option Wanted). name_step o ++ []) t.1)
@@ -117,20 +116,20 @@ module _ (F : List ℕ → Option Form) (ns : List Named) where
   only_part x i own ds q (inl b) = let t = front_one ds q b.0 (x, i) b.1.1 in (b.1.0, t.0, t.1)
   only_part x i own ds q (inr b) = let e : inner x ≡ fields (b.0 ++ b.1) = b.3 in cc
 
-module _ (F : List ℕ → Option Form) (ns : List Named) (orders : List Known) where
-  begun_ascends : (old new : Option Ascent) (n : ℕ) (p : Parts) (x : List ℕ) (i : Json) → BeginsAscending old n new → AscendIn F ns orders old p x i → AscendIn F ns orders new p x i
-  begun_ascends None new n p x i b a = subst (λ (o : Option Ascent). AscendIn F ns orders o p x i) (sym b) a
-  begun_ascends (Some old) new n p x i b a = subst (λ (o : Option Ascent). AscendIn F ns orders o p x i) (sym b.1) (a.0, (a.1.0, subst (λ (o : Ordered). KeysAscend F ns orders x a.1.0 o) (sym b.2) a.1.1))
+module _ (F : List ℕ → Option Form) (ns : List Named) where
+  begun_ascends : (old new : Option Ascent) (n : ℕ) (p : Parts) (x : List ℕ) (i : Json) → BeginsAscending old n new → AscendIn F ns old p x i → AscendIn F ns new p x i
+  begun_ascends None new n p x i b a = subst (λ (o : Option Ascent). AscendIn F ns o p x i) (sym b) a
+  begun_ascends (Some old) new n p x i b a = subst (λ (o : Option Ascent). AscendIn F ns o p x i) (sym b.1) (a.0, (a.1.0, subst (λ (o : Ordered). KeysAscend F ns x a.1.0 o) (sym b.2) a.1.1))
 
   -- a place whose next part may begin
-  pub doing_same : (p q : Place) (s : Source) (n d : ℕ) (x : List ℕ) (i : Json) (own : List ℕ) (ds : List JsonPart) → q.parts ≡ p.parts → q.begun ≡ p.begun → BeginsAscending p.ascent n q.ascent → IsDoing F ns orders p s d x i own ds → IsDoing F ns orders q s d x i own ds
+  pub doing_same : (p q : Place) (s : Source) (n d : ℕ) (x : List ℕ) (i : Json) (own : List ℕ) (ds : List JsonPart) → q.parts ≡ p.parts → q.begun ≡ p.begun → BeginsAscending p.ascent n q.ascent → IsDoing F ns p s d x i own ds → IsDoing F ns q s d x i own ds
   doing_same p q s n d x i own ds e b a r = record {
     left = r.left;
     here = subst (λ (t : Parts). HasLeft F ns t q.begun s r.left) (sym e) (subst (λ (k : ℕ). HasLeft F ns p.parts k s r.left) (sym b) r.here);
     kind = r.kind;
     says = r.says;
     is_place = place_same d r.is_place;
-    ascends = subst (λ (t : Parts). AscendIn F ns orders q.ascent t x i) (sym e) (begun_ascends p.ascent q.ascent n p.parts x i a r.ascends);
+    ascends = subst (λ (t : Parts). AscendIn F ns q.ascent t x i) (sym e) (begun_ascends p.ascent q.ascent n p.parts x i a r.ascends);
   }
     where
       place_same : (d : ℕ) → IsPlaceIn F ns d p x r.kind i ds → IsPlaceIn F ns d q x r.kind i ds
@@ -138,15 +137,15 @@ module _ (F : List ℕ → Option Form) (ns : List Named) (orders : List Known) 
       place_same (suc d) h = (h.0, subst (λ (t : Parts). IsPlaceOf F ns t q.begun r.kind i ds) (sym e) (subst (λ (k : ℕ). IsPlaceOf F ns p.parts k r.kind i ds) (sym b) h.1))
 
   -- a frame that was opened, at any depth
-  deeper : (p : Place) (s : Source) (d : ℕ) (x : List ℕ) (i : Json) (own : List ℕ) → IsDoing F ns orders p s 1 x i own [] → IsDoing F ns orders p s (suc d) x i own []
+  deeper : (p : Place) (s : Source) (d : ℕ) (x : List ℕ) (i : Json) (own : List ℕ) → IsDoing F ns p s 1 x i own [] → IsDoing F ns p s (suc d) x i own []
   deeper p s d x i own r = record { left = r.left; here = r.here; kind = r.kind; says = r.says; is_place = r.is_place; ascends = r.ascends }
 
 -- ---- where the reader is
 abbrev Where : Type 1
 Where = ℕ → List Step → List ℕ → List ℕ → Json → Type 0
 
-module _ (F : List ℕ → Option Form) (ns : List Named) (orders : List Known) (root : List ℕ) (j : Json) where
-  pub reached : (d : ℕ) (path : List Step) (before x : List ℕ) (i : Json) → Stands F ns orders root j d path before x i → (n : ℕ) × IsReached F root j n path before (x, i)
+module _ (F : List ℕ → Option Form) (ns : List Named) (root : List ℕ) (j : Json) where
+  pub reached : (d : ℕ) (path : List Step) (before x : List ℕ) (i : Json) → Stands F ns root j d path before x i → (n : ℕ) × IsReached F root j n path before (x, i)
   reached zero path before x i s =
       let r : IsReached F root j 0 [] [] (root, i) = subst (λ (i : Json). IsReached F root j 0 [] [] (root, i)) (sym s.3) whole_value in
       let t : IsReached F root j 0 [] [] (x, i) = subst (λ (x : List ℕ). IsReached F root j 0 [] [] (x, i)) (sym s.2) r in
@@ -155,7 +154,7 @@ module _ (F : List ℕ → Option Form) (ns : List Named) (orders : List Known) 
   reached (suc n) path before x i s = (n, s)
 
   -- the part that was begun last
-  pub next_stands : (p : Place) (s : Source) (out y : List ℕ) (k : Json) (d : ℕ) (path : List Step) (before x : List ℕ) (i : Json) → IsBegun F ns orders root j p s out y k d path before x i → Stands F ns orders root j (suc d) (path ++ steps_at p) out y k
+  pub next_stands : (p : Place) (s : Source) (out y : List ℕ) (k : Json) (d : ℕ) (path : List Step) (before x : List ℕ) (i : Json) → IsBegun F ns root j p s out y k d path before x i → Stands F ns root j (suc d) (path ++ steps_at p) out y k
   next_stands p s out y k zero path before x i r =
       let is = r.doing.is_place in
       let at = r.stands in
@@ -175,14 +174,14 @@ module _ (F : List ℕ → Option Form) (ns : List Named) (orders : List Known) 
       (part_of r.doing.kind r.own (steps_at p) r.stands is.0 b r.done (steps_there F ns p.parts p.begun r.doing.kind i r.own r.ds (y, k) is.1 b))
 
   -- ---- the places around
-  pub around_map : (ps : List Place) (ss : List Source) (d : ℕ) (path : List Step) (before x : List ℕ) (i : Json) {R Q : Where} → ((d : ℕ) (path : List Step) (before x : List ℕ) (i : Json) → R d path before x i → Q d path before x i) → HaveAround F ns orders root j ps ss d path before x i R → HaveAround F ns orders root j ps ss d path before x i Q
+  pub around_map : (ps : List Place) (ss : List Source) (d : ℕ) (path : List Step) (before x : List ℕ) (i : Json) {R Q : Where} → ((d : ℕ) (path : List Step) (before x : List ℕ) (i : Json) → R d path before x i → Q d path before x i) → HaveAround F ns root j ps ss d path before x i R → HaveAround F ns root j ps ss d path before x i Q
   around_map [] [] d path before x i f h = f d path before x i h
   around_map [] (s ∷ ss) d path before x i f h = absurd h
   around_map (p ∷ ps) [] d path before x i f h = absurd h
   around_map (p ∷ ps) (s ∷ ss) d path before x i f h = (h.0, h.1, h.2, h.3, around_map ps ss (suc d) (path ++ steps_at p) h.0 h.1 h.2 f h.4)
 
   -- the innermost one
-  pub around_here : (ps : List Place) (ss : List Source) (d : ℕ) (path : List Step) (before x : List ℕ) (i : Json) {R : Where} → HaveAround F ns orders root j ps ss d path before x i R → (e : ℕ) × (to : List Step) × (b : List ℕ) × (y : List ℕ) × (k : Json) × (e ≡ d + length ps) × (to ≡ path ++ steps_through ps) × R e to b y k
+  pub around_here : (ps : List Place) (ss : List Source) (d : ℕ) (path : List Step) (before x : List ℕ) (i : Json) {R : Where} → HaveAround F ns root j ps ss d path before x i R → (e : ℕ) × (to : List Step) × (b : List ℕ) × (y : List ℕ) × (k : Json) × (e ≡ d + length ps) × (to ≡ path ++ steps_through ps) × R e to b y k
   around_here [] [] d path before x i h = (d, path, before, x, i, omega arith, sym (append-nil path), h)
   around_here [] (s ∷ ss) d path before x i h = absurd h
   around_here (p ∷ ps) [] d path before x i h = absurd h
@@ -190,13 +189,13 @@ module _ (F : List ℕ → Option Form) (ns : List Named) (orders : List Known) 
       let r = around_here ps ss (suc d) (path ++ steps_at p) h.0 h.1 h.2 h.4 in
       (r.0, r.1, r.2, r.3, r.4, (let e = r.5 in omega (arith, e)), r.6 ∙ append_assoc path (steps_at p) (steps_through ps), r.7)
 
-  pub pushed : (ps : List Place) (ss : List Source) (p : Place) (s : Source) (d : ℕ) (path : List Step) (before x : List ℕ) (i : Json) (R Q : Where) → ((d : ℕ) (path : List Step) (before x : List ℕ) (i : Json) → R d path before x i → (out : List ℕ) × (y : List ℕ) × (k : Json) × IsBegun F ns orders root j p s out y k d path before x i × Q (suc d) (path ++ steps_at p) out y k) → HaveAround F ns orders root j ps ss d path before x i R → HaveAround F ns orders root j (ps ++ p ∷ []) (ss ++ s ∷ []) d path before x i Q
+  pub pushed : (ps : List Place) (ss : List Source) (p : Place) (s : Source) (d : ℕ) (path : List Step) (before x : List ℕ) (i : Json) (R Q : Where) → ((d : ℕ) (path : List Step) (before x : List ℕ) (i : Json) → R d path before x i → (out : List ℕ) × (y : List ℕ) × (k : Json) × IsBegun F ns root j p s out y k d path before x i × Q (suc d) (path ++ steps_at p) out y k) → HaveAround F ns root j ps ss d path before x i R → HaveAround F ns root j (ps ++ p ∷ []) (ss ++ s ∷ []) d path before x i Q
   pushed [] [] p s d path before x i R Q f h = f d path before x i h
   pushed [] (t ∷ ss) p s d path before x i R Q f h = absurd h
   pushed (q ∷ ps) [] p s d path before x i R Q f h = absurd h
   pushed (q ∷ ps) (t ∷ ss) p s d path before x i R Q f h = (h.0, h.1, h.2, h.3, pushed ps ss p s (suc d) (path ++ steps_at q) h.0 h.1 h.2 R Q f h.4)
 
-  pub popped : (ps : List Place) (ss : List Source) (p : Place) (s : Source) (d : ℕ) (path : List Step) (before x : List ℕ) (i : Json) (R Q : Where) → ((d : ℕ) (path : List Step) (before x : List ℕ) (i : Json) (out y : List ℕ) (k : Json) → IsBegun F ns orders root j p s out y k d path before x i → R (suc d) (path ++ steps_at p) out y k → Q d path before x i) → HaveAround F ns orders root j (ps ++ p ∷ []) (ss ++ s ∷ []) d path before x i R → HaveAround F ns orders root j ps ss d path before x i Q
+  pub popped : (ps : List Place) (ss : List Source) (p : Place) (s : Source) (d : ℕ) (path : List Step) (before x : List ℕ) (i : Json) (R Q : Where) → ((d : ℕ) (path : List Step) (before x : List ℕ) (i : Json) (out y : List ℕ) (k : Json) → IsBegun F ns root j p s out y k d path before x i → R (suc d) (path ++ steps_at p) out y k → Q d path before x i) → HaveAround F ns root j (ps ++ p ∷ []) (ss ++ s ∷ []) d path before x i R → HaveAround F ns root j ps ss d path before x i Q
   popped [] [] p s d path before x i R Q f h = f d path before x i h.0 h.1 h.2 h.3 h.4
   popped [] (t ∷ []) p s d path before x i R Q f h = absurd h.4
   popped [] (t ∷ u ∷ ss) p s d path before x i R Q f h = absurd h.4
@@ -205,12 +204,12 @@ module _ (F : List ℕ → Option Form) (ns : List Named) (orders : List Known) 
   popped (q ∷ ps) (t ∷ ss) p s d path before x i R Q f h = (h.0, h.1, h.2, h.3, popped ps ss p s (suc d) (path ++ steps_at q) h.0 h.1 h.2 R Q f h.4)
 
   -- no source is left where no place is
-  pub bottom : (ps : List Place) (ss : List Source) (d : ℕ) (path : List Step) (before x : List ℕ) (i : Json) (R : Where) → HaveAround F ns orders root j ps ss d path before x i R → ps ≡ [] → R d path before x i
+  pub bottom : (ps : List Place) (ss : List Source) (d : ℕ) (path : List Step) (before x : List ℕ) (i : Json) (R : Where) → HaveAround F ns root j ps ss d path before x i R → ps ≡ [] → R d path before x i
   bottom [] [] d path before x i R h e = h
   bottom [] (s ∷ ss) d path before x i R h e = absurd h
   bottom (p ∷ ps) ss d path before x i R h e = cc
 
-  pub no_around : (ps qs : List Place) (place : Place) (ss : List Source) (d : ℕ) (path : List Step) (before x : List ℕ) (i : Json) (R : Where) → HaveAround F ns orders root j ps ss d path before x i R → ss ≡ [] → ps ≡ qs ++ place ∷ [] → ⊥
+  pub no_around : (ps qs : List Place) (place : Place) (ss : List Source) (d : ℕ) (path : List Step) (before x : List ℕ) (i : Json) (R : Where) → HaveAround F ns root j ps ss d path before x i R → ss ≡ [] → ps ≡ qs ++ place ∷ [] → ⊥
   no_around [] [] place ss d path before x i R h e f = cc
   no_around [] (q ∷ qs) place ss d path before x i R h e f = cc
   no_around (p ∷ ps) qs place [] d path before x i R h e f = h
@@ -219,12 +218,12 @@ module _ (F : List ℕ → Option Form) (ns : List Named) (orders : List Known) 
   -- ---- steps of the loop
 
   -- in front of the whole value
-  pub reading_start : (p : Place) (e : List Token) (ps : List Place) (ss : List Source) (out : List ℕ) → IsAt ns 0 root → BeginsWith e j → p.parts ≡ Root → p.begun ≡ 0 → p.ascent ≡ None → ps ≡ [] → ss ≡ [] → out ≡ [] → HaveAround F ns orders root j ps ss 0 [] [] root j (IsInside F ns orders root j p (One (Some e)) out)
+  pub reading_start : (p : Place) (e : List Token) (ps : List Place) (ss : List Source) (out : List ℕ) → IsAt ns 0 root → BeginsWith e j → p.parts ≡ Root → p.begun ≡ 0 → p.ascent ≡ None → ps ≡ [] → ss ≡ [] → out ≡ [] → HaveAround F ns root j ps ss 0 [] [] root j (IsInside F ns root j p (One (Some e)) out)
   reading_start p e ps ss out at b parts begun order no_places no_sources no_bytes =
       let left = items_left (root ∷ []) (item j no_items) in
-      let ascent = no_ascent F ns orders root j p p.parts (λ z. absurd (let q : Root ≡ Elements z.0 z.1 = sym parts ∙ z.2 in cc)) order in
+      let ascent = no_ascent F ns root j p p.parts (λ z. absurd (let q : Root ≡ Elements z.0 z.1 = sym parts ∙ z.2 in cc)) order in
       let here : HasLeft F ns Root 0 (One (Some e)) left = (([], root) ∷ [], (root, at, refl), refl, (j, refl, b), (root, j) ∷ [], refl, λ z. z) in
-      let doing : IsDoing F ns orders p (One (Some e)) 0 root j [] [] = record {
+      let doing : IsDoing F ns p (One (Some e)) 0 root j [] [] = record {
         left = left;
         here = subst (λ (q : Parts). HasLeft F ns q p.begun (One (Some e)) left) (sym parts) (subst (λ (k : ℕ). HasLeft F ns Root k (One (Some e)) left) (sym begun) here);
         kind = inner root;
@@ -232,7 +231,7 @@ module _ (F : List ℕ → Option Form) (ns : List Named) (orders : List Known) 
         is_place = (parts, refl);
         ascends = ascent.0;
       } in
-      let inside : IsInside F ns orders root j p (One (Some e)) out 0 [] [] root j = record {
+      let inside : IsInside F ns root j p (One (Some e)) out 0 [] [] root j = record {
         own = [];
         ds = [];
         mid = [];
@@ -244,10 +243,10 @@ module _ (F : List ℕ → Option Form) (ns : List Named) (orders : List Known) 
         done = none_left;
         out_is = no_bytes;
       } in
-      subst (λ (ps : List Place). HaveAround F ns orders root j ps ss 0 [] [] root j (IsInside F ns orders root j p (One (Some e)) out)) (sym no_places) (subst (λ (ss : List Source). HaveAround F ns orders root j [] ss 0 [] [] root j (IsInside F ns orders root j p (One (Some e)) out)) (sym no_sources) inside)
+      subst (λ (ps : List Place). HaveAround F ns root j ps ss 0 [] [] root j (IsInside F ns root j p (One (Some e)) out)) (sym no_places) (subst (λ (ss : List Source). HaveAround F ns root j [] ss 0 [] [] root j (IsInside F ns root j p (One (Some e)) out)) (sym no_sources) inside)
 
   -- a part without parts was read
-  pub leaf_inside : (p : Place) (s : Source) (out new own y : List ℕ) (k : Json) (d : ℕ) (path : List Step) (before x : List ℕ) (i : Json) → new ≡ out ++ own → SaysFirst F y k own [] × ((index : ℕ) → DigitsFall F y k index → ⊥) → IsBegun F ns orders root j p s out y k d path before x i → IsInside F ns orders root j p s new d path before x i
+  pub leaf_inside : (p : Place) (s : Source) (out new own y : List ℕ) (k : Json) (d : ℕ) (path : List Step) (before x : List ℕ) (i : Json) → new ≡ out ++ own → SaysFirst F y k own [] × ((index : ℕ) → DigitsFall F y k index → ⊥) → IsBegun F ns root j p s out y k d path before x i → IsInside F ns root j p s new d path before x i
   leaf_inside p s out new own y k d path before x i e says r = record {
     own = r.own;
     ds = r.ds ++ (y, k) ∷ [];
@@ -262,13 +261,13 @@ module _ (F : List ℕ → Option Form) (ns : List Named) (orders : List Known) 
   }
 
   -- a part with parts was opened
-  pub frame_inside : (p : Place) (s : Source) (out new own y : List ℕ) (k : Json) (q : Place) (t : Source) (d : ℕ) (path : List Step) (before x : List ℕ) (i : Json) → new ≡ out ++ own → IsDoing F ns orders q t 1 y k own [] × IsUnbegun q.ascent → IsBegun F ns orders root j p s out y k d path before x i → IsInside F ns orders root j q t new (suc d) (path ++ steps_at p) out y k
+  pub frame_inside : (p : Place) (s : Source) (out new own y : List ℕ) (k : Json) (q : Place) (t : Source) (d : ℕ) (path : List Step) (before x : List ℕ) (i : Json) → new ≡ out ++ own → IsDoing F ns q t 1 y k own [] × IsUnbegun q.ascent → IsBegun F ns root j p s out y k d path before x i → IsInside F ns root j q t new (suc d) (path ++ steps_at p) out y k
   frame_inside p s out new own y k q t d path before x i e found r = record {
     own = own;
     ds = [];
     mid = [];
     stands = next_stands p s out y k d path before x i r;
-    doing = deeper F ns orders q t d y k own found.0;
+    doing = deeper F ns q t d y k own found.0;
     starts = unbegun_starts F (length (out ++ own)) q.ascent found.1;
     risen = λ place index less f. absurd (omega (arith, less));
     in_order = tt;
@@ -277,7 +276,7 @@ module _ (F : List ℕ → Option Form) (ns : List Named) (orders : List Known) 
   }
 
   -- all parts of a part were read
-  pub up_inside : (p q : Place) (s t : Source) (last : List ℕ) (d : ℕ) (path : List Step) (before x : List ℕ) (i : Json) (out y : List ℕ) (k : Json) → NoneLeft t → IsBegun F ns orders root j p s out y k d path before x i → IsEnded F ns orders root j q t last (suc d) (path ++ steps_at p) out y k → IsInside F ns orders root j p s last d path before x i
+  pub up_inside : (p q : Place) (s t : Source) (last : List ℕ) (d : ℕ) (path : List Step) (before x : List ℕ) (i : Json) (out y : List ℕ) (k : Json) → NoneLeft t → IsBegun F ns root j p s out y k d path before x i → IsEnded F ns root j q t last (suc d) (path ++ steps_at p) out y k → IsInside F ns root j p s last d path before x i
   up_inside p q s t last d path before x i out y k n r e =
       let a = e.all n in
       let whole : HaveBytes F ((y, k) ∷ []) (e.own ++ e.mid) = next_part a.0 e.own e.ds a.1 a.2 (subst (λ (l : List JsonPart). HaveBytes F l e.mid) (sym (append-nil e.ds)) e.done) in
@@ -295,13 +294,13 @@ module _ (F : List ℕ → Option Form) (ns : List Named) (orders : List Known) 
       }
 
   -- and those of the whole
-  pub reading_end : (q : Place) (t : Source) (last : List ℕ) → NoneLeft t → IsEnded F ns orders root j q t last 0 [] [] root j → HaveBytes F ((root, j) ∷ []) last × InOrder F root j
+  pub reading_end : (q : Place) (t : Source) (last : List ℕ) → NoneLeft t → IsEnded F ns root j q t last 0 [] [] root j → HaveBytes F ((root, j) ∷ []) last × InOrder F root j
   reading_end q t last n e =
       let a = e.all n in
       (subst (λ (l : List ℕ). HaveBytes F ((root, j) ∷ []) l) (sym (e.out_is ∙ ap (λ l. l ++ e.mid) a.0)) (subst (λ (l : List JsonPart). HaveBytes F l e.mid) a.1 e.done), e.in_order n)
 
   -- what comes next of the innermost place
-  pub inside_begun : (p a q : Place) (s t : Source) (out new : List ℕ) (at : ℕ) (e : List Token) (d : ℕ) (path : List Step) (before x : List ℕ) (i : Json) (h : IsInside F ns orders root j p s out d path before x i) → BeginsAscending p.ascent (length out) a.ascent → q.ascent ≡ a.ascent → q.parts ≡ p.parts → (IsListPlace p.parts → (index : ℕ) → index < length h.ds → ItemsFall F x i index → ⊥) → IsNext F ns orders d x i h.own h.ds q t out new (Part at e) → (y : List ℕ) × (k : Json) × IsAt ns at y × BeginsWith e k × IsBegun F ns orders root j q t new y k d path before x i
+  pub inside_begun : (p a q : Place) (s t : Source) (out new : List ℕ) (at : ℕ) (e : List Token) (d : ℕ) (path : List Step) (before x : List ℕ) (i : Json) (h : IsInside F ns root j p s out d path before x i) → BeginsAscending p.ascent (length out) a.ascent → q.ascent ≡ a.ascent → q.parts ≡ p.parts → (IsListPlace p.parts → (index : ℕ) → index < length h.ds → ItemsFall F x i index → ⊥) → IsNext F ns d x i h.own h.ds q t out new (Part at e) → (y : List ℕ) × (k : Json) × IsAt ns at y × BeginsWith e k × IsBegun F ns root j q t new y k d path before x i
   inside_begun p a q s t out new at e d path before x i h b same parts rises n = (
     n.2,
     n.3,
@@ -312,8 +311,8 @@ module _ (F : List ℕ → Option Form) (ns : List Named) (orders : List Known) 
       ds = h.ds ++ n.0;
       mid = h.mid ++ n.1;
       stands = h.stands;
-      doing = subst (λ (l : List JsonPart). IsDoing F ns orders q t d x i h.own l) (sym (append_assoc h.ds n.0 ((n.2, n.3) ∷ []))) n.8;
-      starts = begun_starts F before h.own h.mid out h.ds h.out_is h.done ns orders n.0 (n.2, n.3) p.ascent a.ascent q.ascent q.parts x i h.starts b same n.8.ascends n.9;
+      doing = subst (λ (l : List JsonPart). IsDoing F ns q t d x i h.own l) (sym (append_assoc h.ds n.0 ((n.2, n.3) ∷ []))) n.8;
+      starts = begun_starts F before h.own h.mid out h.ds h.out_is h.done ns n.0 (n.2, n.3) p.ascent a.ascent q.ascent q.parts x i h.starts b same n.8.ascends n.9;
       risen = λ place index less f. rises (subst (λ (p : Parts). IsListPlace p) parts place) index (fewer place index less) f;
       in_order = all_join F h.ds n.0 h.in_order n.10;
       done = joined F h.done n.4;
@@ -333,7 +332,7 @@ module _ (F : List ℕ → Option Form) (ns : List Named) (orders : List Known) 
   whole_place p kind zero x i own ds is says all rises = (subst (λ (l : List JsonPart). AreInOrder F l) says.1 all).0
   whole_place p kind (suc d) x i own ds is says all rises = place_in_order F ns p.parts p.begun x kind i own ds is.0 is.1 says all rises
 
-  pub inside_ended : (p q : Place) (s t : Source) (out new : List ℕ) (d : ℕ) (path : List Step) (before x : List ℕ) (i : Json) (h : IsInside F ns orders root j p s out d path before x i) → q.parts ≡ p.parts → (IsListPlace p.parts → (index : ℕ) → index < length h.ds → ItemsFall F x i index → ⊥) → IsNext F ns orders d x i h.own h.ds q t out new End → IsEnded F ns orders root j q t new d path before x i
+  pub inside_ended : (p q : Place) (s t : Source) (out new : List ℕ) (d : ℕ) (path : List Step) (before x : List ℕ) (i : Json) (h : IsInside F ns root j p s out d path before x i) → q.parts ≡ p.parts → (IsListPlace p.parts → (index : ℕ) → index < length h.ds → ItemsFall F x i index → ⊥) → IsNext F ns d x i h.own h.ds q t out new End → IsEnded F ns root j q t new d path before x i
   inside_ended p q s t out new d path before x i h e rises n = record {
     own = h.own;
     ds = h.ds;
@@ -399,7 +398,7 @@ module _ (F : List ℕ → Option Form) (ns : List Named) (orders : List Known) 
       told TooDeep (RefusedPart to r) path base b f.0 h (tt, (n, before, q, at, omega (arith, e, g)), tt)
 
   -- a key that isn't read
-  pub key_unread : (d : ℕ) (path : List Step) (before x : List ℕ) (i : Json) (own mid out : List ℕ) (ds : List JsonPart) (q : Place) → Stands F ns orders root j d path before x i → HaveBytes F ds mid → (e : ReadError) (p : PartError) (base : List ℕ) (outer : List Step) → base ≡ root → outer ≡ path → IsOfRead e p → HasPath base (outer ++ (first_steps q.parts q.begun ++ place_step 0 ∷ [])) p → DeniesKey F ns d x i own ds q e → IsUnread F root j p
+  pub key_unread : (d : ℕ) (path : List Step) (before x : List ℕ) (i : Json) (own mid out : List ℕ) (ds : List JsonPart) (q : Place) → Stands F ns root j d path before x i → HaveBytes F ds mid → (e : ReadError) (p : PartError) (base : List ℕ) (outer : List Step) → base ≡ root → outer ≡ path → IsOfRead e p → HasPath base (outer ++ (first_steps q.parts q.begun ++ place_step 0 ∷ [])) p → DeniesKey F ns d x i own ds q e → IsUnread F root j p
   key_unread zero path before x i own mid out ds q at done e p base outer b o i1 h k = absurd (let z = k.3 in omega (arith, z))
   key_unread (suc d) path before x i own mid out ds q at done OutOfMemory p base outer b o i1 h k = subst (λ (p : PartError). IsUnread F root j p) (sym i1) tt
   key_unread (suc d) path before x i own mid out ds q at done (Refused r) p base outer b o i1 h k =
@@ -416,28 +415,28 @@ module _ (d : Definitions) (root : List ℕ) (j : Json) where
   placed p zero x kind i ds place h = let q : Root ≡ Elements place.0 place.1 = sym h.0 ∙ place.2 in cc
 
   -- they do, so none of those that were begun falls
-  pub inside_rises : (p : Place) (s : Source) (out : List ℕ) (n : ℕ) (path : List Step) (before x : List ℕ) (i : Json) (h : IsInside (forms_of d) (names_of d) d.orders.items root j p s out n path before x i) → AscentRises d p.ascent out → IsListPlace p.parts → (index : ℕ) → index < length h.ds → ItemsFall (forms_of d) x i index → ⊥
+  pub inside_rises : (p : Place) (s : Source) (out : List ℕ) (n : ℕ) (path : List Step) (before x : List ℕ) (i : Json) (h : IsInside (forms_of d) (names_of d) root j p s out n path before x i) → AscentRises d p.ascent out → IsListPlace p.parts → (index : ℕ) → index < length h.ds → ItemsFall (forms_of d) x i index → ⊥
   inside_rises p s out n path before x i h u place index less f =
       let r = h.doing in
       let is = placed p n x r.kind i h.ds place r.is_place in
       rises_there d before h.own h.mid out h.ds h.out_is h.done p.parts p.begun r.kind x i is.0 is.1 (begins_parts (forms_of d) (names_of d) r.kind i h.own h.ds r.left r.says) p.ascent h.starts r.ascends u h.risen place index less f
 
   -- a place whose elements fall is one of elements
-  falling : (p : Place) (x : List ℕ) (i : Json) (out : List ℕ) (o : Option Ascent) → AscendIn (forms_of d) (names_of d) d.orders.items o p.parts x i → AscentFalls d o out → IsListPlace p.parts
+  falling : (p : Place) (x : List ℕ) (i : Json) (out : List ℕ) (o : Option Ascent) → AscendIn (forms_of d) (names_of d) o p.parts x i → AscentFalls d o out → IsListPlace p.parts
   falling p x i out None a f = absurd f
   falling p x i out (Some s) a f = a.0
 
   -- they don't
-  pub ascent_unread : (p q : Place) (s : Source) (out : List ℕ) (n : ℕ) (path : List Step) (before x : List ℕ) (i : Json) → IsInside (forms_of d) (names_of d) d.orders.items root j p s out n path before x i → q.parts ≡ p.parts → q.begun ≡ p.begun → AscentFalls d p.ascent out → (e : PartError) (base : List ℕ) (outer : List Step) → base ≡ root → outer ≡ path → IsOf Descends e → HasPath base (outer ++ first_steps q.parts q.begun) e → IsUnread (forms_of d) root j e
+  pub ascent_unread : (p q : Place) (s : Source) (out : List ℕ) (n : ℕ) (path : List Step) (before x : List ℕ) (i : Json) → IsInside (forms_of d) (names_of d) root j p s out n path before x i → q.parts ≡ p.parts → q.begun ≡ p.begun → AscentFalls d p.ascent out → (e : PartError) (base : List ℕ) (outer : List Step) → base ≡ root → outer ≡ path → IsOf Descends e → HasPath base (outer ++ first_steps q.parts q.begun) e → IsUnread (forms_of d) root j e
   ascent_unread p q s out n path before x i h parts begun f e base outer b o of there =
       let F = forms_of d in
       let ns = names_of d in
       let r = h.doing in
       let is = placed p n x r.kind i h.ds (falling p x i out p.ascent r.ascends f) r.is_place in
       let k = falls_there d before h.own h.mid out h.ds h.out_is h.done p.parts p.begun r.kind x i is.0 is.1 (begins_parts F ns r.kind i h.own h.ds r.left r.says) p.ascent h.starts r.ascends f in
-      let at = reached F ns d.orders.items root j n path before x i h.stands in
+      let at = reached F ns root j n path before x i h.stands in
       let steps = ap (λ (t : Parts). first_steps t q.begun) parts ∙ ap (λ n. first_steps p.parts n) begun ∙ k.1 in
-      descends_unread F ns d.orders.items root j path before x i at.0 at.1 e base (outer ++ first_steps q.parts q.begun) k.0 b of there (ap (λ (l : List Step). l ++ first_steps q.parts q.begun) o ∙ ap (λ (l : List Step). path ++ l) steps) k.2
+      descends_unread F ns root j path before x i at.0 at.1 e base (outer ++ first_steps q.parts q.begun) k.0 b of there (ap (λ (l : List Step). l ++ first_steps q.parts q.begun) o ∙ ap (λ (l : List Step). path ++ l) steps) k.2
 
 -- a frame was entered
 module _ (d : Definitions) (root : List ℕ) (j : Json) (old new : Reading) (at : ℕ) (e : List Token) (f : Frame) (bytes : List ℕ) where
@@ -447,22 +446,19 @@ module _ (d : Definitions) (root : List ℕ) (j : Json) (old new : Reading) (at 
   abbrev ns : List Named
   ns = names_of d
 
-  abbrev orders : List Known
-  orders = d.orders.items
-
-  pub frame_read : HasBegun d root j old at e → ((y : List ℕ) (k : Json) → IsAt ns at y → BeginsWith e k → (own : List ℕ) × (bytes ≡ old.out.items ++ own) × (IsDoing F ns orders f.place f.source 1 y k own [] × IsUnbegun f.place.ascent)) → (r : Result Bool PartError) → IfOk r (λ more. more ≡ true) → OnOk r ((new.position.place ≡ f.place) × (new.source ≡ f.source)) → OnOk r ((new.position.outer.items ≡ old.position.outer.items ++ old.position.place ∷ []) × (new.outer.items ≡ old.outer.items ++ old.source ∷ [])) → OnOk r (new.out.items ≡ bytes) → OnOk r (new.position.root ≡ old.position.root) → IfErr r (λ e. IsFull (length old.position.outer.items) e) → IfErr r (λ e. HasPath old.position.root.now (steps_through old.position.outer.items ++ steps_at old.position.place) e) → ReadsOn d root j new r
+  pub frame_read : HasBegun d root j old at e → ((y : List ℕ) (k : Json) → IsAt ns at y → BeginsWith e k → (own : List ℕ) × (bytes ≡ old.out.items ++ own) × (IsDoing F ns f.place f.source 1 y k own [] × IsUnbegun f.place.ascent)) → (r : Result Bool PartError) → IfOk r (λ more. more ≡ true) → OnOk r ((new.position.place ≡ f.place) × (new.source ≡ f.source)) → OnOk r ((new.position.outer.items ≡ old.position.outer.items ++ old.position.place ∷ []) × (new.outer.items ≡ old.outer.items ++ old.source ∷ [])) → OnOk r (new.out.items ≡ bytes) → OnOk r (new.position.root ≡ old.position.root) → IfErr r (λ e. IsFull (length old.position.outer.items) e) → IfErr r (λ e. HasPath old.position.root.now (steps_through old.position.outer.items ++ steps_at old.position.place) e) → ReadsOn d root j new r
   frame_read b opens (Ok more) m a o s base full path =
       let p = old.position.place in
-      let inside = pushed F ns orders root j old.position.outer.items old.outer.items p old.source 0 [] [] root j _ (IsInside F ns orders root j f.place f.source bytes) (λ n to before x i h. let g = opens h.0 h.1 h.2 h.3 in (old.out.items, h.0, h.1, h.4, frame_inside F ns orders root j p old.source old.out.items bytes g.0 h.0 h.1 f.place f.source n to before x i g.1 g.2 h.4)) b.1 in
-      let placed = subst (λ (q : Place). HaveAround F ns orders root j (old.position.outer.items ++ p ∷ []) (old.outer.items ++ old.source ∷ []) 0 [] [] root j (IsInside F ns orders root j q f.source bytes)) (sym a.0) inside in
-      let sourced = subst (λ (t : Source). HaveAround F ns orders root j (old.position.outer.items ++ p ∷ []) (old.outer.items ++ old.source ∷ []) 0 [] [] root j (IsInside F ns orders root j new.position.place t bytes)) (sym a.1) placed in
-      let written = subst (λ (l : List ℕ). HaveAround F ns orders root j (old.position.outer.items ++ p ∷ []) (old.outer.items ++ old.source ∷ []) 0 [] [] root j (IsInside F ns orders root j new.position.place new.source l)) (sym s) sourced in
-      let places = subst (λ (ps : List Place). HaveAround F ns orders root j ps (old.outer.items ++ old.source ∷ []) 0 [] [] root j (IsInside F ns orders root j new.position.place new.source new.out.items)) (sym o.0) written in
-      let sources = subst (λ (ss : List Source). HaveAround F ns orders root j new.position.outer.items ss 0 [] [] root j (IsInside F ns orders root j new.position.place new.source new.out.items)) (sym o.1) places in
+      let inside = pushed F ns root j old.position.outer.items old.outer.items p old.source 0 [] [] root j _ (IsInside F ns root j f.place f.source bytes) (λ n to before x i h. let g = opens h.0 h.1 h.2 h.3 in (old.out.items, h.0, h.1, h.4, frame_inside F ns root j p old.source old.out.items bytes g.0 h.0 h.1 f.place f.source n to before x i g.1 g.2 h.4)) b.1 in
+      let placed = subst (λ (q : Place). HaveAround F ns root j (old.position.outer.items ++ p ∷ []) (old.outer.items ++ old.source ∷ []) 0 [] [] root j (IsInside F ns root j q f.source bytes)) (sym a.0) inside in
+      let sourced = subst (λ (t : Source). HaveAround F ns root j (old.position.outer.items ++ p ∷ []) (old.outer.items ++ old.source ∷ []) 0 [] [] root j (IsInside F ns root j new.position.place t bytes)) (sym a.1) placed in
+      let written = subst (λ (l : List ℕ). HaveAround F ns root j (old.position.outer.items ++ p ∷ []) (old.outer.items ++ old.source ∷ []) 0 [] [] root j (IsInside F ns root j new.position.place new.source l)) (sym s) sourced in
+      let places = subst (λ (ps : List Place). HaveAround F ns root j ps (old.outer.items ++ old.source ∷ []) 0 [] [] root j (IsInside F ns root j new.position.place new.source new.out.items)) (sym o.0) written in
+      let sources = subst (λ (ss : List Source). HaveAround F ns root j new.position.outer.items ss 0 [] [] root j (IsInside F ns root j new.position.place new.source new.out.items)) (sym o.1) places in
       let read : HasRead d root j new = (ap (λ (r : Bor (List ℕ)). r.now) base ∙ b.0, sources) in
       subst (λ (more : Bool). IsReadOn d root j new more) (sym m) read
   frame_read b opens (Err p) m a o s base full path =
-      let h = around_here F ns orders root j old.position.outer.items old.outer.items 0 [] [] root j b.1 in
+      let h = around_here F ns root j old.position.outer.items old.outer.items 0 [] [] root j b.1 in
       let g = h.7 in
-      let t = next_stands F ns orders root j old.position.place old.source old.out.items g.0 g.1 h.0 h.1 h.2 h.3 h.4 g.4 in
-      deep_unread F ns orders root j (h.1 ++ steps_at old.position.place) old.out.items (g.0, g.1) h.0 t p old.position.root.now (length old.position.outer.items) b.0 (let e = h.5 in omega (arith, e)) (subst (λ (l : List Step). HasPath old.position.root.now (l ++ steps_at old.position.place) p) (sym h.6) path) full
+      let t = next_stands F ns root j old.position.place old.source old.out.items g.0 g.1 h.0 h.1 h.2 h.3 h.4 g.4 in
+      deep_unread F ns root j (h.1 ++ steps_at old.position.place) old.out.items (g.0, g.1) h.0 t p old.position.root.now (length old.position.outer.items) b.0 (let e = h.5 in omega (arith, e)) (subst (λ (l : List Step). HasPath old.position.root.now (l ++ steps_at old.position.place) p) (sym h.6) path) full

@@ -21,10 +21,11 @@ use Rattle.std.proofs.Math.Nat.{pow-le-pow_right}
 use Rattle.hex.specs.Hex.{decode_of}
 use Rattle.json.specs.Json.{Json, boolean, number, string, array, object, no_members, member}
 use Rattle.borsh_walks.specs.Container.{tag}
-use Rattle.borsh_json.specs.Forms.{Form, primitive, sequence, tuple, newtype, unnamed, named, choice, HasNoBytes, IsByte, IsOption, IsMap}
+use Rattle.borsh_json.specs.Forms.{Form, primitive, sequence, tuple, choice, named, unnamed, no_fields, HasNoBytes, IsByte, IsOption, IsMap}
 use Rattle.borsh_json.specs.Table.{Lengths, Keys, texts, numbers, Kind, no_bytes, truth, whole, float, raw, utf8, byte_list, list, row, inner, fields, optional, variants, entries, number_types, number_kind, primitive_kind, AreKeys, SequenceKind, a_text, some_bytes, an_object, some_elements, ChoiceKind, nullable, by_name, DefinedKind, HasKind, InRange, IsWhole, IsNumber, IsHex, IsPrefixed, Part, row_parts, list_parts, field_parts, IsVariant, this, that, Entry, entries_of, key_order, entry_parts, IsArray, Says}
 use Rattle.borsh_json.specs.Represents.{HaveBytes, none_left, next_part, TextSays}
 use Rattle.borsh_json.proofs.FloatLaws.{float_one}
+use Rattle.borsh_json.proofs.FormKinds.{unnamed_is}
 
 -- ---- the ascending arrangement of a map's entries is the only one
 abbrev pub IsAmong : {X : Type 0} → X → List X → Type 0
@@ -315,10 +316,10 @@ module _ (F : List ℕ → Option Form) where
   defined_one (primitive n) f p q = p ∙ sym q
   defined_one (sequence w lo hi e) f p q = sequence_one f p q
   defined_one (tuple ps) f p q = p ∙ sym q
-  defined_one (newtype y) f p q = p ∙ sym q
-  defined_one (unnamed ps) f p q = p ∙ sym q
-  defined_one (named fs) f p q = p ∙ sym q
   defined_one (choice w vs) f p q = choice_one p q
+  defined_one (named fs) f p q = p ∙ sym q
+  defined_one (unnamed ps) f p q = p ∙ sym q
+  defined_one no_fields f p q = p ∙ sym q
 
   pub kind_one : {x : List ℕ} {kind other : Kind} → HasKind F x kind → HasKind F x other → kind ≡ other
   kind_one (inl p) (inl q) = p.1 ∙ sym q.1
@@ -336,11 +337,11 @@ module _ (F : List ℕ → Option Form) where
   defined_small x (sequence w lo hi e) (an_object t c) = λ m s z e. cc
   defined_small x (sequence w lo hi e) (some_elements t c u v) = λ m s z e. cc
   defined_small x (tuple ps) p = λ m s z e. cc
-  defined_small x (newtype y) p = λ m s z e. cc
-  defined_small x (unnamed ps) p = λ m s z e. cc
-  defined_small x (named fs) p = λ m s z e. cc
   defined_small x (choice w vs) (nullable t) = λ m s z e. cc
   defined_small x (choice w vs) (by_name t) = λ m s z e. cc
+  defined_small x (named fs) p = λ m s z e. cc
+  defined_small x (unnamed ps) p = subst IsSmall (sym p) (unnamed_is IsSmall (λ xs m s z e. cc) (λ y m s z e. cc) ps)
+  defined_small x no_fields p = λ m s z e. cc
 
   pub kind_small : {x : List ℕ} {kind : Kind} → HasKind F x kind → IsSmall kind
   kind_small (inl p) = λ m s z e. let f = p.1 in cc

@@ -23,12 +23,12 @@ use Rattle.borsh_json.specs.declared.error.JsonError.TheVariants.{OutOfMemory, N
 use Rattle.borsh_json.specs.declared.error.Refusal.{Refusal}
 use Rattle.borsh_json.specs.declared.error.Refusal.TheVariants.{TooDeep, RepeatedName, EmptyElements, NotBool, NotUtf8, Zero, NotNumber, Descends, Expected, MissingField, UnknownName, RepeatedKey, Undefined}
 use Rattle.borsh_json.specs.Errors.{IsNoJsonReason, IsNoRowsReason, IsTooDeep, IsUnwritable}
-use Rattle.borsh_json.specs.Forms.{Form, sequence, form_of, form_of_parts, form_of_struct}
+use Rattle.borsh_json.specs.Forms.{Form, sequence, variant_bytes, form_of, form_of_struct}
 use Rattle.borsh_json.specs.Places.{lengths_of}
 use Rattle.borsh_json.specs.Rows.{AreRows, IsNextRow, IsPrimitiveText, IsQuoted, IsRowText, IsValueText, TakesNothing, nothing, passing, opening, counted, rows_plan}
 use Rattle.borsh_json.specs.Table.{Lengths, any_length, primitive_kind}
 use Rattle.borsh_json.specs.declared.rows.Rows.{Rows}
-use Rattle.borsh_json.proofs.FormsLaws.{twice}
+use Rattle.std.proofs.lemmas.Simd.{map-map}
 
 -- a refusal for depth is one for which a member has no JSON
 deep_reason : (r : Refusal) → IsTooDeep r → IsUnwritable r
@@ -140,19 +140,16 @@ any_lengths d w l s e q =
           ∙ ap (λ hi. sequence 4 0 hi (string_bytes s)) (ap (λ (l : Lengths). l.greatest) k),
     )
 
-abbrev texts : ℤ × String Global × String Global → ℤ × List ℕ × List ℕ
-texts u = (u.0, string_bytes u.1, string_bytes u.2)
-
 module _ (F : List ℕ → Option Form) (x own : List ℕ) (d : Definition) where
   pub variant_value : (w : ℕ) (vs : Vec (ℤ × String Global × String Global) Global) → d ≡ Enum w vs → (found : Option ℕ) → IsVariantOf (shape_of d) own found → (t : List ℕ) → MatchOption found (t ≡ []) (λ i. (u : ℤ × String Global × String Global) × (slice_get vs.items i ≡ Some u) × (t ≡ string_bytes u.1)) → IsValueText F x (form_of d) own t
   variant_value w vs e found a t h =
       let b = subst (λ (d : Definition). IsVariantOf (shape_of d) own found) e a in
-      let c = subst (λ (us : List (ℤ × List ℕ)). IsVariantIndex us (take w own) found) (sym (twice texts (λ u. (u.0, u.2)) (λ u. (u.0, string_bytes u.2)) (λ u. refl) vs.items)) b in
+      let c = subst (λ (us : List (ℤ × List ℕ)). IsVariantIndex us (take w own) found) (sym (map-map (λ u. (u.0, u.2)) variant_bytes vs.items)) b in
       subst (λ (d : Definition). IsValueText F x (form_of d) own t) (sym e) (found, c, listed found h)
     where
-      listed : (found : Option ℕ) → MatchOption found (t ≡ []) (λ i. (u : ℤ × String Global × String Global) × (slice_get vs.items i ≡ Some u) × (t ≡ string_bytes u.1)) → MatchOption found (t ≡ []) (λ i. (k : ℤ) × (p : List ℕ) × (slice_get (map texts vs.items) i ≡ (let u : ℤ × List ℕ × List ℕ = (k, t, p) in Some u)))
+      listed : (found : Option ℕ) → MatchOption found (t ≡ []) (λ i. (u : ℤ × String Global × String Global) × (slice_get vs.items i ≡ Some u) × (t ≡ string_bytes u.1)) → MatchOption found (t ≡ []) (λ i. (k : ℤ) × (p : List ℕ) × (slice_get (map variant_bytes vs.items) i ≡ (let u : ℤ × List ℕ × List ℕ = (k, t, p) in Some u)))
       listed None h = h
-      listed (Some i) h = (h.0.0, string_bytes h.0.2, slice_get-map texts vs.items i ∙ ap (λ o. option_map texts o) h.1 ∙ ap (λ (s : List ℕ). (let u : ℤ × List ℕ × List ℕ = (h.0.0, s, string_bytes h.0.2) in Some u)) (sym h.2))
+      listed (Some i) h = (h.0.0, string_bytes h.0.2, slice_get-map variant_bytes vs.items i ∙ ap (λ o. option_map variant_bytes o) h.1 ∙ ap (λ (s : List ℕ). (let u : ℤ × List ℕ × List ℕ = (h.0.0, s, string_bytes h.0.2) in Some u)) (sym h.2))
 
   -- a variant that was found is listed
   pub variant_there : (w : ℕ) (vs : Vec (ℤ × String Global × String Global) Global) → d ≡ Enum w vs → (i : ℕ) → IsVariantOf (shape_of d) own (Some i) → slice_get vs.items i ≡ None → ⊥
@@ -171,14 +168,9 @@ nothing_value F x own (Tuple es) f g h t e = e
 nothing_value F x own (Enum w vs) f g h t e = absurd (h w vs refl)
 nothing_value F x own (Struct fs) f g h t e = of_struct fs
   where
-    of_parts : (ps : List (List ℕ)) → IsValueText F x (form_of_parts ps) own t
-    of_parts [] = e
-    of_parts (p ∷ []) = e
-    of_parts (p ∷ q ∷ ps) = e
-
     of_struct : (fs : Fields) → IsValueText F x (form_of_struct fs) own t
     of_struct (NamedFields fs) = e
-    of_struct (UnnamedFields fs) = of_parts (map (λ f. string_bytes f) fs.items)
+    of_struct (UnnamedFields fs) = e
     of_struct Empty = e
 
 pub if_same : {E : Type 0} (P : List ℕ → Type 0) (r : Result (String Global) E) (t : List ℕ) → IfOk r (λ v. string_bytes v ≡ t) → P t → IfOk r (λ v. P (string_bytes v))

@@ -12,28 +12,30 @@ use Rattle.borsh_json.specs.declared.error.Refusal.{Refusal}
 use Rattle.borsh_json.specs.declared.error.Refusal.TheVariants.{TooDeep, RepeatedName, EmptyElements, NotBool, NotUtf8, Zero, NotNumber, Descends, Expected, MissingField, UnknownName, RepeatedKey, Undefined}
 use Rattle.borsh_json.specs.Errors.{IsUnwritable, IsNoJsonReason}
 use Rattle.borsh_json.specs.Forms.{Form, forms_in}
+use Rattle.borsh_json.specs.InOrder.{Step}
 use Rattle.borsh_json.specs.NoJson.{IsAbout, HasNoJsonPart, RefusesBytes}
+use Rattle.borsh_json.specs.NoValue.{path_steps}
 use Rattle.borsh_json.specs.Writes.{Stops}
-use Rattle.borsh_json.proofs.FormsLaws.{shapes_are}
+use Rattle.borsh_walks.proofs.Forms.{shapes_are}
 
 -- where a value is refused, the refusal is about some name
-pub about_some : (F : List ℕ → Option Form) (root bytes : List ℕ) (P : Type 0) (r : Refusal) → ((x : List ℕ) → IsAbout F r x → P) → HasNoJsonPart F root bytes r → P
-about_some F root bytes P r f h = elim h.7 [ inl a ↦ f h.4 a.0 | inr a ↦ f a.1 a.7.0 ]
+pub about_some : (F : List ℕ → Option Form) (root bytes : List ℕ) (path : List Step) (P : Type 0) (r : Refusal) → ((x : List ℕ) → IsAbout F r x → P) → HasNoJsonPart F root bytes path r → P
+about_some F root bytes path P r f h = elim h.8 [ inl a ↦ f h.5 a.1.0 | inr a ↦ f a.2.1 a.2.8.0 ]
 
-unwritable : (F : List ℕ → Option Form) (root bytes : List ℕ) (r : Refusal) → RefusesBytes F root bytes r → IsUnwritable r
-unwritable F root bytes TooDeep s = tt
-unwritable F root bytes (RepeatedName name) s = tt
-unwritable F root bytes EmptyElements s = tt
-unwritable F root bytes NotBool s = tt
-unwritable F root bytes NotUtf8 s = tt
-unwritable F root bytes Zero s = tt
-unwritable F root bytes NotNumber s = tt
-unwritable F root bytes Descends s = tt
-unwritable F root bytes (Expected wanted) s = about_some F root bytes ⊥ (Expected wanted) (λ x m. m) s
-unwritable F root bytes MissingField s = about_some F root bytes ⊥ MissingField (λ x m. m) s
-unwritable F root bytes (UnknownName name) s = about_some F root bytes ⊥ (UnknownName name) (λ x m. m) s
-unwritable F root bytes (RepeatedKey name) s = about_some F root bytes ⊥ (RepeatedKey name) (λ x m. m) s
-unwritable F root bytes (Undefined name) s = about_some F root bytes ⊥ (Undefined name) (λ x m. m) s
+unwritable : (F : List ℕ → Option Form) (root bytes : List ℕ) (path : List Step) (r : Refusal) → RefusesBytes F root bytes path r → IsUnwritable r
+unwritable F root bytes path TooDeep s = tt
+unwritable F root bytes path (RepeatedName name) s = tt
+unwritable F root bytes path EmptyElements s = tt
+unwritable F root bytes path NotBool s = tt
+unwritable F root bytes path NotUtf8 s = tt
+unwritable F root bytes path Zero s = tt
+unwritable F root bytes path NotNumber s = tt
+unwritable F root bytes path Descends s = tt
+unwritable F root bytes path (Expected wanted) s = about_some F root bytes path ⊥ (Expected wanted) (λ x m. m) s
+unwritable F root bytes path MissingField s = about_some F root bytes path ⊥ MissingField (λ x m. m) s
+unwritable F root bytes path (UnknownName name) s = about_some F root bytes path ⊥ (UnknownName name) (λ x m. m) s
+unwritable F root bytes path (RepeatedKey name) s = about_some F root bytes path ⊥ (RepeatedKey name) (λ x m. m) s
+unwritable F root bytes path (Undefined name) s = about_some F root bytes path ⊥ (Undefined name) (λ x m. m) s
 
 pub stop_reason : {A : Type 0} (m : BTreeMap (String A) Definition) (root bytes : List ℕ) (e : JsonError) → Member (definitions_in m) root bytes → Stops (forms_in m) root bytes e → IsNoJsonReason (definitions_in m) root bytes e
 stop_reason m root bytes OutOfMemory b s = tt
@@ -41,4 +43,4 @@ stop_reason m root bytes (NoMember f) b s = absurd s
 stop_reason m root bytes NoValue b s = s
 stop_reason m root bytes (Ambiguous x) b s = subst (λ C. IsUndecided C root x.now) (shapes_are m) s
 stop_reason m root bytes (NotJson offset) b s = s
-stop_reason m root bytes (Refused path r) b s = (b, unwritable (forms_in m) root bytes r s)
+stop_reason m root bytes (Refused path r) b s = (b, unwritable (forms_in m) root bytes (path_steps path) r s.1)

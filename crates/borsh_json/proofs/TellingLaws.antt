@@ -1,6 +1,7 @@
 -- What is told of the names of a plan, as it is written.
 use Rattle.std.proofs.Common.{◌≡◌, ℕ, zero, suc, ◌+◌, ◌<◌, ◌≤◌, List, [], ◌∷◌, ◌++◌, length, take, map, Option, Some, None, Bool, true, false, All, inl, inr, refl, sym, ◌∙◌, ap, subst, arith, append_assoc}
-use Rattle.std.specs.Prelude.{Decides, codes, option_and_then, option_map, slice_get}
+use mathlib.Core.Bool.{not}
+use Rattle.std.specs.Prelude.{if◌then◌else◌, MatchBool, Decides, codes, option_and_then, option_map, slice_get}
 use Rattle.std.proofs.Math.Seq.{take-length}
 use Rattle.std.proofs.lemmas.List.{map-append}
 use Rattle.std.proofs.lemmas.List.Elements.{All-nil, All-push}
@@ -16,11 +17,16 @@ use Rattle.json.proofs.Printed.Trees.{document-print, ArePrintable-json_tokens}
 use Rattle.borsh_plan.specs.declared.named.Named.{Named}
 use Rattle.borsh_json.specs.declared.kinds.Elements.{Elements}
 use Rattle.borsh_json.specs.declared.kinds.Kind.TheVariants.{ByteList}
+use Rattle.borsh_json.specs.declared.order.Ordered.{Ordered}
+use Rattle.borsh_json.specs.declared.order.Ordered.TheVariants.{Single, Number, Text, Array, List as Counted, Tuple, Other}
 use Rattle.borsh_json.specs.Forms.{Form, HasNoBytes}
-use Rattle.borsh_json.specs.Names.{IsWord, TellsNames, word_members}
-use Rattle.borsh_json.specs.Orders.{KindTellsOrder, KnowsNoOrder}
+use Rattle.borsh_json.specs.Names.{HasOtherKeys, HasToldKeys, IsListWord, IsWord, TellsNames, word_members}
+use Rattle.borsh_json.specs.Ordered.{Order, other, HasOrder}
+use Rattle.borsh_json.specs.Orders.{HasKeyOrder, IsOrderOf, KeysAscend, TellsNoOrder}
 use Rattle.borsh_json.specs.Places.{IsAt, IsKindOf, IsListOf, lengths_of}
 use Rattle.borsh_json.specs.Table.{no_bytes, byte_list, list}
+use Rattle.borsh_json.proofs.InOrderLaws.{keys_one}
+use Rattle.borsh_json.proofs.OrderLaws.{order_one}
 
 abbrev pub Told : Type 0
 Told = List ℕ × List ℕ
@@ -68,13 +74,46 @@ module _ (F : List ℕ → Option Form) (ns : List Named) where
   pub not_empty : (x : List ℕ) (b : Bool) → b ≡ false → Decides b (HasNoBytes F x) → HasNoBytes F x → ⊥
   not_empty x b e d h = not_both b (d.1 h) e
 
-  pub unordered_bytes : (x : List ℕ) (f : Form) (es : Elements) → es.order ≡ None → IsKindOf F ns x f (ByteList es) → KindTellsOrder F x (ByteList es) → IsWord F ns x (codes "byte list")
-  unordered_bytes x f es n k t = inl (byte_list (lengths_of f) k.0, k.2, inr (t n, refl))
+  told_keys : (x k : List ℕ) (found : Ordered) → ((at : ℕ) → found ≡ Other at → ⊥) → KeysAscend F ns x k found → HasToldKeys F x
+  told_keys x k found n h = (h.0, k, h.1, λ o. by found n (subst (λ (o : Order). IsOrderOf F ns k found o) (order_one F k h.2.0 other h.2.1 o) h.2.2))
+    where
+      by : (found : Ordered) → ((at : ℕ) → found ≡ Other at → ⊥) → IsOrderOf F ns k found other → ⊥
+      by Single n i = cc
+      by (Number m s) n i = cc
+      by Text n i = cc
+      by (Array m at) n i = let q = i.2 in cc
+      by (Counted w at) n i = let q = i.2 in cc
+      by (Tuple at m) n i = let q = i.4 in cc
+      by (Other at) n i = n at refl
 
-  pub unordered_list : (x : List ℕ) (f : Form) (es : Elements) → es.order ≡ None → es.is_refused ≡ false → IsListOf F ns x f es.at es.is_refused → KnowsNoOrder F x → IsWord F ns x (codes "list")
-  unordered_list x f es n r k t =
+  other_keys : (x k : List ℕ) (at : ℕ) → KeysAscend F ns x k (Other at) → HasOtherKeys F x
+  other_keys x k at h e j keys = subst (λ k. HasOrder F k other) (keys_one F x h.0 e k j h.1 keys) (subst (λ (o : Order). HasOrder F k o) h.2.2.1 h.2.1)
+
+  -- whether an order of keys is told
+  pub sorted_keys : (x : List ℕ) (order : Option Ordered) (found : Ordered) (b : Bool) → order ≡ Some found → MatchBool b ((at : ℕ) × (found ≡ Other at)) ((at : ℕ) → found ≡ Other at → ⊥) → HasKeyOrder F ns x order → MatchBool (not b) (HasToldKeys F x) (HasOtherKeys F x)
+  sorted_keys x order found true e t h =
+      let k = subst (λ (found : Ordered). HasKeyOrder F ns x (Some found)) t.1 (subst (λ (o : Option Ordered). HasKeyOrder F ns x o) e h) in
+      other_keys x k.0 t.0 k.1
+  sorted_keys x order found false e t h =
+      let k = subst (λ (o : Option Ordered). HasKeyOrder F ns x o) e h in
+      told_keys x k.0 found t k.1
+
+  -- the words of lists
+  list_word_of : (x list_word word : List ℕ) (b : Bool) → MatchBool b (HasToldKeys F x) (HasOtherKeys F x) → word ≡ (if b then codes "sorted " ++ list_word else list_word) → IsListWord F x list_word word
+  list_word_of x list_word word true m w = inl (m, w)
+  list_word_of x list_word word false m w = inr (m, w)
+
+  pub bytes_word : (x : List ℕ) (f : Form) (es : Elements) (b : Bool) (word : List ℕ) → MatchBool b (HasToldKeys F x) (HasOtherKeys F x) → word ≡ (if b then codes "sorted byte list" else codes "byte list") → IsKindOf F ns x f (ByteList es) → IsWord F ns x word
+  bytes_word x f es true word m e k = inl (byte_list (lengths_of f) k.0, k.2, list_word_of x (codes "byte list") word true m e)
+  bytes_word x f es false word m e k = inl (byte_list (lengths_of f) k.0, k.2, list_word_of x (codes "byte list") word false m e)
+
+  pub list_word : (x : List ℕ) (f : Form) (es : Elements) (b : Bool) (word : List ℕ) → es.is_refused ≡ false → MatchBool b (HasToldKeys F x) (HasOtherKeys F x) → word ≡ (if b then codes "sorted list" else codes "list") → IsListOf F ns x f es.at es.is_refused → IsWord F ns x word
+  list_word x f es true word r m e k =
       let l = subst (λ b. IsListOf F ns x f es.at b) r k in
-      inl (list (lengths_of f) l.0, l.2, inr (t, refl))
+      inl (list (lengths_of f) l.0, l.2, list_word_of x (codes "list") word true m e)
+  list_word x f es false word r m e k =
+      let l = subst (λ b. IsListOf F ns x f es.at b) r k in
+      inl (list (lengths_of f) l.0, l.2, list_word_of x (codes "list") word false m e)
 
   -- ---- the text
   -- an object was begun, and has the first names

@@ -4,10 +4,10 @@ use Rattle.std.specs.Prelude.{◌==◌, ⊤, ℤ, Decides, MatchBool, codes, sli
 use Rattle.std.specs.Global.{Global}
 use Rattle.borsh_walks.specs.declared.definition.Fields.{Fields}
 use Rattle.borsh_walks.specs.declared.definition.Fields.TheVariants.{NamedFields, UnnamedFields, Empty}
-use Rattle.borsh_json.specs.Forms.{Form, primitive, sequence, tuple, newtype, unnamed, named, choice, form_of_parts, form_of_struct, HasNoBytes, IsOption}
+use Rattle.borsh_json.specs.Forms.{Form, primitive, sequence, tuple, choice, named, unnamed, no_fields, form_of_struct, HasNoBytes, IsOption}
 use Rattle.borsh_json.proofs.FoundLaws.{inner}
 use Rattle.borsh_walks.specs.TupleNames.{following, tuple_name}
-use Rattle.borsh_json.specs.Ordered.{Order, single, numbers, text, array, list, parts, AreNumbers, IsSequenceName, IsTreeMapName, IsListName, OrdersBytes, HasOrder}
+use Rattle.borsh_json.specs.Ordered.{Order, single, numbers, text, array, list, parts, other, AreNumbers, IsSequenceName, IsTreeMapName, IsListName, OrdersBytes}
 use Rattle.borsh_json.specs.Table.{AreKeys, primitive_kind, texts}
 use Rattle.borsh_json.proofs.OrderLaws.{clash}
 
@@ -16,34 +16,25 @@ abbrev pub IsOfStruct : Form → Type 0
 IsOfStruct (primitive n) = ⊥
 IsOfStruct (sequence w lo hi e) = ⊥
 IsOfStruct (tuple ps) = ⊥
-IsOfStruct (newtype p) = ⊤
-IsOfStruct (unnamed ps) = ⊤
-IsOfStruct (named fs) = ⊤
 IsOfStruct (choice w vs) = ⊥
+IsOfStruct (named fs) = ⊤
+IsOfStruct (unnamed ps) = ⊤
+IsOfStruct no_fields = ⊤
 
 -- that of a struct is
 pub struct_form : (fs : Fields) → IsOfStruct (form_of_struct fs)
 struct_form (NamedFields fs) = tt
-struct_form (UnnamedFields fs) = of (map (λ f. string_bytes f) fs.items)
-  where
-    of : (ps : List (List ℕ)) → IsOfStruct (form_of_parts ps)
-    of [] = tt
-    of (p ∷ []) = tt
-    of (p ∷ q ∷ ps) = tt
+struct_form (UnnamedFields fs) = tt
 struct_form Empty = tt
 
 module _ (F : List ℕ → Option Form) (x : List ℕ) where
-  -- a name whose values have bytes, and of which no order says them
-  pub finds_none : (HasNoBytes F x → ⊥) → ((o : Order) → OrdersBytes F x o → ⊥) → (o : Order) → HasOrder F x o → ⊥
-  finds_none n h o (inl a) = n a.0
-  finds_none n h o (inr a) = h o a.1
-
   unlike : {f : Form} → F x ≡ None → F x ≡ Some f → ⊥
   unlike {f = f} a b = let e : None ≡ Some f = sym a ∙ b in cc
 
   -- a name without a definition
   pub no_definition : F x ≡ None → (o : Order) → OrdersBytes F x o → ⊥
   no_definition e single h = h
+  no_definition e other h = h
   no_definition e (numbers n s) h = unlike e h.0
   no_definition e text h = unlike e h.1
   no_definition e (array n p) h = unlike e h.0
@@ -54,6 +45,7 @@ module _ (F : List ℕ → Option Form) (x : List ℕ) where
   -- a primitive that has no numbers
   pub no_numbers : (n : ℕ) → F x ≡ Some (primitive n) → ((s : Bool) → AreNumbers (primitive_kind x n) n s → ⊥) → (o : Order) → OrdersBytes F x o → ⊥
   no_numbers n e a single h = h
+  no_numbers n e a other h = h
   no_numbers n e a (numbers m s) h =
       let g : Some (primitive m) ≡ Some (primitive n) = sym h.0 ∙ e in
       let q : m ≡ n = cc in
@@ -67,6 +59,7 @@ module _ (F : List ℕ → Option Form) (x : List ℕ) where
   -- a list of no such name
   pub no_list_name : (e : List ℕ) → F x ≡ Some (sequence 4 0 4294967295 e) → (AreKeys F x texts → ⊥) → (IsSequenceName x e → ⊥) → ((k v : List ℕ) → F e ≡ Some (tuple (k ∷ v ∷ [])) → IsTreeMapName x k v → ⊥) → (o : Order) → OrdersBytes F x o → ⊥
   no_list_name e f t s m single h = h
+  no_list_name e f t s m other h = h
   no_list_name e f t s m (numbers n g) h = clash (F x) f h.0 (λ e. cc)
   no_list_name e f t s m text h = t h
   no_list_name e f t s m (array n p) h = clash (F x) f h.0 (λ e. cc)
@@ -84,6 +77,7 @@ module _ (F : List ℕ → Option Form) (x : List ℕ) where
   -- a sequence that is no list, and no array
   pub no_array : (w lo hi : ℕ) (e : List ℕ) → F x ≡ Some (sequence w lo hi e) → ((p : List ℕ) → sequence w lo hi e ≡ sequence 4 0 4294967295 p → ⊥) → ((n : ℕ) (p : List ℕ) → OrdersBytes F x (array n p) → ⊥) → (o : Order) → OrdersBytes F x o → ⊥
   no_array w lo hi e f l a single h = h
+  no_array w lo hi e f l a other h = h
   no_array w lo hi e f l a (numbers n g) h = clash (F x) f h.0 (λ e. cc)
   no_array w lo hi e f l a text h = clash (F x) f h.1 (λ g. l (codes "u8") g)
   no_array w lo hi e f l a (array n p) h = a n p h
@@ -94,6 +88,7 @@ module _ (F : List ℕ → Option Form) (x : List ℕ) where
   -- a tuple of another name
   pub no_tuple_name : (ps : List (List ℕ)) → F x ≡ Some (tuple ps) → (x ≡ tuple_name ps → ⊥) → (o : Order) → OrdersBytes F x o → ⊥
   no_tuple_name ps f t single h = h
+  no_tuple_name ps f t other h = h
   no_tuple_name ps f t (numbers n g) h = clash (F x) f h.0 (λ e. cc)
   no_tuple_name ps f t text h = clash (F x) f h.1 (λ e. cc)
   no_tuple_name ps f t (array n p) h = clash (F x) f h.0 (λ e. cc)
@@ -107,6 +102,7 @@ module _ (F : List ℕ → Option Form) (x : List ℕ) where
   -- an enum that is no option
   pub no_option : (w : ℕ) (vs : List (ℤ × List ℕ × List ℕ)) → F x ≡ Some (choice w vs) → ((p : List ℕ) → IsOption F x p → ⊥) → (o : Order) → OrdersBytes F x o → ⊥
   no_option w vs f n single h = h
+  no_option w vs f n other h = h
   no_option w vs f n (numbers m g) h = clash (F x) f h.0 (λ e. cc)
   no_option w vs f n text h = clash (F x) f h.1 (λ e. cc)
   no_option w vs f n (array m p) h = clash (F x) f h.0 (λ e. cc)
@@ -123,6 +119,7 @@ module _ (F : List ℕ → Option Form) (x : List ℕ) where
   -- a struct
   pub no_struct : (f : Form) → F x ≡ Some f → IsOfStruct f → (o : Order) → OrdersBytes F x o → ⊥
   no_struct f e s single h = h
+  no_struct f e s other h = h
   no_struct f e s (numbers n g) h = other_form s e h.0
   no_struct f e s text h = other_form s e h.1
   no_struct f e s (array n p) h = other_form s e h.0

@@ -15,22 +15,17 @@ use Rattle.borsh_walks.specs.Definitions.{definitions_in}
 use Rattle.borsh_walks.specs.declared.definition.Definition.{Definition}
 use Rattle.borsh_json.specs.Forms.{Form, forms_in}
 use Rattle.borsh_json.specs.Frames.{Wanted}
-use Rattle.borsh_json.specs.InOrder.{TextRepresents, IsRepresented}
-use Rattle.borsh_json.specs.Represents.{HaveBytes, none_left}
+use Rattle.borsh_json.specs.InOrder.{IsEach, TextRepresents, IsRepresented}
+use Rattle.borsh_json.specs.Represents.{none_left}
 use Rattle.borsh_json.specs.Table.{Keys, Part, key_json}
 use Rattle.borsh_json.specs.Writes.{Rest, items_rest, members_rest, value_rest, entries_rest, IsAbove, MayFollow, MayFollowAll, MayFollowFirst, IsWhole, Begins, WritesJson}
-use Rattle.borsh_json.specs.Printed.{AreWritten, HasShortNumbers, IsShortNumber}
+use Rattle.borsh_json.specs.Leaves.{long_of, AreWritten}
+use Rattle.borsh_json.specs.Printed.{HasQuotedNumbers, QuotesLong}
 use Rattle.borsh_json.specs.declared.output.LongNumbers.{LongNumbers}
 use Rattle.borsh_json.specs.declared.output.LongNumbers.TheVariants.{Quoted}
-use Rattle.borsh_json.proofs.FormsLaws.{shapes_are}
+use Rattle.borsh_walks.proofs.Forms.{shapes_are}
 use Rattle.borsh_json.proofs.OpeningLaws.{some_one}
 use Rattle.borsh_json.proofs.StepLaws.{item_back}
-
--- a number that is written so is short where it has to be, and so is each that the text has
-pub short_numbers : (long : LongNumbers) (j : Json) (text : List ℕ) → document text ≡ Some j → AreWritten long (json_tokens j) → long ≡ Quoted → HasShortNumbers text
-short_numbers long j text d w e k f =
-    let same = some_one k j (sym f ∙ d) in
-    subst (λ (j : Json). All IsShortNumber (json_tokens j)) same (subst (λ (l : LongNumbers). AreWritten l (json_tokens j)) e w)
 
 -- ---- at the end
 -- what was written is the text of the JSON
@@ -42,37 +37,41 @@ json_read text j e n d =
 module _ {A : Type 0} (m : BTreeMap (String A) Definition) (root bytes : List ℕ) (out : Output) (w : WritesJson (forms_in m) root bytes out) (is : Member (definitions_in m) root bytes) where
   -- the text that was written
   pub text_represents : (text : List ℕ) → tokens text ≡ json_tokens w.0 → TextRepresents (forms_in m) root text bytes
-  text_represents text e = (w.0, json_read text w.0 e w.2 w.3, w.4, subst (λ C. Member C root bytes) (sym (shapes_are m)) is, w.5)
+  text_represents text e = (w.0, json_read text w.0 e w.2 w.3, w.4.0, subst (λ C. Member C root bytes) (sym (shapes_are m)) is, w.5)
+
+  -- where numbers of 64 bits are strings, so are those of any text of the same JSON
+  pub quoted_numbers : (long : LongNumbers) (text : List ℕ) → long_of out ≡ long → long ≡ Quoted → document text ≡ Some w.0 → HasQuotedNumbers (forms_in m) root text
+  quoted_numbers long text e q d j f = subst (λ (j : Json). IsEach (forms_in m) (QuotesLong (forms_in m)) root j) (some_one j w.0 (sym f ∙ d)) (w.4.1 (e ∙ q)).0
 
   -- or that could be
   pub is_represented : IsRepresented (forms_in m) root bytes
   is_represented = let ts = json_tokens w.0 in (print ts, text_represents (print ts) (tokens-print ts (ArePrintable-json_tokens w.0 w.2)))
 
-module _ (F : List ℕ → Option Form) (root : List ℕ) where
+module _ (F : List ℕ → Option Form) {long : LongNumbers} (root : List ℕ) where
   -- in front of the root nothing was written
-  pub begins : Begins F root (MayFollowAll (value_rest (root ∷ []) ∷ [])) [] []
+  pub begins : Begins F long root (MayFollowAll (value_rest (root ∷ []) ∷ [])) [] []
   begins ts ps bs f h =
       let m = f.6 in
       let z = m.7 in
       let e : ts ≡ json_tokens m.0 = f.8 ∙ ap (λ u. f.1 ++ u) f.7.0 ∙ append-nil f.1 ∙ m.5 ∙ ap (λ t. json_tokens m.0 ++ t) z.0 ∙ append-nil (json_tokens m.0) in
       let p : ps ≡ (root, m.0) ∷ [] = f.9 ∙ ap (λ b. f.3 ++ b) f.7.1 ∙ append-nil f.3 ∙ m.6 ∙ ap (λ l. (root, m.0) ∷ l) z.1 in
       let n : depth m.0 ≤ 128 = (let d = m.4 in let r = f.5 in omega (arith, d, r)) in
-      (m.0, e, m.3, n, subst (λ l. HaveBytes F l bs) p h)
+      (m.0, e, m.3, n, subst (λ l. AreWritten F long l bs) p h)
 
   -- what may follow now, behind these tokens and bytes, might follow before
   pub goes_on : (P Q : List Token → List Part → Type 0) (written : List Token) (done : List ℕ) (front : List Token) (own : List ℕ)
-      → ((ts : List Token) (ps : List Part) (bs : List ℕ) → Q ts ps → HaveBytes F ps bs → (qs : List Part) × P (front ++ ts) qs × HaveBytes F qs (own ++ bs))
-      → Begins F root P written done → Begins F root Q (written ++ front) (done ++ own)
+      → ((ts : List Token) (ps : List Part) (bs : List ℕ) → Q ts ps → AreWritten F long ps bs → (qs : List Part) × P (front ++ ts) qs × AreWritten F long qs (own ++ bs))
+      → Begins F long root P written done → Begins F long root Q (written ++ front) (done ++ own)
   goes_on P Q written done front own step begun ts ps bs q h =
       let s = step ts ps bs q h in
       let w = begun (front ++ ts) s.0 (own ++ bs) s.1 s.2 in
-      (w.0, append_assoc written front ts ∙ w.1, w.2, w.3, subst (λ l. HaveBytes F ((root, w.0) ∷ []) l) (sym (append_assoc done own bs)) w.4)
+      (w.0, append_assoc written front ts ∙ w.1, w.2, w.3, subst (λ l. AreWritten F long ((root, w.0) ∷ []) l) (sym (append_assoc done own bs)) w.4)
 
   -- at the end nothing follows
-  pub ends : (written : List Token) (done : List ℕ) → Begins F root (MayFollowAll []) written done → IsWhole F root written done
+  pub ends : (written : List Token) (done : List ℕ) → Begins F long root (MayFollowAll []) written done → IsWhole F long root written done
   ends written done begun =
-      let w = begun [] [] [] (refl, refl) none_left in
-      (w.0, sym (append-nil written) ∙ w.1, w.2, w.3, subst (λ l. HaveBytes F ((root, w.0) ∷ []) l) (append-nil done) w.4)
+      let w = begun [] [] [] (refl, refl) (none_left, λ e. tt) in
+      (w.0, sym (append-nil written) ∙ w.1, w.2, w.3, subst (λ l. AreWritten F long ((root, w.0) ∷ []) l) (append-nil done) w.4)
 
 -- ---- the first of what is left
 -- its tokens, behind those of its key, and then those of the others, are tokens of all
@@ -93,13 +92,13 @@ pub entry_taken : (keys : Keys) (k v e : List ℕ) (m : ℕ) (last : Option (Lis
 entry_taken keys k v e m last s a n j ts qs nj dj f =
     (member s j f.0, ap (λ ts. Token.key s ∷ (json_tokens j ++ ts)) f.1, ap suc f.2, (a, f.3), ap (λ qs. (k, key_json keys s) ∷ (v, j) ∷ qs) f.4, (nj, f.5), (let d = f.6 in omega (arith, d, dj)))
 
-module _ (F : List ℕ → Option Form) (root : List ℕ) where
+module _ (F : List ℕ → Option Form) {long : LongNumbers} (root : List ℕ) where
   -- a part comes next, whose key was written, and says these bytes as a part of its own; then its value is wanted
   pub key_written : (r s : Rest) (around : List Rest) (x : List ℕ) (key : List Token) (keys : List Part) (own : List ℕ) (n : ℕ) (written : List Token) (done : List ℕ)
       → n + length around ≡ 128
       → ((i : ℕ) (j : Json) (ts : List Token) (qs : List Part) → HasNumbers j → depth j ≤ i → MayFollow s i ts qs → MayFollow r i (key ++ (json_tokens j ++ ts)) (keys ++ (x, j) ∷ qs))
-      → ((ps : List Part) (bs : List ℕ) → HaveBytes F ps bs → HaveBytes F (keys ++ ps) (own ++ bs))
-      → Begins F root (MayFollowAll (r ∷ around)) written done → Begins F root (MayFollowFirst x n (s ∷ around)) (written ++ key) (done ++ own)
+      → ((ps : List Part) (bs : List ℕ) → AreWritten F long ps bs → AreWritten F long (keys ++ ps) (own ++ bs))
+      → Begins F long root (MayFollowAll (r ∷ around)) written done → Begins F long root (MayFollowFirst x n (s ∷ around)) (written ++ key) (done ++ own)
   key_written r s around x key keys own n written done room taken said =
       goes_on F root (MayFollowAll (r ∷ around)) (MayFollowFirst x n (s ∷ around)) written done key own (λ ts ps bs q h.
       let a = q.5 in
@@ -111,19 +110,19 @@ module _ (F : List ℕ → Option Form) (root : List ℕ) where
 
   -- a value was written whole
   pub leaf_written : (rs : List Rest) (x : List ℕ) (n : ℕ) (j : Json) (own : List ℕ) (written : List Token) (done : List ℕ)
-      → HasNumbers j → depth j ≤ n → ((ps : List Part) (bs : List ℕ) → HaveBytes F ps bs → HaveBytes F ((x, j) ∷ ps) (own ++ bs))
-      → Begins F root (MayFollowFirst x n rs) written done → Begins F root (MayFollowAll rs) (written ++ json_tokens j) (done ++ own)
+      → HasNumbers j → depth j ≤ n → ((ps : List Part) (bs : List ℕ) → AreWritten F long ps bs → AreWritten F long ((x, j) ∷ ps) (own ++ bs))
+      → Begins F long root (MayFollowFirst x n rs) written done → Begins F long root (MayFollowAll rs) (written ++ json_tokens j) (done ++ own)
   leaf_written rs x n j own written done nj dj said =
       goes_on F root (MayFollowFirst x n rs) (MayFollowAll rs) written done (json_tokens j) own (λ ts ps bs q h. ((x, j) ∷ ps, (j, ts, ps, nj, dj, q, refl, refl), said ps bs h))
 
   -- or its beginning
   pub front_written : (r : Rest) (rs : List Rest) (x : List ℕ) (n : ℕ) (front : List Token) (own : List ℕ) (written : List Token) (done : List ℕ)
       → n + length rs ≡ suc 128
-      → ((i : ℕ) (ts : List Token) (qs ps : List Part) (bs : List ℕ) → MayFollow r i ts qs → HaveBytes F (qs ++ ps) bs → (j : Json) × (json_tokens j ≡ front ++ ts) × HasNumbers j × (depth j ≤ suc i) × HaveBytes F ((x, j) ∷ ps) (own ++ bs))
-      → Begins F root (MayFollowFirst x n rs) written done → Begins F root (MayFollowAll (r ∷ rs)) (written ++ front) (done ++ own)
+      → ((i : ℕ) (ts : List Token) (qs ps : List Part) (bs : List ℕ) → MayFollow r i ts qs → AreWritten F long (qs ++ ps) bs → (j : Json) × (json_tokens j ≡ front ++ ts) × HasNumbers j × (depth j ≤ suc i) × AreWritten F long ((x, j) ∷ ps) (own ++ bs))
+      → Begins F long root (MayFollowFirst x n rs) written done → Begins F long root (MayFollowAll (r ∷ rs)) (written ++ front) (done ++ own)
   front_written r rs x n front own written done room whole =
       goes_on F root (MayFollowFirst x n rs) (MayFollowAll (r ∷ rs)) written done front own (λ ts ps bs q h.
-      let w = whole q.0 q.1 q.3 q.4 bs q.6 (subst (λ l. HaveBytes F l bs) q.9 h) in
+      let w = whole q.0 q.1 q.3 q.4 bs q.6 (subst (λ l. AreWritten F long l bs) q.9 h) in
       let d : depth w.0 ≤ n = (let a = w.3 in let b = q.5 in omega (arith, a, b, room)) in
       let t : front ++ ts ≡ json_tokens w.0 ++ q.2 = ap (λ l. front ++ l) q.8 ∙ sym (append_assoc front q.1 q.2) ∙ ap (λ l. l ++ q.2) (sym w.1) in
       ((x, w.0) ∷ q.4, (w.0, q.2, q.4, w.2, d, q.7, t, refl), w.4))
@@ -131,6 +130,6 @@ module _ (F : List ℕ → Option Form) (root : List ℕ) where
   -- a place has ended, with its brackets
   pub end_written : (r : Rest) (rs : List Rest) (n : ℕ) (brackets : List Token) (written : List Token) (done : List ℕ)
       → n + length rs ≡ 128 → MayFollow r n brackets []
-      → Begins F root (MayFollowAll (r ∷ rs)) written done → Begins F root (MayFollowAll rs) (written ++ brackets) (done ++ [])
+      → Begins F long root (MayFollowAll (r ∷ rs)) written done → Begins F long root (MayFollowAll rs) (written ++ brackets) (done ++ [])
   end_written r rs n brackets written done room last =
       goes_on F root (MayFollowAll (r ∷ rs)) (MayFollowAll rs) written done brackets [] (λ ts ps bs q h. (ps, (n, brackets, ts, [], ps, room, last, q, refl, refl), h))

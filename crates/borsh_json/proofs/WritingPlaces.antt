@@ -2,7 +2,6 @@
 use Rattle.std.proofs.Common.{◌≡◌, ℕ, suc, zero, ◌-◌, List, [], ◌∷◌, ◌++◌, length, map, replicate, Option, Some, refl, sym, ◌∙◌, ap, subst, arith, length-append}
 use Rattle.json.specs.Token.{Token}
 use Rattle.json.specs.Json.{no_items, no_members}
-use Rattle.borsh_walks.specs.Container.{product}
 use Rattle.borsh_plan.specs.declared.named.Named.{Named}
 use Rattle.borsh_json.specs.declared.kinds.Entries.{Entries as FoundEntries}
 use Rattle.borsh_json.specs.declared.position.Key.{Key}
@@ -12,7 +11,7 @@ use Rattle.borsh_json.specs.declared.position.Parts.{Parts}
 use Rattle.borsh_json.specs.declared.position.Parts.TheVariants.{Root, List as Elements, Row, Object, Entries as MapEntries, Newtype, Some as Present, Variant}
 use Rattle.borsh_json.specs.declared.position.Place.{Place}
 use Rattle.borsh_json.specs.declared.sources.EntryKey.{EntryKey}
-use Rattle.borsh_json.specs.Forms.{Form, form_of, shapes}
+use Rattle.borsh_json.specs.Forms.{Form, tuple, form_of}
 use Rattle.borsh_json.specs.Frames.{Wanted, IsWanted, IsKey}
 use Rattle.borsh_json.specs.Places.{IsAt, AreKeysOf}
 use Rattle.borsh_json.specs.Table.{Keys}
@@ -105,7 +104,7 @@ module _ (F : List ℕ → Option Form) (ns : List Named) where
     pub count : ℕ
     pub key_named : IsAt ns es.key key
     pub named : IsAt ns part.at value
-    pub defined : shapes F pair ≡ Some (product (key ∷ value ∷ []))
+    pub defined : F pair ≡ Some (tuple (key ∷ value ∷ []))
     pub kind : AreKeysOf F ns key (form_of es.key_definition.now) es.key_kind keys
     pub is_last : IsLast es.key_kind last before
     pub entries : (n : ℕ) × (parts ≡ MapEntries es n)

@@ -1,14 +1,12 @@
 -- Bytes of which each definition opens once, and in which what has to ascend does, whatever JSON says them.
 use Rattle.std.specs.Prelude.{◌≡◌, ℕ, suc, zero, List, [], ◌∷◌, ◌++◌, map, replicate, drop, Bool, Option, Some, None, IfSome}
-use Rattle.std.specs.declared.cmp.Ordering.{Ordering}
-use Rattle.std.specs.declared.cmp.Ordering.TheVariants.{Less}
 use Rattle.borsh_values.specs.Nodes.{packed_size}
 use Rattle.borsh_values.specs.Cursor.{OpensOnce}
-use Rattle.borsh_json.specs.Descents.{HasKeys, NumbersDescend}
-use Rattle.borsh_json.specs.Forms.{Form, shape_of_form, shapes, HasNoBytes}
+use Rattle.borsh_json.specs.Descents.{HasKeys, PrimitivesDescend}
+use Rattle.borsh_json.specs.Forms.{Form, primitive, shape_of_form, shapes, HasNoBytes}
 use Rattle.borsh_json.specs.Found.{IsSet}
 use Rattle.borsh_json.specs.Frames.{IsListKind}
-use Rattle.borsh_json.specs.Ordered.{numbers, HasOrder, a_value, Compare}
+use Rattle.borsh_json.specs.Ordered.{a_value, IsAtLeast}
 use Rattle.borsh_json.specs.Orders.{KnowsNoOrder}
 use Rattle.borsh_json.specs.Table.{Kind, HasKind}
 
@@ -20,7 +18,7 @@ pub data Due : Type 0 where
   ascending : (e k : List ℕ) → ℕ → Option (List ℕ) → Due
 
 module _ (F : List ℕ → Option Form) where
-  -- x is no set or map with keys of a known order, or is written as no list
+  -- x is no set or map, or is written as no list
   abbrev pub NeedsNoOrder : List ℕ → Type 0
   NeedsNoOrder x = (kind : Kind) → HasKind F x kind → IsListKind kind → KnowsNoOrder F x
 
@@ -37,9 +35,9 @@ module _ (F : List ℕ → Option Form) where
     plain : {x bs : List ℕ} {ds : List Due} (own : List ℕ) (parts : List (List ℕ)) → (HasNoBytes F x → ⊥) → NeedsNoOrder x → IsOnly x own parts → AreChecked (map one parts ++ ds) bs → AreChecked (one x ∷ ds) (own ++ bs)
     -- a set or map whose elements aren't in its own bytes; they come next
     collection : {x e k bs : List ℕ} {ds : List Due} (own : List ℕ) (n : ℕ) → HasKeys F x e k → packed_size (shapes F e) ≡ 0 → IsOnly x own (replicate n e) → AreChecked (ascending e k n None ∷ ds) bs → AreChecked (one x ∷ ds) (own ++ bs)
-    -- a set of numbers, which are in its own bytes behind their count
-    packed : {x e bs : List ℕ} {ds : List Due} (own : List ℕ) (n : ℕ) (signed : Bool) → IsSet F x e → HasOrder F e (numbers n signed) → ((i : ℕ) → NumbersDescend n signed (drop 4 own) i → ⊥) → IsOnly x own [] → AreChecked ds bs → AreChecked (one x ∷ ds) (own ++ bs)
+    -- a set of primitives of some bytes, which are in its own bytes behind their count
+    packed : {x e bs : List ℕ} {ds : List Due} (own : List ℕ) (n : ℕ) → IsSet F x e → F e ≡ Some (primitive (suc n)) → ((i : ℕ) → PrimitivesDescend F e (suc n) (drop 4 own) i → ⊥) → IsOnly x own [] → AreChecked ds bs → AreChecked (one x ∷ ds) (own ++ bs)
     -- no element is left
     elements_end : {e k bs : List ℕ} {ds : List Due} {before : Option (List ℕ)} → AreChecked ds bs → AreChecked (ascending e k zero before ∷ ds) bs
     -- the next element's key is above that of the element before it
-    next_element : {e k bs : List ℕ} {n : ℕ} {ds : List Due} {before : Option (List ℕ)} → IfSome before (λ earlier. (r : Ordering) → Compare F (a_value k ∷ []) (a_value k ∷ []) earlier bs r → r ≡ Less) → AreChecked (one e ∷ ascending e k n (Some bs) ∷ ds) bs → AreChecked (ascending e k (suc n) before ∷ ds) bs
+    next_element : {e k bs : List ℕ} {n : ℕ} {ds : List Due} {before : Option (List ℕ)} → IfSome before (λ earlier. IsAtLeast F (a_value k ∷ []) earlier bs → ⊥) → AreChecked (one e ∷ ascending e k n (Some bs) ∷ ds) bs → AreChecked (ascending e k (suc n) before ∷ ds) bs

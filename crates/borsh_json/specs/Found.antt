@@ -26,10 +26,6 @@ forms_of d = forms_in (map_of d.plan.now)
 abbrev pub names_of : Definitions → List Named
 names_of d = plan_names d.plan.now
 
--- at most the orders that are known differ
-abbrev pub IsAlike : Definitions → Definitions → Type 0
-IsAlike d e = e.plan ≡ d.plan
-
 -- the name at the place is x
 abbrev pub IsNamed : Definitions → ℕ → List ℕ → Type 0
 IsNamed d at x = IsAt (names_of d) at x

@@ -17,7 +17,6 @@ use Rattle.borsh_values.specs.declared.faults.Path.{Path}
 use Rattle.borsh_values.specs.declared.faults.PathStep.{PathStep}
 use Rattle.borsh_plan.specs.declared.named.Named.{Named}
 use Rattle.borsh_json.specs.declared.definitions.Definitions.{Definitions}
-use Rattle.borsh_json.specs.declared.definitions.Known.{Known}
 use Rattle.borsh_json.specs.declared.error.PartError.{PartError}
 use Rattle.borsh_json.specs.declared.error.PartError.TheVariants.{OutOfMemory as NoMemory, Refused as RefusedPart}
 use Rattle.borsh_json.specs.declared.error.ReadError.{ReadError}
@@ -49,10 +48,10 @@ use Rattle.borsh_json.specs.declared.sources.Source.{Source}
 use Rattle.borsh_json.specs.declared.sources.Source.TheVariants.{One, Items as TheItems, Members as TheMembers, Entries as InPlace, Texts, Ranks}
 use Rattle.borsh_json.specs.Forms.{Form, named, form_of, shape_of_form}
 use Rattle.borsh_json.specs.Found.{forms_of, names_of}
-use Rattle.borsh_json.specs.Descents.{NumbersDescend}
+use Rattle.borsh_json.specs.Descents.{PrimitivesDescend}
 use Rattle.borsh_json.specs.InOrder.{Step, field as field_step, place as place_step, element as element_step, variant as variant_step, AreSteps, BeginsParts, DigitsFall, IsReached, ItemsFall, InOrder}
 use Rattle.borsh_json.specs.NoValue.{step_of, path_steps, RepeatsKey, FailsHere, LacksField, HasOther, Why, FailsAt, SaysNothing}
-use Rattle.borsh_json.specs.Orders.{AreOrderedNumbers, KeysAscend, OrderedBy, ValuesCompare}
+use Rattle.borsh_json.specs.Orders.{ArePrimitives, IsNotBelow, KeysAscend, OrderedBy}
 use Rattle.borsh_json.specs.Places.{IsAt, AreKeysOf}
 use Rattle.borsh_json.specs.Ranks.{HasRank}
 use Rattle.borsh_json.specs.Represents.{SaysFirst, HaveBytes}
@@ -93,11 +92,11 @@ IsKeyReason j refusal = ⊥
 
 -- the bytes are primitives that have to ascend, and the one at the index isn't above the one before it
 abbrev pub ElementsFall : FoundElements → List ℕ → ℕ → Type 0
-ElementsFall es bytes index = (found : Ordered) × (es.order ≡ Some found) × All (λ b. b < 256) bytes × ((signed : Bool) → AreOrderedNumbers found es.size signed bytes → NumbersDescend es.size signed bytes index)
+ElementsFall es bytes index = (found : Ordered) × (es.order ≡ Some found) × All (λ b. b < 256) bytes × ((F : List ℕ → Option Form) (ns : List Named) (e : List ℕ) → ArePrimitives F ns e found es.size bytes → PrimitivesDescend F e es.size bytes index)
 
 -- where the bytes are primitives that have to ascend, none of them isn't above the one before it
 abbrev pub NoneFalls : FoundElements → List ℕ → Type 0
-NoneFalls es bytes = (found : Ordered) → es.order ≡ Some found → (signed : Bool) → AreOrderedNumbers found es.size signed bytes → (i : ℕ) → NumbersDescend es.size signed bytes i → ⊥
+NoneFalls es bytes = (found : Ordered) → es.order ≡ Some found → (F : List ℕ → Option Form) (ns : List Named) (e : List ℕ) → ArePrimitives F ns e found es.size bytes → (i : ℕ) → PrimitivesDescend F e es.size bytes i → ⊥
 
 -- the path leads from the root by these steps
 abbrev pub IsPath : List ℕ → List Step → Path → Type 0
@@ -107,6 +106,17 @@ IsPath root steps path = (path.root.now ≡ root) × (path_steps path ≡ steps)
 abbrev pub HasPath : List ℕ → List Step → PartError → Type 0
 HasPath root steps NoMemory = ⊤
 HasPath root steps (RefusedPart path refusal) = IsPath root steps path
+
+-- numbers of so many bytes each, of which an element at the end of the error's path isn't above the one before it
+abbrev pub IsFallOf : List ℕ → List Step → (List ℕ → Option Form) → List ℕ → ℕ → List ℕ → PartError → Type 0
+IsFallOf root outer F e n bytes NoMemory = ⊤
+IsFallOf root outer F e n bytes (RefusedPart path refusal) = (i : ℕ) × IsPath root (outer ++ element_step i ∷ []) path × PrimitivesDescend F e n bytes i
+
+-- elements with an order are such primitives
+abbrev pub IsElementFall : List ℕ → List Step → FoundElements → List ℕ → PartError → Type 0
+IsElementFall root outer es bytes error =
+    (found : Ordered) × (es.order ≡ Some found)
+    × ((F : List ℕ → Option Form) (ns : List Named) (e : List ℕ) → ArePrimitives F ns e found es.size bytes → IsFallOf root outer F e es.size bytes error)
 
 -- the steps to what a part's error is of: the part, or an element of it
 abbrev pub error_steps : List Step → ReadError → List Step
@@ -363,12 +373,12 @@ BeginsAscending (Some a) i new = (b : Ascent) × (new ≡ Some b) × (b.order �
 -- of the last two of those that were begun, the second isn't above the first
 abbrev pub AscentFalls : Definitions → Option Ascent → List ℕ → Type 0
 AscentFalls d None bytes = ⊥
-AscentFalls d (Some a) bytes = (i : ℕ) × (a.earlier ≡ Some i) × ((k : List ℕ) → OrderedBy d k a.order → (j : ℕ) → a.last ≡ Some j → (r : Ordering) → ValuesCompare d k (drop i bytes) (drop j bytes) r → r ≡ Less → ⊥)
+AscentFalls d (Some a) bytes = (i : ℕ) × (a.earlier ≡ Some i) × ((k : List ℕ) → OrderedBy d k a.order → (j : ℕ) → a.last ≡ Some j → IsNotBelow d k (drop i bytes) (drop j bytes))
 
 -- it is, if there are two
 abbrev pub AscentRises : Definitions → Option Ascent → List ℕ → Type 0
 AscentRises d None bytes = ⊤
-AscentRises d (Some a) bytes = (i j : ℕ) → a.earlier ≡ Some i → a.last ≡ Some j → (k : List ℕ) → OrderedBy d k a.order → (r : Ordering) → ValuesCompare d k (drop i bytes) (drop j bytes) r → r ≡ Less
+AscentRises d (Some a) bytes = (i j : ℕ) → a.earlier ≡ Some i → a.last ≡ Some j → (k : List ℕ) → OrderedBy d k a.order → IsNotBelow d k (drop i bytes) (drop j bytes) → ⊥
 
 module _ (F : List ℕ → Option Form) (ns : List Named) where
   -- the entries of a place
@@ -429,49 +439,48 @@ module _ (F : List ℕ → Option Form) (ns : List Named) where
   IsNextEntry keys k v es kind s old new Missing = es ≡ []
   IsNextEntry keys k v es kind s old new End = ⊥
 
-  module _ (orders : List Known) where
-    -- parts of x that have to ascend are elements, and ascend in the order of the keys; of a list whose elements need not, none falls
-    abbrev pub AscendIn : Option Ascent → Parts → List ℕ → Json → Type 0
-    AscendIn None p x i = IsListPlace p → (index : ℕ) → ItemsFall F x i index → ⊥
-    AscendIn (Some a) p x i = IsListPlace p × ((k : List ℕ) × KeysAscend F ns orders x k a.order)
+  -- parts of x that have to ascend are elements, and ascend in the order of the keys; of a list whose elements need not, none falls
+  abbrev pub AscendIn : Option Ascent → Parts → List ℕ → Json → Type 0
+  AscendIn None p x i = IsListPlace p → (index : ℕ) → ItemsFall F x i index → ⊥
+  AscendIn (Some a) p x i = IsListPlace p × ((k : List ℕ) × KeysAscend F ns x k a.order)
 
-    -- inside of so many places, a place whose parts are those of the JSON i of x: its own bytes, the parts that were begun, and the source of those that are left
-    pub record IsDoing (p : Place) (s : Source) (d : ℕ) (x : List ℕ) (i : Json) (own : List ℕ) (ds : List JsonPart) : Type 0 where
-      pub left : Left
-      pub here : HasLeft p.parts p.begun s left
-      pub kind : Kind
-      pub says : SaysOn kind i own ds left
-      pub is_place : IsPlaceIn d p x kind i ds
-      pub ascends : AscendIn p.ascent p.parts x i
+  -- inside of so many places, a place whose parts are those of the JSON i of x: its own bytes, the parts that were begun, and the source of those that are left
+  pub record IsDoing (p : Place) (s : Source) (d : ℕ) (x : List ℕ) (i : Json) (own : List ℕ) (ds : List JsonPart) : Type 0 where
+    pub left : Left
+    pub here : HasLeft p.parts p.begun s left
+    pub kind : Kind
+    pub says : SaysOn kind i own ds left
+    pub is_place : IsPlaceIn d p x kind i ds
+    pub ascends : AscendIn p.ascent p.parts x i
 
-    -- what was opened: the JSON of the name says these own bytes and no parts, or those of a frame
-    abbrev pub IsFound : List ℕ → Json → List ℕ → Option Frame → Type 0
-    IsFound x j own None = SaysFirst F x j own [] × ((index : ℕ) → DigitsFall F x j index → ⊥)
-    IsFound x j own (Some f) = IsDoing f.place f.source 1 x j own [] × IsUnbegun f.place.ascent
+  -- what was opened: the JSON of the name says these own bytes and no parts, or those of a frame
+  abbrev pub IsFound : List ℕ → Json → List ℕ → Option Frame → Type 0
+  IsFound x j own None = SaysFirst F x j own [] × ((index : ℕ) → DigitsFall F x j index → ⊥)
+  IsFound x j own (Some f) = IsDoing f.place f.source 1 x j own [] × IsUnbegun f.place.ascent
 
-    -- the JSON of the name was read: its own bytes were added, or there are none
-    abbrev pub IsOpened : List ℕ → Json → List ℕ → List ℕ → Result (Option Frame) ReadError → Type 0
-    IsOpened x j old new result = MatchResult result
-        (λ found. (own : List ℕ) × (new ≡ old ++ own) × IsFound x j own found)
-        (λ e. FailsRead F x j e)
+  -- the JSON of the name was read: its own bytes were added, or there are none
+  abbrev pub IsOpened : List ℕ → Json → List ℕ → List ℕ → Result (Option Frame) ReadError → Type 0
+  IsOpened x j old new result = MatchResult result
+      (λ found. (own : List ℕ) × (new ≡ old ++ own) × IsFound x j own found)
+      (λ e. FailsRead F x j e)
 
-    -- or its digits don't ascend
-    abbrev pub IsOpenedOrFalls : List ℕ → Json → List ℕ → List ℕ → Result (Option Frame) ReadError → Type 0
-    IsOpenedOrFalls x j old new result = MatchResult result
-        (λ found. (own : List ℕ) × (new ≡ old ++ own) × IsFound x j own found)
-        (λ e. ShowsOr (DigitsFall F x j) (Why F x j) e (FailsHere F x j))
+  -- or its digits don't ascend
+  abbrev pub IsOpenedOrFalls : List ℕ → Json → List ℕ → List ℕ → Result (Option Frame) ReadError → Type 0
+  IsOpenedOrFalls x j old new result = MatchResult result
+      (λ found. (own : List ℕ) × (new ≡ old ++ own) × IsFound x j own found)
+      (λ e. ShowsOr (DigitsFall F x j) (Why F x j) e (FailsHere F x j))
 
-    -- what comes next of a place: a part, behind the key if it is of an entry; a field that the object hasn't; or nothing
-    abbrev pub IsNext : ℕ → List ℕ → Json → List ℕ → List JsonPart → Place → Source → List ℕ → List ℕ → Next → Type 0
-    IsNext d x i own ds p s old new (Part at e) =
-        (es : List JsonPart) × (key : List ℕ) × (y : List ℕ) × (k : Json)
-        × HaveBytes F es key × (new ≡ old ++ key) × IsAt ns at y × BeginsWith e k × IsDoing p s d x i own (ds ++ (es ++ (y, k) ∷ [])) × ((es ≡ []) ⊎ IsMapPlace p.parts) × AreInOrder F es
-    IsNext d x i own ds p s old new Missing = (name : List ℕ) × LacksField F x i name × (0 < d) × (steps_at p ≡ field_step name ∷ [])
-    IsNext d x i own ds p s old new End = (new ≡ old) × (NoneLeft s → SaysAll d x i own ds) × ((name : List ℕ) → IsLeft s name → HasOther F x i name)
+  -- what comes next of a place: a part, behind the key if it is of an entry; a field that the object hasn't; or nothing
+  abbrev pub IsNext : ℕ → List ℕ → Json → List ℕ → List JsonPart → Place → Source → List ℕ → List ℕ → Next → Type 0
+  IsNext d x i own ds p s old new (Part at e) =
+      (es : List JsonPart) × (key : List ℕ) × (y : List ℕ) × (k : Json)
+      × HaveBytes F es key × (new ≡ old ++ key) × IsAt ns at y × BeginsWith e k × IsDoing p s d x i own (ds ++ (es ++ (y, k) ∷ [])) × ((es ≡ []) ⊎ IsMapPlace p.parts) × AreInOrder F es
+  IsNext d x i own ds p s old new Missing = (name : List ℕ) × LacksField F x i name × (0 < d) × (steps_at p ≡ field_step name ∷ [])
+  IsNext d x i own ds p s old new End = (new ≡ old) × (NoneLeft s → SaysAll d x i own ds) × ((name : List ℕ) → IsLeft s name → HasOther F x i name)
 
 -- for any definitions and places: the JSON of a name of this kind was opened
 abbrev pub Opens : ((List ℕ → Option Form) → List Named → List ℕ → Type 0) → List Token → List ℕ → List ℕ → Result (Option Frame) ReadError → Type 0
-Opens K e old new result = (F : List ℕ → Option Form) (ns : List Named) (orders : List Known) (x : List ℕ) (j : Json) → K F ns x → BeginsWith e j → IsOpened F ns orders x j old new result
+Opens K e old new result = (F : List ℕ → Option Form) (ns : List Named) (x : List ℕ) (j : Json) → K F ns x → BeginsWith e j → IsOpened F ns x j old new result
 
 -- no memory, or other JSON is wanted
 abbrev pub IsExpected : ReadError → Type 0
@@ -513,7 +522,7 @@ module _ (F : List ℕ → Option Form) (base : ℕ) (ds : List JsonPart) where
   abbrev pub AreRisen : Parts → List ℕ → Json → Type 0
   AreRisen p x i = IsListPlace p → (index : ℕ) → suc index < length ds → ItemsFall F x i index → ⊥
 
-module _ (F : List ℕ → Option Form) (ns : List Named) (orders : List Known) (root : List ℕ) (j : Json) where
+module _ (F : List ℕ → Option Form) (ns : List Named) (root : List ℕ) (j : Json) where
   -- the value of a place inside of so many is there, behind these bytes; the place inside of none is in front of the whole
   abbrev pub Stands : ℕ → List Step → List ℕ → List ℕ → Json → Type 0
   Stands zero path before x i = (path ≡ []) × (before ≡ []) × (x ≡ root) × (i ≡ j)
@@ -525,7 +534,7 @@ module _ (F : List ℕ → Option Form) (ns : List Named) (orders : List Known) 
     pub ds : List JsonPart
     pub mid : List ℕ
     pub stands : Stands d path before x i
-    pub doing : IsDoing F ns orders p s d x i own ds
+    pub doing : IsDoing F ns p s d x i own ds
     pub starts : AreStarts F (length (before ++ own)) ds p.ascent
     pub risen : AreRisen F (length (before ++ own)) ds p.parts x i
     pub in_order : AreInOrder F ds
@@ -538,7 +547,7 @@ module _ (F : List ℕ → Option Form) (ns : List Named) (orders : List Known) 
     pub ds : List JsonPart
     pub mid : List ℕ
     pub stands : Stands d path before x i
-    pub doing : IsDoing F ns orders p s d x i own (ds ++ (y, k) ∷ [])
+    pub doing : IsDoing F ns p s d x i own (ds ++ (y, k) ∷ [])
     pub starts : AreStarts F (length (before ++ own)) (ds ++ (y, k) ∷ []) p.ascent
     pub risen : AreRisen F (length (before ++ own)) (ds ++ (y, k) ∷ []) p.parts x i
     pub in_order : AreInOrder F ds
@@ -568,19 +577,19 @@ module _ (F : List ℕ → Option Form) (ns : List Named) (orders : List Known) 
 
 -- R holds of the innermost place of a reader of the root's JSON
 abbrev pub Holds : Definitions → List ℕ → Json → Reading → (ℕ → List Step → List ℕ → List ℕ → Json → Type 0) → Type 0
-Holds d root j r R = (r.position.root.now ≡ root) × HaveAround (forms_of d) (names_of d) d.orders.items root j r.position.outer.items r.outer.items 0 [] [] root j R
+Holds d root j r R = (r.position.root.now ≡ root) × HaveAround (forms_of d) (names_of d) root j r.position.outer.items r.outer.items 0 [] [] root j R
 
 -- what a reader has read, and what is left to it
 abbrev pub HasRead : Definitions → List ℕ → Json → Reading → Type 0
-HasRead d root j r = Holds d root j r (IsInside (forms_of d) (names_of d) d.orders.items root j r.position.place r.source r.out.items)
+HasRead d root j r = Holds d root j r (IsInside (forms_of d) (names_of d) root j r.position.place r.source r.out.items)
 
 -- it began the part with the name at this place and the JSON of these tokens
 abbrev pub HasBegun : Definitions → List ℕ → Json → Reading → ℕ → List Token → Type 0
-HasBegun d root j r at e = Holds d root j r (λ n path before x i. (y : List ℕ) × (k : Json) × IsAt (names_of d) at y × BeginsWith e k × IsBegun (forms_of d) (names_of d) d.orders.items root j r.position.place r.source r.out.items y k n path before x i)
+HasBegun d root j r at e = Holds d root j r (λ n path before x i. (y : List ℕ) × (k : Json) × IsAt (names_of d) at y × BeginsWith e k × IsBegun (forms_of d) (names_of d) root j r.position.place r.source r.out.items y k n path before x i)
 
 -- it read the last part of a value
 abbrev pub HasEnded : Definitions → List ℕ → Json → Reading → Type 0
-HasEnded d root j r = Holds d root j r (IsEnded (forms_of d) (names_of d) d.orders.items root j r.position.place r.source r.out.items)
+HasEnded d root j r = Holds d root j r (IsEnded (forms_of d) (names_of d) root j r.position.place r.source r.out.items)
 
 -- more is to be read; or all was, and the root's JSON says these bytes, in order
 abbrev pub IsReadOn : Definitions → List ℕ → Json → Reading → Bool → Type 0

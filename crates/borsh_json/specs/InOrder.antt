@@ -1,13 +1,11 @@
 -- JSON of a name, in which the elements of sets and the keys of maps ascend, where names and definitions tell their order.
 use Rattle.std.specs.Prelude.{◌≡◌, ◌⊎◌, ℕ, suc, ◌≤◌, ◌+◌, ◌*◌, List, [], ◌∷◌, ◌++◌, length, codes, Option, Some, slice_get}
-use Rattle.std.specs.declared.cmp.Ordering.{Ordering}
-use Rattle.std.specs.declared.cmp.Ordering.TheVariants.{Less}
 use Rattle.json.specs.Json.{Json, array, object, Items, Members, no_members, member, document}
 use Rattle.borsh_walks.specs.Container.{Member}
 use Rattle.borsh_json.specs.Descents.{HasKeys}
 use Rattle.borsh_json.specs.Forms.{Form, shapes}
 use Rattle.borsh_json.specs.Found.{IsSet}
-use Rattle.borsh_json.specs.Ordered.{IsOrdered, a_value, Compare}
+use Rattle.borsh_json.specs.Ordered.{a_value, IsAtLeast}
 use Rattle.borsh_json.specs.Represents.{HaveBytes}
 use Rattle.borsh_json.specs.Table.{Lengths, Kind, no_bytes, truth, whole, float, raw, utf8, byte_list, list, row, inner, fields, optional, variants, entries, HasKind, Part, list_parts, field_parts, IsHex, Says}
 
@@ -51,13 +49,17 @@ module _ (F : List ℕ → Option Form) where
       whole_value : IsReached 0 [] [] (root, j)
       part_of : {n : ℕ} {path : List Step} {before mid x : List ℕ} {i : Json} {ps : List Part} {p : Part} (kind : Kind) (own : List ℕ) (steps : List Step) → IsReached n path before (x, i) → HasKind F x kind → BeginsParts kind i own (ps ++ p ∷ []) → HaveBytes F ps mid → AreSteps kind i (length ps) steps → IsReached (suc n) (path ++ steps) (before ++ (own ++ mid)) p
 
+  -- P holds of the JSON of each part that a path leads to
+  abbrev pub IsEach : (List ℕ → Json → Type 0) → List ℕ → Json → Type 0
+  IsEach P root j = (n : ℕ) (path : List Step) (before x : List ℕ) (i : Json) → IsReached root j n path before (x, i) → P x i
+
   -- ---- what ascends
 
   -- of a set of bytes, their digits: the byte at the index isn't greater than the one before it
   abbrev pub DigitsFall : List ℕ → Json → ℕ → Type 0
   DigitsFall x i index = (l : Lengths) × (e : List ℕ) × (before : List ℕ) × (b : ℕ) × (c : ℕ) × (after : List ℕ) × HasKind F x (byte_list l e) × IsSet F x e × IsHex i (before ++ b ∷ c ∷ after) × (index ≡ suc (length before)) × (c ≤ b)
 
-  -- of a set or map x, the order of whose keys is known, an array: the elements before the index and at it have these bytes, and the key of the second isn't above that of the first
+  -- of a set or map x, an array: the elements before the index and at it have these bytes, and the key of the second isn't above that of the first, as far as their order is told
   pub record ItemsFall (x : List ℕ) (i : Json) (index : ℕ) : Type 0 where
     pub e : List ℕ
     pub k : List ℕ
@@ -68,16 +70,13 @@ module _ (F : List ℕ → Option Form) where
     pub after : List Part
     pub first : List ℕ
     pub second : List ℕ
-    pub result : Ordering
     pub keys : HasKeys F x e k
-    pub known : IsOrdered F k
     pub is_array : i ≡ array items
     pub parts : list_parts e items ≡ before ++ (e, left) ∷ (e, right) ∷ after
     pub index_is : index ≡ suc (length before)
     pub left_says : HaveBytes F ((e, left) ∷ []) first
     pub right_says : HaveBytes F ((e, right) ∷ []) second
-    pub compares : Compare F (a_value k ∷ []) (a_value k ∷ []) (first ++ second) second result
-    pub falls : result ≡ Less → ⊥
+    pub falls : IsAtLeast F (a_value k ∷ []) (first ++ second) second
 
   -- an element of a set or map isn't above the one before it
   abbrev pub Falls : List ℕ → Json → ℕ → Type 0
@@ -85,7 +84,7 @@ module _ (F : List ℕ → Option Form) where
 
   -- JSON of the name, in which no path leads to a set or map of which an element falls; the keys of objects ascend by the table
   abbrev pub InOrder : List ℕ → Json → Type 0
-  InOrder root j = (n : ℕ) (path : List Step) (before x : List ℕ) (i : Json) → IsReached root j n path before (x, i) → (index : ℕ) → Falls x i index → ⊥
+  InOrder = IsEach (λ x i. (index : ℕ) → Falls x i index → ⊥)
 
   -- the text is JSON that says the bytes, these are a member of the root, and what has to ascend does
   abbrev pub TextRepresents : List ℕ → List ℕ → List ℕ → Type 0

@@ -1,5 +1,6 @@
 -- What is written of a value without places of its own.
 use Rattle.std.specs.Prelude.{◌≡◌, ⊤, ℕ, ◌<◌, ◌≤◌, List, [], ◌∷◌, ◌++◌, length, Bool, Decides, Option, Some, Result, MatchResult}
+use Rattle.std.specs.List.{AllByRecursion}
 use Rattle.std.specs.declared.cmp.Ordering.TheVariants.{Less}
 use Rattle.json.specs.Token.{Token}
 use Rattle.json.specs.Token as token
@@ -14,6 +15,8 @@ use Rattle.borsh_json.specs.declared.kinds.KeyKind.{KeyKind}
 use Rattle.borsh_json.specs.declared.error.WriteError.{WriteError}
 use Rattle.borsh_json.specs.declared.error.WriteError.TheVariants.{OutOfMemory, Refused, Element}
 use Rattle.borsh_json.specs.declared.output.Output.{Output}
+use Rattle.borsh_json.specs.declared.output.LongNumbers.{LongNumbers}
+use Rattle.borsh_json.specs.declared.output.LongNumbers.TheVariants.{Plain, Quoted}
 use Rattle.borsh_json.specs.declared.output.Output.TheVariants.{Compact, Pretty, Nothing}
 use Rattle.borsh_json.specs.declared.sources.EntryKey.{EntryKey}
 use Rattle.borsh_json.specs.Forms.{Form, form_of, shape_of_form, shapes}
@@ -21,21 +24,33 @@ use Rattle.borsh_json.specs.Found.{IsPrimitiveKind}
 use Rattle.borsh_json.specs.Frames.{IsEntryKey}
 use Rattle.borsh_json.specs.NoJson.{RefusesOwn, RefusesElement}
 use Rattle.borsh_json.specs.Places.{AreKeysOf, IsKindOf}
-use Rattle.borsh_json.specs.Printed.{AreWritten}
+use Rattle.borsh_json.specs.InOrder.{IsEach}
+use Rattle.borsh_json.specs.Printed.{QuotesLong}
 use Rattle.borsh_json.specs.Represents.{SaysFirst, HaveBytes}
 use Rattle.borsh_json.specs.Table.{Keys, Kind, Part, HasKind, IsHex, key_json, key_order, no_bytes, truth, whole, float, float_size, raw, utf8, byte_list, list, row, inner, fields, optional, variants, entries}
 
 -- ---- tokens
 
--- the text is of these tokens, written as it has to be, if one is kept
+-- how numbers of 64 bits are written
+abbrev pub long_of : Output → LongNumbers
+long_of (Compact w long) = long
+long_of (Pretty w long) = long
+long_of Nothing = Quoted
+
+-- the text is of these tokens, if one is kept
 abbrev pub Holds : Output → List Token → Type 0
-Holds (Compact w long) ts = (w.before ≡ []) × (w.tokens ≡ ts) × AreWritten long ts
-Holds (Pretty w long) ts = (w ≡ ts) × AreWritten long ts
+Holds (Compact w long) ts = (w.before ≡ []) × (w.tokens ≡ ts)
+Holds (Pretty w long) ts = w ≡ ts
 Holds Nothing ts = ⊤
 
 -- these tokens were added
 abbrev pub Adds : List Token → Output → Output → Type 0
-Adds ts old new = (before : List Token) → Holds old before → Holds new (before ++ ts)
+Adds ts old new = (long_of new ≡ long_of old) × ((before : List Token) → Holds old before → Holds new (before ++ ts))
+
+-- a number of 64 bits
+abbrev pub long_token : LongNumbers → List ℕ → Token
+long_token Plain s = token.number s
+long_token Quoted s = token.string s
 
 -- ---- values
 
@@ -61,28 +76,38 @@ abbrev pub WritesHex : List ℕ → Output → Output → Result (Unit {0}) Writ
 WritesHex bytes old new result = MatchResult result (λ _. (s : List ℕ) × Adds (token.string s ∷ []) old new × IsHex (string s) bytes) (λ e. e ≡ OutOfMemory)
 
 module _ (F : List ℕ → Option Form) where
+  -- the parts have these bytes; where numbers of 64 bits are written as strings, they are in all of them
+  abbrev pub AreWritten : LongNumbers → List Part → List ℕ → Type 0
+  AreWritten long ps bytes = HaveBytes F ps bytes × (long ≡ Quoted → AllByRecursion (λ p. IsEach F (QuotesLong F) p.0 p.1) ps)
+
   -- JSON of the name was written whole: it nests at most so deep, and says these bytes
   pub record WritesLeaf (n : ℕ) (x own : List ℕ) (old new : Output) : Type 0 where
     pub json : Json
     pub adds : Adds (json_tokens json) old new
     pub numbers : HasNumbers json
     pub nests : depth json ≤ n
-    pub says : (ps : List Part) (bs : List ℕ) → HaveBytes F ps bs → HaveBytes F ((x, json) ∷ ps) (own ++ bs)
+    pub says : (ps : List Part) (bs : List ℕ) → AreWritten (long_of old) ps bs → AreWritten (long_of old) ((x, json) ∷ ps) (own ++ bs)
 
   -- the error is right of a value of the name that begins with these bytes
   abbrev pub RefusesValue : List ℕ → List ℕ → WriteError → Type 0
   RefusesValue x own OutOfMemory = ⊤
   RefusesValue x own (Refused refusal) = RefusesOwn F refusal x own
-  RefusesValue x own (Element index refusal) = RefusesElement F refusal x own
+  RefusesValue x own (Element index refusal) = RefusesElement F index refusal x own
 
-  -- the same of an element, whose index the error has
-  abbrev pub RefusesAt : List ℕ → List ℕ → WriteError → Type 0
-  RefusesAt x own OutOfMemory = ⊤
-  RefusesAt x own (Refused refusal) = ⊥
-  RefusesAt x own (Element index refusal) = RefusesOwn F refusal x own
+  -- the same of the element at an index, which the error has
+  abbrev pub RefusesAt : ℕ → List ℕ → List ℕ → WriteError → Type 0
+  RefusesAt n x own OutOfMemory = ⊤
+  RefusesAt n x own (Refused refusal) = ⊥
+  RefusesAt n x own (Element index refusal) = (index ≡ n) × RefusesOwn F refusal x own
 
-  abbrev pub IsElementWritten : List ℕ → List ℕ → Output → Output → Result (Unit {0}) WriteError → Type 0
-  IsElementWritten e own old new result = MatchResult result (λ _. WritesLeaf 0 e own old new) (λ error. RefusesAt e own error)
+  -- of a key, which has no elements
+  abbrev pub RefusesKey : List ℕ → List ℕ → WriteError → Type 0
+  RefusesKey x own OutOfMemory = ⊤
+  RefusesKey x own (Refused refusal) = RefusesOwn F refusal x own
+  RefusesKey x own (Element index refusal) = ⊥
+
+  abbrev pub IsElementWritten : ℕ → List ℕ → List ℕ → Output → Output → Result (Unit {0}) WriteError → Type 0
+  IsElementWritten n e own old new result = MatchResult result (λ _. WritesLeaf 0 e own old new) (λ error. RefusesAt n e own error)
 
   -- JSON of the name was written that says these bytes, or none can be
   abbrev pub IsWritten : ℕ → List ℕ → List ℕ → Output → Output → Result (Unit {0}) WriteError → Type 0
@@ -92,7 +117,7 @@ module _ (F : List ℕ → Option Form) where
   abbrev pub IsKeyWritten : List ℕ → KeyKind → Keys → List ℕ → Output → Output → Result EntryKey WriteError → Type 0
   IsKeyWritten k kind keys own old new result = MatchResult result
       (λ key. (s : List ℕ) × IsEntryKey kind key s × Adds (token.key s ∷ []) old new × SaysFirst F k (key_json keys s) own [])
-      (λ e. RefusesValue k own e)
+      (λ e. RefusesKey k own e)
 
   -- the own bytes of a value of the name, which has this definition and these parts
   abbrev pub IsOpenedAs : List ℕ → Form → List ℕ → List (List ℕ) → Type 0

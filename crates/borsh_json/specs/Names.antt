@@ -1,21 +1,28 @@
 -- What is told of the names of a plan: each with a word for how its values are written.
-use Rattle.std.specs.Prelude.{◌≡◌, ◌⊎◌, ℕ, List, [], ◌∷◌, ◌++◌, map, All, if◌then◌else◌, codes, Option, Some}
+use Rattle.std.specs.Prelude.{◌≡◌, ◌⊎◌, ℕ, List, [], ◌∷◌, ◌++◌, map, All, if◌then◌else◌, codes, false, Option, Some}
 use Rattle.json.specs.Json.{Members, no_members, member, string, object, document}
 use Rattle.borsh_plan.specs.declared.named.Named.{Named}
-use Rattle.borsh_json.specs.declared.definitions.Known.{Known}
+use Rattle.borsh_json.specs.declared.kinds.Elements.{Elements}
 use Rattle.borsh_json.specs.declared.kinds.Kind.{Kind as Found}
 use Rattle.borsh_json.specs.Descents.{HasKeys}
 use Rattle.borsh_json.specs.Forms.{Form}
-use Rattle.borsh_json.specs.Ordered.{IsOrdered}
-use Rattle.borsh_json.specs.Orders.{KindHasOrder, KindTellsOrder, KnowsNoOrder}
-use Rattle.borsh_json.specs.Places.{IsKindOf, IsUnsayable}
+use Rattle.borsh_json.specs.Ordered.{other, HasOrder}
+use Rattle.borsh_json.specs.Orders.{HasKeyOrder, KindHasOrder, KindTellsOrder, TellsNoOrder}
+use Rattle.borsh_json.specs.Places.{IsKindOf, IsListOf, IsUnsayable}
 use Rattle.borsh_json.specs.Table.{Kind, no_bytes, truth, whole, float, raw, utf8, byte_list, list, row, inner, fields, optional, variants, entries, HasKind}
 
 module _ (F : List ℕ → Option Form) where
-  -- the word of a list, and whether it is a set or map whose keys have a known order, so that its elements ascend
+  -- x is a set or map, of whose keys an order is told
+  abbrev pub HasToldKeys : List ℕ → Type 0
+  HasToldKeys x = (e : List ℕ) × (k : List ℕ) × HasKeys F x e k × (HasOrder F k other → ⊥)
+
+  -- or no order is, if x is one
+  abbrev pub HasOtherKeys : List ℕ → Type 0
+  HasOtherKeys x = (e k : List ℕ) → HasKeys F x e k → HasOrder F k other
+
+  -- the word of a list, and whether it is a set or map of whose keys an order is told
   abbrev pub IsListWord : List ℕ → List ℕ → List ℕ → Type 0
-  IsListWord x list_word word =
-      ((e : List ℕ) × (k : List ℕ) × HasKeys F x e k × IsOrdered F k × (word ≡ codes "sorted " ++ list_word)) ⊎ (KnowsNoOrder F x × (word ≡ list_word))
+  IsListWord x list_word word = (HasToldKeys x × (word ≡ codes "sorted " ++ list_word)) ⊎ (HasOtherKeys x × (word ≡ list_word))
 
   -- the word of a kind of x; the keys of a map ascend
   abbrev pub IsKindWord : List ℕ → Kind → List ℕ → Type 0
@@ -42,8 +49,14 @@ module _ (F : List ℕ → Option Form) where
 -- a word of each name of which the code finds this kind
 abbrev pub IsFoundWord : Found → List ℕ → Type 0
 IsFoundWord kind word =
-    (F : List ℕ → Option Form) (ns : List Named) (orders : List Known) (x : List ℕ) (f : Form)
-    → IsKindOf F ns x f kind → KindHasOrder F ns orders x kind → KindTellsOrder F x kind → IsWord F ns x word
+    (F : List ℕ → Option Form) (ns : List Named) (x : List ℕ) (f : Form)
+    → IsKindOf F ns x f kind → KindHasOrder F ns x kind → KindTellsOrder F x kind → IsWord F ns x word
+
+-- a word of each list of which the code finds these elements, which aren't refused
+abbrev pub IsFoundListWord : Elements → List ℕ → Type 0
+IsFoundListWord es word =
+    (F : List ℕ → Option Form) (ns : List Named) (x : List ℕ) (f : Form)
+    → IsListOf F ns x f es.at es.is_refused → es.is_refused ≡ false → HasKeyOrder F ns x es.order → TellsNoOrder F x es.order → IsWord F ns x word
 
 -- a member for each name, which is its word
 abbrev pub word_members : List (List ℕ × List ℕ) → Members

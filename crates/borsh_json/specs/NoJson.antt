@@ -1,5 +1,5 @@
 -- Why a member has no JSON: what a refusal of `to_json` says.
-use Rattle.std.specs.Prelude.{◌≡◌, ◌⊎◌, ⊤, ℕ, ◌≤◌, List, ◌∷◌, ◌++◌, Bool, true, Option, string_bytes}
+use Rattle.std.specs.Prelude.{◌≡◌, ◌⊎◌, ⊤, ℕ, suc, ◌+◌, ◌*◌, ◌≤◌, List, [], ◌∷◌, ◌++◌, length, Bool, true, Option, string_bytes}
 use Rattle.std.specs.Float.{Format}
 use Rattle.json.specs.Json.{Json}
 use Rattle.borsh_json.specs.declared.error.JsonError.{JsonError}
@@ -7,8 +7,10 @@ use Rattle.borsh_json.specs.declared.error.JsonError.TheVariants.{OutOfMemory, N
 use Rattle.borsh_json.specs.declared.error.Refusal.{Refusal}
 use Rattle.borsh_json.specs.declared.error.Refusal.TheVariants.{TooDeep, RepeatedName, EmptyElements, NotBool, NotUtf8, Zero, NotNumber, Descends, Expected, MissingField, UnknownName, RepeatedKey, Undefined}
 use Rattle.borsh_json.specs.Descents.{HasDescent}
-use Rattle.borsh_json.specs.Forms.{Form, shapes}
+use Rattle.borsh_json.specs.Forms.{Form}
+use Rattle.borsh_json.specs.InOrder.{Step, element}
 use Rattle.borsh_json.specs.Inside.{IsInside}
+use Rattle.borsh_json.specs.NoValue.{path_steps}
 use Rattle.borsh_json.specs.Represents.{HaveBytes}
 use Rattle.borsh_json.specs.Table.{Lengths, truth, whole, float, utf8, list, HasKind, HasEmptyElements, RepeatsName, Part}
 
@@ -37,32 +39,35 @@ module _ (F : List ℕ → Option Form) where
   abbrev pub RefusesOwn : Refusal → List ℕ → List ℕ → Type 0
   RefusesOwn refusal x own = IsAbout refusal x × IsNoJson x own
 
-  -- it is right of an element in the own bytes of a list
-  abbrev pub RefusesElement : Refusal → List ℕ → List ℕ → Type 0
-  RefusesElement refusal x own =
+  -- it is right of the element at an index in the own bytes of a list
+  abbrev pub RefusesElement : ℕ → Refusal → List ℕ → List ℕ → Type 0
+  RefusesElement index refusal x own =
       (l : Lengths) × (e : List ℕ) × (front : List ℕ) × (piece : List ℕ) × (rest : List ℕ)
-      × HasKind F x (list l e) × (own ≡ front ++ (piece ++ rest)) × RefusesOwn refusal e piece × IsNoJson x own
+      × HasKind F x (list l e) × (own ≡ front ++ (piece ++ rest)) × (length front ≡ l.width + index * length piece) × RefusesOwn refusal e piece × IsNoJson x own
 
   module _ (root bytes : List ℕ) where
-    -- a value begins in the bytes inside of 128 others or more
-    abbrev pub NestsTooDeep : Type 0
-    NestsTooDeep = (n : ℕ) × (before : List ℕ) × (after : List ℕ) × (x : List ℕ) × (bytes ≡ before ++ after) × (128 ≤ n) × IsInside (shapes F) root n before x
+    -- the path leads to a value that begins in the bytes inside of 128 others or more
+    abbrev pub NestsTooDeep : List Step → Type 0
+    NestsTooDeep path = (n : ℕ) × (before : List ℕ) × (after : List ℕ) × (x : List ℕ) × (bytes ≡ before ++ after) × (128 ≤ n) × IsInside F root n path before x
 
-    -- a value begins in the bytes that is refused so, or of which an element is
-    abbrev pub HasNoJsonPart : Refusal → Type 0
-    HasNoJsonPart refusal =
-        (n : ℕ) × (before : List ℕ) × (own : List ℕ) × (after : List ℕ) × (x : List ℕ)
-        × (bytes ≡ before ++ (own ++ after)) × IsInside (shapes F) root n before x × (RefusesOwn refusal x own ⊎ RefusesElement refusal x own)
+    -- the path leads to a value that begins in the bytes and is refused so, or to an element of it that is
+    abbrev pub HasNoJsonPart : List Step → Refusal → Type 0
+    HasNoJsonPart path refusal =
+        (n : ℕ) × (outer : List Step) × (before : List ℕ) × (own : List ℕ) × (after : List ℕ) × (x : List ℕ)
+        × (bytes ≡ before ++ (own ++ after)) × IsInside F root n outer before x
+        × (((path ≡ outer) × RefusesOwn refusal x own) ⊎ ((index : ℕ) × (path ≡ outer ++ element index ∷ []) × RefusesElement index refusal x own))
 
-    -- a set or a map begins in the bytes, of which two neighbours don't ascend
-    abbrev pub IsOutOfOrder : Type 0
-    IsOutOfOrder = (n : ℕ) × (before : List ℕ) × (after : List ℕ) × (x : List ℕ) × (bytes ≡ before ++ after) × IsInside (shapes F) root n before x × HasDescent F x after
+    -- the path leads to an element of a set or map that begins in the bytes, which isn't above the one before it
+    abbrev pub IsOutOfOrder : List Step → Type 0
+    IsOutOfOrder path =
+        (n : ℕ) × (outer : List Step) × (passed : ℕ) × (before : List ℕ) × (after : List ℕ) × (x : List ℕ)
+        × (path ≡ outer ++ element (suc passed) ∷ []) × (bytes ≡ before ++ after) × IsInside F root n outer before x × HasDescent F x after passed
 
-    -- the refusal is a true reason why a member has no JSON
-    abbrev pub RefusesBytes : Refusal → Type 0
-    RefusesBytes TooDeep = NestsTooDeep
-    RefusesBytes Descends = IsOutOfOrder
-    RefusesBytes refusal = HasNoJsonPart refusal
+    -- the refusal of a path is a true reason why a member has no JSON
+    abbrev pub RefusesBytes : List Step → Refusal → Type 0
+    RefusesBytes path TooDeep = NestsTooDeep path
+    RefusesBytes path Descends = IsOutOfOrder path
+    RefusesBytes path refusal = HasNoJsonPart path refusal
 
     -- and so is the refusal of a call for a member
     abbrev pub ShowsNoJson : JsonError → Type 0
@@ -71,4 +76,4 @@ module _ (F : List ℕ → Option Form) where
     ShowsNoJson NoValue = ⊥
     ShowsNoJson (Ambiguous x) = ⊤
     ShowsNoJson (NotJson offset) = ⊥
-    ShowsNoJson (Refused path refusal) = RefusesBytes refusal
+    ShowsNoJson (Refused path refusal) = (path.root.now ≡ root) × RefusesBytes (path_steps path) refusal

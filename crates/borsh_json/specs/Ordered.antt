@@ -1,16 +1,19 @@
--- How the values of a name are ordered, where names and definitions tell it: by numbers, the first that differs of which decides.
-use Rattle.std.specs.Prelude.{◌≡◌, ◌⊎◌, ℕ, suc, zero, ◌<◌, ◌^◌, ℤ, pos, List, [], ◌∷◌, ◌++◌, length, map, Bool, false, codes, Option, Some}
+-- How the values of a name are ordered, where names and definitions tell it; and of which two values they tell that the first isn't below the second: the first parts that differ decide.
+use Rattle.std.specs.Prelude.{◌≡◌, ◌⊎◌, ℕ, suc, zero, ◌<◌, ◌≤◌, ◌^◌, ℤ, pos, List, [], ◌∷◌, ◌++◌, length, map, replicate, Bool, false, if◌then◌else◌, codes, Option, Some, None}
 use Rattle.std.specs.Fmt.{decimal}
-use Rattle.std.specs.Ordering.{int_cmp, MatchOrdering}
+use Rattle.std.specs.Str.{bytes_eq}
+use Rattle.std.specs.Ordering.{int_cmp, nat_cmp}
 use Rattle.std.specs.Cmp.Lexicographic.{slice_cmp}
 use Rattle.std.specs.declared.cmp.Ordering.{Ordering}
-use Rattle.std.specs.declared.cmp.Ordering.TheVariants.{Less, Greater}
-use Rattle.borsh_walks.specs.Container.{IsIn, tag}
+use Rattle.std.specs.declared.cmp.Ordering.TheVariants.{Less, Equal, Greater}
+use Rattle.borsh_walks.specs.Container.{Shape, tag}
+use Rattle.borsh_walks.specs.Container as shape
 use Rattle.borsh_walks.specs.TupleNames.{tuple_name}
-use Rattle.borsh_json.specs.Forms.{Form, primitive, sequence, tuple, HasNoBytes, IsList, IsOption}
+use Rattle.borsh_values.specs.Tags.{number_of}
+use Rattle.borsh_json.specs.Forms.{Form, primitive, sequence, tuple, shape_of_form, HasNoBytes, IsList, IsOption}
 use Rattle.borsh_json.specs.Table.{Kind, texts, truth, whole, primitive_kind, AreKeys, InRange}
 
--- how the values of a name are ordered, if those of its parts are: `OwnRank`, below, has a sentence for each
+-- how the values of a name are ordered, if those of its parts are: `Fronts`, below, has a sentence for each
 pub data Order : Type 0 where
   single : Order
   numbers : ℕ → Bool → Order
@@ -18,15 +21,7 @@ pub data Order : Type 0 where
   array : ℕ → List ℕ → Order
   list : ℕ → List ℕ → Order
   parts : List (List ℕ) → Order
-
--- the names whose orders have to be known, too
-abbrev pub needs : Order → List (List ℕ)
-needs single = []
-needs (numbers n signed) = []
-needs text = []
-needs (array n e) = e ∷ []
-needs (list w e) = e ∷ []
-needs (parts ps) = ps
+  other : Order
 
 -- `Vec<T>`, `VecDeque<T>`, `LinkedList<T>` or `BTreeSet<T>`, where e is T
 abbrev pub IsSequenceName : List ℕ → List ℕ → Type 0
@@ -59,50 +54,88 @@ module _ (F : List ℕ → Option Form) where
   OrdersBytes x (array n e) = (F x ≡ Some (sequence 0 n n e)) × (x ≡ codes "[" ++ e ++ codes "; " ++ decimal n ++ codes "]")
   OrdersBytes x (list w e) = ((w ≡ 4) × (IsList F x e × IsListName x e)) ⊎ ((w ≡ 1) × IsOption F x e)
   OrdersBytes x (parts ps) = (F x ≡ Some (tuple ps)) × (x ≡ tuple_name ps)
+  OrdersBytes x other = ⊥
 
-  -- the values of the name are ordered so, if those of its parts are: each name has at most one order
+  -- the values of the name are ordered so, if those of its parts are: each name has one order, and if neither it nor its definition tells one, `other`
   abbrev pub HasOrder : List ℕ → Order → Type 0
-  HasOrder x o = (HasNoBytes F x × (o ≡ single)) ⊎ ((HasNoBytes F x → ⊥) × OrdersBytes x o)
+  HasOrder x o =
+      (HasNoBytes F x × (o ≡ single))
+      ⊎ ((HasNoBytes F x → ⊥) × (OrdersBytes x o ⊎ ((o ≡ other) × ((q : Order) → OrdersBytes x q → ⊥))))
 
-  -- the order of the name's values is known: that of a name in a circle isn't
-  pub data IsOrdered : List ℕ → Type 0 where
-    ordered : {x : List ℕ} (o : Order) → HasOrder x o → ((p : List ℕ) → IsIn p (needs o) → IsOrdered p) → IsOrdered x
+-- ---- values whose order isn't told
+-- how many own bytes a value of the definition has, as it is compared: a primitive all its bytes, a sequence its count, an enum its tag
+abbrev pub node_size : Shape → ℕ
+node_size (shape.primitive n) = n
+node_size (shape.sequence w lo hi e) = w
+node_size (shape.product qs) = 0
+node_size (shape.choice w vs) = w
 
--- ---- what has a rank: a value of a name; or n values of one name, with a one before each, and then the end
-pub data Ranked : Type 0 where
-  a_value : List ℕ → Ranked
-  elements : List ℕ → ℕ → Ranked
+-- so many elements, as the own bytes of a sequence say; or the least number where it has none
+abbrev pub IsCount : ℕ → ℕ → List ℕ → ℕ → Type 0
+IsCount zero lo own k = k ≡ lo
+IsCount (suc w) lo own k = (suc w ≤ 8) × (k ≡ number_of own)
 
--- a value of this order has these own bytes and numbers, and then those of these others
-abbrev pub OwnRank : Order → List ℕ → List ℤ → List Ranked → Type 0
--- one value, without bytes
-OwnRank single own zs us = (own ≡ []) × (zs ≡ []) × (us ≡ [])
--- a number of n bytes, or a `bool`
-OwnRank (numbers n signed) own zs us = (z : ℤ) × InRange n signed z × (own ≡ tag n z) × (zs ≡ z ∷ []) × (us ≡ [])
--- a `String`: each byte plus one, and then the end
-OwnRank text own zs us = (s : List ℕ) × (length s < 256 ^ 4) × (own ≡ tag 4 (pos (length s)) ++ s) × (zs ≡ map (λ b. pos (suc b)) s ++ pos 0 ∷ []) × (us ≡ [])
--- an array
-OwnRank (array n e) own zs us = (own ≡ []) × (zs ≡ []) × (us ≡ elements e n ∷ [])
--- a list, behind a count of so many bytes; an option is one of at most one element
-OwnRank (list w e) own zs us = (n : ℕ) × (n < 256 ^ w) × (own ≡ tag w (pos n)) × (zs ≡ []) × (us ≡ elements e n ∷ [])
--- a tuple
-OwnRank (parts ps) own zs us = (own ≡ []) × (zs ≡ []) × (us ≡ map (λ p. a_value p) ps)
+-- the type of the first variant that has the tag, if one has
+abbrev pub variant_of : List ℕ → List (ℤ × List ℕ) → Option (List ℕ)
+variant_of t [] = None
+variant_of t (v ∷ vs) = if bytes_eq (tag (length t) v.0) t then Some v.1 else variant_of t vs
+
+-- behind own bytes of the definition come values of these names
+abbrev pub HasParts : Shape → List ℕ → List (List ℕ) → Type 0
+HasParts (shape.primitive n) own ps = ps ≡ []
+HasParts (shape.sequence w lo hi e) own ps = (k : ℕ) × IsCount w lo own k × (ps ≡ replicate k e)
+HasParts (shape.product qs) own ps = ps ≡ qs
+HasParts (shape.choice w vs) own ps = (w ≤ 8) × (p : List ℕ) × (variant_of own vs ≡ Some p) × (ps ≡ p ∷ [])
+
+-- a value of the definition begins with these own bytes and has parts of these names, as far as its bytes say
+abbrev pub IsNode : Shape → List ℕ → List (List ℕ) → Type 0
+IsNode s own ps = (length own ≡ node_size s) × HasParts s own ps
+
+-- ---- what is compared: a value of a name with another; two of which is known only whether they are the same; n elements of one list with m of another
+pub data Compared : Type 0 where
+  a_value : List ℕ → Compared
+  a_copy : List ℕ → Compared
+  elements : List ℕ → ℕ → ℕ → Compared
 
 module _ (F : List ℕ → Option Form) where
-  abbrev pub RankFirst : Ranked → List ℕ → List ℤ → List Ranked → Type 0
-  RankFirst (a_value x) own zs us = (o : Order) × HasOrder F x o × OwnRank o own zs us
-  RankFirst (elements e zero) own zs us = (own ≡ []) × (zs ≡ pos 0 ∷ []) × (us ≡ [])
-  RankFirst (elements e (suc n)) own zs us = (own ≡ []) × (zs ≡ pos 1 ∷ []) × (us ≡ a_value e ∷ elements e n ∷ [])
+  -- values of the name whose own bytes are the same are so if their parts are
+  abbrev pub IsCopy : List ℕ → List ℕ → List ℕ → Ordering → List Compared → Type 0
+  IsCopy x l r o us =
+      (l ≡ r) × (o ≡ Equal)
+      × ((HasNoBytes F x × (l ≡ []) × (us ≡ []))
+      ⊎ ((HasNoBytes F x → ⊥) × (f : Form) × (ps : List (List ℕ)) × (F x ≡ Some f) × IsNode (shape_of_form f) l ps × (us ≡ map (λ p. a_copy p) ps)))
 
-  -- the bytes begin with these, one after another, and these are the numbers by which they compare
-  pub data Rank : List Ranked → List ℕ → List ℤ → Type 0 where
-    no_rank : {bs : List ℕ} → Rank [] bs []
-    more_rank : {t : Ranked} {ts : List Ranked} {bs : List ℕ} {rs : List ℤ} (own : List ℕ) (zs : List ℤ) (us : List Ranked) → RankFirst t own zs us → Rank (us ++ ts) bs rs → Rank (t ∷ ts) (own ++ bs) (zs ++ rs)
+  -- values of this order begin with these own bytes, which compare so; where they are equal, these parts decide
+  abbrev pub Fronts : List ℕ → Order → List ℕ → List ℕ → Ordering → List Compared → Type 0
+  -- one value, without bytes
+  Fronts x single l r o us = (l ≡ []) × (r ≡ []) × (o ≡ Equal) × (us ≡ [])
+  -- numbers of n bytes, or `bool`s
+  Fronts x (numbers n signed) l r o us = (y : ℤ) × (z : ℤ) × InRange n signed y × InRange n signed z × (l ≡ tag n y) × (r ≡ tag n z) × (o ≡ int_cmp y z) × (us ≡ [])
+  -- texts: by their bytes, a beginning first
+  Fronts x text l r o us =
+      (s : List ℕ) × (t : List ℕ) × (length s < 256 ^ 4) × (length t < 256 ^ 4)
+      × (l ≡ tag 4 (pos (length s)) ++ s) × (r ≡ tag 4 (pos (length t)) ++ t) × (o ≡ slice_cmp nat_cmp s t) × (us ≡ [])
+  -- arrays
+  Fronts x (array n e) l r o us = (l ≡ []) × (r ≡ []) × (o ≡ Equal) × (us ≡ elements e n n ∷ [])
+  -- lists, behind a count of so many bytes; an option is one of at most one element
+  Fronts x (list w e) l r o us =
+      (n : ℕ) × (m : ℕ) × (n < 256 ^ w) × (m < 256 ^ w) × (l ≡ tag w (pos n)) × (r ≡ tag w (pos m)) × (o ≡ Equal) × (us ≡ elements e n m ∷ [])
+  -- tuples
+  Fronts x (parts ps) l r o us = (l ≡ []) × (r ≡ []) × (o ≡ Equal) × (us ≡ map (λ p. a_value p) ps)
+  -- of others is known only whether they are the same
+  Fronts x other l r o us = IsCopy x l r o us
 
-  -- the first bytes begin with these, the others with those, and r is how they compare
-  abbrev pub Compare : List Ranked → List Ranked → List ℕ → List ℕ → Ordering → Type 0
-  Compare ts us left right r = (a : List ℤ) × (b : List ℤ) × Rank ts left a × Rank us right b × (slice_cmp int_cmp a b ≡ r)
+  -- so it is of what is compared; the end of a list is below an element
+  abbrev pub FrontsOf : Compared → List ℕ → List ℕ → Ordering → List Compared → Type 0
+  FrontsOf (a_value x) l r o us = (q : Order) × HasOrder F x q × Fronts x q l r o us
+  FrontsOf (a_copy x) l r o us = IsCopy x l r o us
+  FrontsOf (elements e zero zero) l r o us = (l ≡ []) × (r ≡ []) × (o ≡ Equal) × (us ≡ [])
+  FrontsOf (elements e zero (suc m)) l r o us = (l ≡ []) × (r ≡ []) × (o ≡ Less) × (us ≡ [])
+  FrontsOf (elements e (suc n) zero) l r o us = (l ≡ []) × (r ≡ []) × (o ≡ Greater) × (us ≡ [])
+  FrontsOf (elements e (suc n) (suc m)) l r o us = (l ≡ []) × (r ≡ []) × (o ≡ Equal) × (us ≡ a_value e ∷ elements e n m ∷ [])
 
-  -- the first that differs decides, else these
-  abbrev pub Continues : Ordering → List Ranked → List Ranked → List ℕ → List ℕ → Ordering → Type 0
-  Continues o ts us left right r = MatchOrdering o (r ≡ Less) (Compare ts us left right r) (r ≡ Greater)
+  -- the one bytes begin with values that are equal to those with which the other bytes begin, or above them; values whose order isn't told are so only if they are the same
+  pub data IsAtLeast : List Compared → List ℕ → List ℕ → Type 0 where
+    all_equal : {bs cs : List ℕ} → IsAtLeast [] bs cs
+    first_above : {t : Compared} {ts : List Compared} (l r bs cs : List ℕ) (us : List Compared) → FrontsOf t l r Greater us → IsAtLeast (t ∷ ts) (l ++ bs) (r ++ cs)
+    first_equal : {t : Compared} {ts : List Compared} {bs cs : List ℕ} (l r : List ℕ) (us : List Compared) → FrontsOf t l r Equal us → IsAtLeast (us ++ ts) bs cs → IsAtLeast (t ∷ ts) (l ++ bs) (r ++ cs)

@@ -1,18 +1,14 @@
 -- What the code finds of the orders of names, and what is still to be compared.
-use Rattle.std.specs.Prelude.{◌≡◌, ◌⊎◌, ⊤, ℕ, ◌*◌, ◌<◌, ◌≤◌, ◌^◌, ℤ, pos, All, Bool, true, false, Decides, MatchBool, List, [], ◌∷◌, ◌++◌, length, map, drop, reverse, Option, None, Some, Result, IfOk, IfSome, slice_get, MatchOption}
+use Rattle.std.specs.Prelude.{◌≡◌, ◌⊎◌, ⊤, ℕ, ◌*◌, ◌<◌, ◌≤◌, ◌^◌, ℤ, pos, All, Bool, false, Decides, MatchBool, List, [], ◌∷◌, ◌++◌, length, map, drop, replicate, reverse, Option, None, Some, Result, IfOk, IfSome, slice_get, MatchOption}
 use Rattle.std.specs.Borrow.{Bor}
 use Rattle.std.specs.Cmp.Lexicographic.{slice_cmp}
 use Rattle.std.specs.Ordering.{MatchOrdering, int_cmp, nat_cmp}
 use Rattle.std.specs.declared.cmp.Ordering.{Ordering}
-use Rattle.std.specs.declared.cmp.Ordering.TheVariants.{Less, Greater}
-use Rattle.borsh_walks.specs.Container.{IsIn, tag}
+use Rattle.std.specs.declared.cmp.Ordering.TheVariants.{Less}
+use Rattle.borsh_walks.specs.Container.{Shape, references, tag}
 use Rattle.borsh_walks.specs.declared.definition.Definition.{Definition}
 use Rattle.borsh_plan.specs.declared.named.Named.{Named}
 use Rattle.borsh_json.specs.declared.definitions.Definitions.{Definitions}
-use Rattle.borsh_json.specs.declared.definitions.Known.{Known}
-use Rattle.borsh_json.specs.declared.definitions.Known.TheVariants.{Order as KnownOrder}
-use Rattle.borsh_json.specs.declared.error.PartError.{PartError}
-use Rattle.borsh_json.specs.declared.error.PartError.TheVariants.{OutOfMemory as NoMemory, Refused as RefusedPart}
 use Rattle.borsh_json.specs.declared.formats.Collection.{Collection}
 use Rattle.borsh_json.specs.declared.kinds.Elements.{Elements}
 use Rattle.borsh_json.specs.declared.kinds.KeyKind.{KeyKind}
@@ -22,14 +18,14 @@ use Rattle.borsh_json.specs.declared.order.Ascent.{Ascent}
 use Rattle.borsh_json.specs.declared.order.Next.{Next}
 use Rattle.borsh_json.specs.declared.order.Next.TheVariants.{Value, Decided}
 use Rattle.borsh_json.specs.declared.order.Ordered.{Ordered}
-use Rattle.borsh_json.specs.declared.order.Ordered.TheVariants.{Single, Number, Text, Array, List as Counted, Tuple}
+use Rattle.borsh_json.specs.declared.order.Ordered.TheVariants.{Single, Number, Text, Array, List as Counted, Tuple, Other}
 use Rattle.borsh_json.specs.declared.order.Pair.{Pair}
 use Rattle.borsh_json.specs.declared.order.Pending.{Pending}
-use Rattle.borsh_json.specs.declared.order.Pending.TheVariants.{Elements as TwoLists, Parts}
-use Rattle.borsh_json.specs.Forms.{Form, sequence, tuple}
-use Rattle.borsh_json.specs.Descents.{HasKeys, NumbersDescend}
+use Rattle.borsh_json.specs.declared.order.Pending.TheVariants.{Elements as TwoLists, Parts, Copies, PartCopies}
+use Rattle.borsh_json.specs.Forms.{Form, sequence, tuple, primitive, shape_of_form, HasNoBytes}
+use Rattle.borsh_json.specs.Descents.{HasKeys, PrimitivesDescend}
 use Rattle.borsh_json.specs.Found.{HasForm, IsCollection, IsNamed, forms_of, names_of}
-use Rattle.borsh_json.specs.Ordered.{Order, single, numbers, text, array, list, parts, needs, OrdersBytes, HasOrder, IsOrdered, Ranked, a_value, elements, Compare}
+use Rattle.borsh_json.specs.Ordered.{Order, single, numbers, text, array, list, parts, other, OrdersBytes, HasOrder, IsNode, Compared, a_value, a_copy, elements, IsAtLeast}
 use Rattle.borsh_json.specs.Places.{AreKeysOf, IsAt, IsKindAt}
 use Rattle.borsh_json.specs.Table.{AreKeys, InRange, Keys}
 
@@ -42,8 +38,9 @@ module _ (F : List ℕ → Option Form) (ns : List Named) where
   IsOrderOf x (Array n at) o = (e : List ℕ) × IsAt ns at e × (o ≡ array n e)
   IsOrderOf x (Counted w at) o = (e : List ℕ) × IsAt ns at e × (o ≡ list w e)
   IsOrderOf x (Tuple at n) o = (ps : List (List ℕ)) × IsAt ns at x × (F x ≡ Some (tuple ps)) × (n ≡ length ps) × (o ≡ parts ps)
+  IsOrderOf x (Other at) o = IsAt ns at x × (o ≡ other)
 
-  -- the values of the name are ordered as was found, if those of its parts are
+  -- the values of the name are ordered as was found
   abbrev pub FindsOrder : List ℕ → Ordered → Type 0
   FindsOrder x found = (o : Order) × HasOrder F x o × IsOrderOf x found o
 
@@ -51,52 +48,27 @@ module _ (F : List ℕ → Option Form) (ns : List Named) where
   abbrev pub FindsBytes : List ℕ → Ordered → Type 0
   FindsBytes x found = (o : Order) × OrdersBytes F x o × IsOrderOf x found o
 
--- the place of the name of an index, if there is one
-abbrev pub IsNeeded : List Named → List (List ℕ) → ℕ → Option ℕ → Type 0
-IsNeeded ns ps i found = MatchOption found (length ps ≤ i) (λ k. (p : List ℕ) × (slice_get ps i ≡ Some p) × IsAt ns k p)
-
--- an order was found of the name at the place
-abbrev pub HasFound : List Known → ℕ → Type 0
-HasFound orders k = (found : Ordered) × (slice_get orders k ≡ Some (KnownOrder (Some found)))
-
--- and is still known
-abbrev pub KeepsOrders : List Known → List Known → Type 0
-KeepsOrders old new = (k : ℕ) → HasFound old k → HasFound new k
-
--- orders were found of these names, wherever they are
-abbrev pub OrdersFound : List Named → List Known → List (List ℕ) → Type 0
-OrdersFound ns orders ps = (p : List ℕ) (k : ℕ) → IsIn p ps → IsAt ns k p → HasFound orders k
-
-module _ (F : List ℕ → Option Form) (ns : List Named) where
-  -- and so are the orders of its parts
-  abbrev pub IsOrderIn : List Known → List ℕ → Ordered → Type 0
-  IsOrderIn orders x found = (o : Order) × HasOrder F x o × IsOrderOf F ns x found o × OrdersFound ns orders (needs o)
-
-  -- each order that was found is right, and so are those of its parts
-  abbrev pub AreOrders : List Known → Type 0
-  AreOrders orders = (i : ℕ) (x : List ℕ) (found : Ordered) → slice_get orders i ≡ Some (KnownOrder (Some found)) → IsAt ns i x → IsOrderIn orders x found × IsOrdered F x
-
-  -- what is pending, of the one value and of the other
-  abbrev pub IsPending : List Known → Pending → List Ranked → List Ranked → Type 0
-  IsPending orders (TwoLists at n m) ts us = (e : List ℕ) × IsAt ns at e × HasFound orders at × (ts ≡ elements e n ∷ []) × (us ≡ elements e m ∷ [])
-  IsPending orders (Parts at n i) ts us = (x : List ℕ) × (ps : List (List ℕ)) × IsAt ns at x × (F x ≡ Some (tuple ps)) × (n ≡ length ps) × OrdersFound ns orders ps × (ts ≡ map (λ p. a_value p) (drop i ps)) × (us ≡ map (λ p. a_value p) (drop i ps))
+  -- what is pending
+  abbrev pub IsPending : Pending → List Compared → Type 0
+  IsPending (TwoLists at n m) ts = (e : List ℕ) × IsAt ns at e × (ts ≡ elements e n m ∷ [])
+  IsPending (Parts at n i) ts = (x : List ℕ) × (ps : List (List ℕ)) × IsAt ns at x × (F x ≡ Some (tuple ps)) × (n ≡ length ps) × (ts ≡ map (λ p. a_value p) (drop i ps))
+  IsPending (Copies at n) ts = (x : List ℕ) × IsAt ns at x × (ts ≡ replicate n (a_copy x))
+  IsPending (PartCopies at i) ts = (x : List ℕ) × (f : Form) × IsAt ns at x × (F x ≡ Some f) × (ts ≡ map (λ p. a_copy p) (drop i (references (shape_of_form f))))
 
   -- the next first
-  abbrev pub ArePending : List Known → List Pending → List Ranked → List Ranked → Type 0
-  ArePending orders [] ts us = (ts ≡ []) × (us ≡ [])
-  ArePending orders (p ∷ ps) ts us = (vs : List Ranked) × (ws : List Ranked) × (more : List Ranked) × (others : List Ranked) × IsPending orders p vs ws × ArePending orders ps more others × (ts ≡ vs ++ more) × (us ≡ ws ++ others)
+  abbrev pub ArePending : List Pending → List Compared → Type 0
+  ArePending [] ts = ts ≡ []
+  ArePending (p ∷ ps) ts = (us : List Compared) × (more : List Compared) × IsPending p us × ArePending ps more × (ts ≡ us ++ more)
 
--- the orders of the definitions
-abbrev pub HasOrders : Definitions → Type 0
-HasOrders d = AreOrders (forms_of d) (names_of d) d.orders.items
+  -- a value of the name is compared, in this order; or a copy of one
+  abbrev pub IsTurn : Ordered → Compared → Type 0
+  IsTurn found (a_value x) = FindsOrder x found
+  IsTurn found (a_copy x) = (at : ℕ) × IsAt ns at x × (found ≡ Other at)
+  IsTurn found (elements e n m) = ⊥
 
-abbrev pub OrderedBy : Definitions → List ℕ → Ordered → Type 0
-OrderedBy d x found = IsOrderIn (forms_of d) (names_of d) d.orders.items x found
-
-module _ (F : List ℕ → Option Form) (ns : List Named) (orders : List Known) where
   -- the keys k of the set or map x ascend so, which is their order
   abbrev pub KeysAscend : List ℕ → List ℕ → Ordered → Type 0
-  KeysAscend x k found = (e : List ℕ) × HasKeys F x e k × IsOrderIn F ns orders k found × IsOrdered F k
+  KeysAscend x k found = (e : List ℕ) × HasKeys F x e k × FindsOrder k found
 
   abbrev pub HasKeyOrder : List ℕ → Option Ordered → Type 0
   HasKeyOrder x order = IfSome order (λ found. (k : List ℕ) × KeysAscend x k found)
@@ -109,56 +81,95 @@ module _ (F : List ℕ → Option Form) (ns : List Named) (orders : List Known) 
   KindHasOrder x (Map es found) = (k : List ℕ) × IsAt ns es.key k × KeysAscend x k found
   KindHasOrder x kind = ⊤
 
-module _ (F : List ℕ → Option Form) where
-  -- x is no set or map whose keys have a known order
-  abbrev pub KnowsNoOrder : List ℕ → Type 0
-  KnowsNoOrder x = (e k : List ℕ) → HasKeys F x e k → IsOrdered F k → ⊥
+  -- an order that was found of primitives e, and some of them, of n bytes each
+  abbrev pub ArePrimitives : List ℕ → Ordered → ℕ → List ℕ → Type 0
+  ArePrimitives e found n bytes = FindsOrder e found × (F e ≡ Some (primitive n)) × (0 < n) × ((c : ℕ) × (length bytes ≡ c * n)) × All (λ b. b < 256) bytes
 
-  -- where no order of its keys was found, there is none
+-- the place of the name of an index, if there is one
+abbrev pub IsPartAt : List Named → List (List ℕ) → ℕ → Option ℕ → Type 0
+IsPartAt ns ps i found = MatchOption found (slice_get ps i ≡ None) (λ k. (p : List ℕ) × (slice_get ps i ≡ Some p) × IsAt ns k p)
+
+module _ (F : List ℕ → Option Form) where
+  -- the name has bytes, and neither it nor its definition tells an order
+  abbrev pub TellsOther : List ℕ → Type 0
+  TellsOther x = (HasNoBytes F x → ⊥) × ((o : Order) → OrdersBytes F x o → ⊥)
+
+  -- x is no set or map
+  abbrev pub KnowsNoOrder : List ℕ → Type 0
+  KnowsNoOrder x = (e k : List ℕ) → HasKeys F x e k → ⊥
+
+  -- where no order of its keys was found, it has none
   abbrev pub TellsNoOrder : List ℕ → Option Ordered → Type 0
   TellsNoOrder x order = order ≡ None → KnowsNoOrder x
 
-  -- a kind of x without an order tells that its keys have none, unless the list is refused
+  -- a kind of x without an order tells that x is no set or map, unless the list is refused
   abbrev pub KindTellsOrder : List ℕ → Kind → Type 0
   KindTellsOrder x (ByteList es) = TellsNoOrder x es.order
   KindTellsOrder x (Numbers es) = TellsNoOrder x es.order
   KindTellsOrder x (ListKind es) = es.is_refused ≡ false → TellsNoOrder x es.order
   KindTellsOrder x kind = ⊤
 
--- what was found of the name at a place is its kind, which has the order of its keys, and tells where they have none
-abbrev pub IsFoundKind : (List ℕ → Option Form) → List Named → List Known → ℕ → Option (Bor Definition × Kind) → Type 0
-IsFoundKind F ns orders i found = IsKindAt F ns i found × ((x : List ℕ) → IsAt ns i x → IfSome found (λ r. KindHasOrder F ns orders x r.1 × KindTellsOrder F x r.1))
+-- the values of the definitions' name are ordered so
+abbrev pub OrderedBy : Definitions → List ℕ → Ordered → Type 0
+OrderedBy d x found = FindsOrder (forms_of d) (names_of d) x found
+
+-- what was found of the name at a place is its kind, which has the order of its keys, and tells where it has none
+abbrev pub IsFoundKind : (List ℕ → Option Form) → List Named → ℕ → Option (Bor Definition × Kind) → Type 0
+IsFoundKind F ns i found = IsKindAt F ns i found × ((x : List ℕ) → IsAt ns i x → IfSome found (λ r. KindHasOrder F ns x r.1 × KindTellsOrder F x r.1))
 
 -- and so is what was found of each of the first names
-abbrev pub AreFoundKinds : (List ℕ → Option Form) → List Named → List Known → List (Option (Bor Definition × Kind)) → Type 0
-AreFoundKinds F ns orders kinds = (i : ℕ) (found : Option (Bor Definition × Kind)) → slice_get kinds i ≡ Some found → IsFoundKind F ns orders i found
+abbrev pub AreFoundKinds : (List ℕ → Option Form) → List Named → List (Option (Bor Definition × Kind)) → Type 0
+AreFoundKinds F ns kinds = (i : ℕ) (found : Option (Bor Definition × Kind)) → slice_get kinds i ≡ Some found → IsFoundKind F ns i found
+
+-- each order is that of the name at its place
+abbrev pub AreOrders : (List ℕ → Option Form) → List Named → List Ordered → Type 0
+AreOrders F ns orders = (i : ℕ) (x : List ℕ) (found : Ordered) → slice_get orders i ≡ Some found → IsAt ns i x → FindsOrder F ns x found
 
 -- the kinds are those of all names, and they and the orders are right
-pub record HasKinds (d : Definitions) (kinds : List (Option (Bor Definition × Kind))) : Type 0 where
+pub record HasKinds (d : Definitions) (kinds : List (Option (Bor Definition × Kind))) (orders : List Ordered) : Type 0 where
   pub whole : length kinds ≡ length (names_of d)
-  pub orders : HasOrders d
-  pub right : AreFoundKinds (forms_of d) (names_of d) d.orders.items kinds
+  pub right : AreFoundKinds (forms_of d) (names_of d) kinds
+  pub ordered : AreOrders (forms_of d) (names_of d) orders
 
--- what is pending of these bytes compares so
-abbrev pub PendingCompares : Definitions → List Pending → List ℕ → List ℕ → Ordering → Type 0
-PendingCompares d pending left right r = (ts : List Ranked) × (us : List Ranked) × ArePending (forms_of d) (names_of d) d.orders.items (reverse pending) ts us × Compare (forms_of d) ts us left right r
+-- two byte strings begin with values of the name, the first of which isn't below the second, as far as their order is told
+abbrev pub IsNotBelow : Definitions → List ℕ → List ℕ → List ℕ → Type 0
+IsNotBelow d x left right = IsAtLeast (forms_of d) (a_value x ∷ []) left right
 
--- and before it a value of the name
-abbrev pub ValueCompares : Definitions → List ℕ → List Pending → List ℕ → List ℕ → Ordering → Type 0
-ValueCompares d x pending left right r = (ts : List Ranked) × (us : List Ranked) × ArePending (forms_of d) (names_of d) d.orders.items (reverse pending) ts us × Compare (forms_of d) (a_value x ∷ ts) (a_value x ∷ us) left right r
+-- these are compared so if the others are
+abbrev pub AreAlike : (List ℕ → Option Form) → List Compared → List ℕ → List ℕ → List Compared → List ℕ → List ℕ → Type 0
+AreAlike F ts L R us M S = (IsAtLeast F us M S → IsAtLeast F ts L R) × (IsAtLeast F ts L R → IsAtLeast F us M S)
 
--- the first that differs decides, else what is pending
-abbrev pub FrontCompares : Definitions → List Pending → List ℕ → List ℕ → Ordering → Ordering → Type 0
-FrontCompares d pending left right r front = MatchOrdering front (r ≡ Less) (PendingCompares d pending left right r) (r ≡ Greater)
+-- an order that decides says whether the first isn't below the second; equal says that what is pending decides
+abbrev pub FrontTells : Definitions → List Pending → List Compared → List ℕ → List ℕ → List ℕ → List ℕ → Ordering → Type 0
+FrontTells d new ts L R M S front =
+    MatchOrdering front (IsAtLeast (forms_of d) ts L R → ⊥) ((us : List Compared) × ArePending (forms_of d) (names_of d) (reverse new) us × AreAlike (forms_of d) ts L R us M S) (IsAtLeast (forms_of d) ts L R)
 
--- what comes next
-abbrev pub IsNextValue : Definitions → List Pending → List ℕ → List ℕ → Ordering → Next → Type 0
-IsNextValue d pending left right r (Value found) = (x : List ℕ) × OrderedBy d x found × ValueCompares d x pending left right r
-IsNextValue d pending left right r (Decided o) = o ≡ r
+-- what comes next of what is pending; or nothing, and how it compares
+abbrev pub NextTells : Definitions → List Pending → List Compared → List ℕ → List ℕ → Next → Type 0
+NextTells d new ts L R (Value found) =
+    (t : Compared) × (us : List Compared) × IsTurn (forms_of d) (names_of d) found t × ArePending (forms_of d) (names_of d) (reverse new) us × AreAlike (forms_of d) ts L R (t ∷ us) L R
+NextTells d new ts L R (Decided o) = MatchOrdering o (IsAtLeast (forms_of d) ts L R → ⊥) (IsAtLeast (forms_of d) ts L R) (IsAtLeast (forms_of d) ts L R)
 
--- two byte strings begin with values of the name, which compare so
-abbrev pub ValuesCompare : Definitions → List ℕ → List ℕ → List ℕ → Ordering → Type 0
-ValuesCompare d x left right r = Compare (forms_of d) (a_value x ∷ []) (a_value x ∷ []) left right r
+abbrev pub FindsNext : {E : Type 0} → Definitions → List Pending → List Pending → Result Next E → Type 0
+FindsNext d old new result = (ts : List Compared) → ArePending (forms_of d) (names_of d) (reverse old) ts → (L R : List ℕ) → IfOk result (λ next. NextTells d new ts L R next)
+
+-- how two values compare that are in turn, by what comes before their parts
+abbrev pub ComparesFronts : {E : Type 0} → Definitions → Ordered → List Pending → Pair → List Pending → Pair → Result Ordering E → Type 0
+ComparesFronts d order old from new to result =
+    (t : Compared) (ts : List Compared) → IsTurn (forms_of d) (names_of d) order t → ArePending (forms_of d) (names_of d) (reverse old) ts
+    → IfOk result (λ o. FrontTells d new (t ∷ ts) from.left.now from.right.now to.left.now to.right.now o)
+
+-- two copies of the values of the name at the place
+abbrev pub ComparesCopies : {E : Type 0} → Definitions → ℕ → List Pending → Pair → List Pending → Pair → Result Ordering E → Type 0
+ComparesCopies d at old from new to result =
+    (x : List ℕ) (t : Compared) (ts : List Compared) → IsAt (names_of d) at x → IsTurn (forms_of d) (names_of d) (Other at) t → ArePending (forms_of d) (names_of d) (reverse old) ts
+    → IfOk result (λ o. FrontTells d new (t ∷ ts) from.left.now from.right.now to.left.now to.right.now o)
+
+-- the parts of a value of this definition with these own bytes, if there is one
+abbrev pub FindsCopies : Definitions → Shape → List ℕ → Option Pending → Type 0
+FindsCopies d s own found =
+    MatchOption found ((ps : List (List ℕ)) → IsNode s own ps → ⊥)
+    (λ p. (ps : List (List ℕ)) × IsNode s own ps × IsPending (forms_of d) (names_of d) p (map (λ p. a_copy p) ps))
 
 -- ---- what is taken of two byte strings that are being compared
 
@@ -166,186 +177,75 @@ ValuesCompare d x left right r = Compare (forms_of d) (a_value x ∷ []) (a_valu
 abbrev pub IsCut : ℕ → List ℕ → List ℕ → List ℕ → Type 0
 IsCut n bytes front rest = (xs bs : List ℕ) → bytes ≡ xs ++ bs → length xs ≡ n → (front ≡ xs) × (rest ≡ bs)
 
--- the count of so many bytes that comes first
-abbrev pub TakesCount : ℕ → List ℕ → ℕ → List ℕ → Type 0
-TakesCount w old count new = (n : ℕ) (bs : List ℕ) → old ≡ tag w (pos n) ++ bs → (w ≡ 1) ⊎ (w ≡ 4) → n < 256 ^ w → (count ≡ n) × (new ≡ bs)
+-- n bytes of the one and m of the other, if both have as many
+abbrev pub TakesBoth : ℕ → ℕ → Pair → Pair → Option (Bor (List ℕ) × Bor (List ℕ)) → Type 0
+TakesBoth n m old new taken =
+    MatchOption taken ((n ≤ length old.left.now → m ≤ length old.right.now → ⊥))
+    (λ t. (length t.0.now ≡ n) × (length t.1.now ≡ m) × All (λ b. b < 256) t.0.now × All (λ b. b < 256) t.1.now × (old.left.now ≡ t.0.now ++ new.left.now) × (old.right.now ≡ t.1.now ++ new.right.now))
 
--- the numbers of so many bytes that come first
+-- n bytes of both, if they are the same
+abbrev pub TakesSame : ℕ → Pair → Pair → Option (Bor (List ℕ)) → Type 0
+TakesSame n old new taken =
+    MatchOption taken ((xs bs cs : List ℕ) → old.left.now ≡ xs ++ bs → old.right.now ≡ xs ++ cs → length xs ≡ n → ⊥)
+    (λ t. (length t.now ≡ n) × (old.left.now ≡ t.now ++ new.left.now) × (old.right.now ≡ t.now ++ new.right.now))
+
+-- two counts of so many bytes, if both have as many
+abbrev pub TakesCounts : ℕ → Pair → Pair → Option (ℕ × ℕ) → Type 0
+TakesCounts w old new taken =
+    (w ≡ 1) ⊎ (w ≡ 4) → MatchOption taken (w ≤ length old.left.now → w ≤ length old.right.now → ⊥)
+    (λ t. (t.0 < 256 ^ w) × (t.1 < 256 ^ w) × (old.left.now ≡ tag w (pos t.0) ++ new.left.now) × (old.right.now ≡ tag w (pos t.1) ++ new.right.now))
+
+-- how the numbers of so many bytes compare that come first; `Less` if there are too few bytes
 abbrev pub ComparesNumbers : ℕ → Bool → Pair → Pair → Ordering → Type 0
-ComparesNumbers n signed old new result = (y z : ℤ) (bs cs : List ℕ) → 0 < n → InRange n signed y → InRange n signed z → old.left.now ≡ tag n y ++ bs → old.right.now ≡ tag n z ++ cs → (result ≡ int_cmp y z) × (new.left.now ≡ bs) × (new.right.now ≡ cs)
+ComparesNumbers n signed old new result =
+    ((result ≡ Less) × (n ≤ length old.left.now → n ≤ length old.right.now → ⊥))
+    ⊎ ((l : List ℕ) × (r : List ℕ) × (length l ≡ n) × (length r ≡ n) × All (λ b. b < 256) l × All (λ b. b < 256) r × (old.left.now ≡ l ++ new.left.now) × (old.right.now ≡ r ++ new.right.now)
+    × ((y z : ℤ) → 0 < n → InRange n signed y → InRange n signed z → l ≡ tag n y → r ≡ tag n z → result ≡ int_cmp y z))
 
 -- the texts that come first
 abbrev pub ComparesTexts : Pair → Pair → Ordering → Type 0
-ComparesTexts old new result = (s t bs cs : List ℕ) → length s < 256 ^ 4 → length t < 256 ^ 4 → old.left.now ≡ tag 4 (pos (length s)) ++ s ++ bs → old.right.now ≡ tag 4 (pos (length t)) ++ t ++ cs → (result ≡ slice_cmp nat_cmp s t) × (new.left.now ≡ bs) × (new.right.now ≡ cs)
+ComparesTexts old new result =
+    ((result ≡ Less) × ((s t bs cs : List ℕ) → length s < 256 ^ 4 → length t < 256 ^ 4 → old.left.now ≡ (tag 4 (pos (length s)) ++ s) ++ bs → old.right.now ≡ (tag 4 (pos (length t)) ++ t) ++ cs → ⊥))
+    ⊎ ((s : List ℕ) × (t : List ℕ) × (length s < 256 ^ 4) × (length t < 256 ^ 4) × (old.left.now ≡ (tag 4 (pos (length s)) ++ s) ++ new.left.now) × (old.right.now ≡ (tag 4 (pos (length t)) ++ t) ++ new.right.now) × (result ≡ slice_cmp nat_cmp s t))
 
--- what comes next of what is pending
-abbrev pub FindsNext : {E : Type 0} → Definitions → List Pending → List Pending → Result Next E → Type 0
-FindsNext d old new result = (left right : List ℕ) (r : Ordering) → PendingCompares d old left right r → IfOk result (λ next. IsNextValue d new left right r next)
-
--- what of two values of this order comes before their parts
-abbrev pub ComparesFronts : {E : Type 0} → Definitions → Ordered → List Pending → Pair → List Pending → Pair → Result Ordering E → Type 0
-ComparesFronts d order old from new to result = (x : List ℕ) → OrderedBy d x order → (r : Ordering) → ValueCompares d x old from.left.now from.right.now r → IfOk result (λ o. FrontCompares d new to.left.now to.right.now r o)
-
--- whether the last of the elements that were begun is above the one before it
+-- whether the last of the elements that were begun is above the one before it, as far as their order is told
 abbrev pub DecidesAscent : {E : Type 0} → Definitions → Ascent → List ℕ → Result Bool E → Type 0
-DecidesAscent d a bytes result = (x : List ℕ) → OrderedBy d x a.order → (i j : ℕ) → a.earlier ≡ Some i → a.last ≡ Some j → (r : Ordering) → ValuesCompare d x (drop i bytes) (drop j bytes) r → IfOk result (λ ascends. Decides ascends (r ≡ Less))
+DecidesAscent d a bytes result =
+    (x : List ℕ) → OrderedBy d x a.order → (i j : ℕ) → a.earlier ≡ Some i → a.last ≡ Some j
+    → IfOk result (λ ascends. MatchBool ascends (IsNotBelow d x (drop i bytes) (drop j bytes) → ⊥) (IsNotBelow d x (drop i bytes) (drop j bytes)))
 
--- ---- orders that are being found
+-- ---- orders that are found
 
 -- how the values of the name at the place, which has this definition and some bytes, are ordered
 abbrev pub FindsBytesAt : Definitions → ℕ → Form → Option Ordered → Type 0
 FindsBytesAt d at f result = (x : List ℕ) → HasForm d at f x → IfSome result (λ found. FindsBytes (forms_of d) (names_of d) x found)
 
--- what is known of a place; and of a place that there isn't, that the order isn't known
-abbrev pub IsKnownAt : List Known → ℕ → Known → Type 0
-IsKnownAt orders at result = ((known : Known) → slice_get orders at ≡ Some known → result ≡ known) × ((known : Known) → result ≡ known → (known ≡ KnownOrder None → ⊥) → slice_get orders at ≡ Some known)
-
--- the order that was found there, if there is one
-abbrev pub IsFoundAt : List Known → ℕ → Option Ordered → Type 0
-IsFoundAt orders at result = ((found : Ordered) → slice_get orders at ≡ Some (KnownOrder (Some found)) → result ≡ Some found) × ((found : Ordered) → result ≡ Some found → slice_get orders at ≡ Some (KnownOrder (Some found)))
-
--- a name whose order is known if those of its parts are: its place, the order, and how many of its parts were gone through
-abbrev pub Open : Type 0
-Open = ℕ × Ordered × ℕ
-
-module _ (F : List ℕ → Option Form) (ns : List Named) where
-  -- the orders of the parts that were gone through are known
-  abbrev pub IsOpen : List Known → Open → Type 0
-  IsOpen orders e =
-      (x : List ℕ) × (o : Order) × IsAt ns e.0 x × (e.0 < length orders) × HasOrder F x o × IsOrderOf F ns x e.1 o
-      × ((j : ℕ) (p : List ℕ) → j < e.2 → slice_get (needs o) j ≡ Some p → (k : ℕ) × IsAt ns k p × HasFound orders k)
-
-  -- the last name first: each other waits for the order of the one before it
-  abbrev pub AreOpen : List Known → List Open → Type 0
-  AreOpen orders [] = ⊤
-  AreOpen orders (e ∷ es) = IsOpen orders e × ((later : List Known) → KeepsOrders orders later → length later ≡ length orders → HasFound later e.0 → AreOpen later es)
-
--- the same of the definitions' names
-abbrev pub AreOpenIn : Definitions → List Known → List Open → Type 0
-AreOpenIn d orders es = AreOpen (forms_of d) (names_of d) orders (reverse es)
-
--- all wait for the order of the name at the place
-abbrev pub AwaitsOrder : Definitions → List Known → List Open → ℕ → Type 0
-AwaitsOrder d orders es k = ((x : List ℕ) × IsAt (names_of d) k x) × ((later : List Known) → KeepsOrders orders later → length later ≡ length orders → HasFound later k → AreOpenIn d later es)
-
--- the orders are right, and those that were known are still known
-abbrev pub KnowsMore : Definitions → List Known → Type 0
-KnowsMore d orders = AreOrders (forms_of d) (names_of d) orders × KeepsOrders d.orders.items orders
-
--- the order of the name
-abbrev pub TellsOrder : Definitions → List Known → List ℕ → Ordered → Type 0
-TellsOrder d orders x found = IsOrderIn (forms_of d) (names_of d) orders x found × IsOrdered (forms_of d) x
-
--- the order of the name is known, or waits for those of its parts
-abbrev pub BeginsOrder : Definitions → List Known → List Open → Bool → Type 0
-BeginsOrder d orders es more = KnowsMore d orders × (more ≡ true → AreOpenIn d orders es)
-
--- the next name that is waited for, if there is one
-abbrev pub FindsNeeded : Definitions → List Known → List Open → Option ℕ → Type 0
-FindsNeeded d orders es next = KnowsMore d orders × IfSome next (λ k. AwaitsOrder d orders es k)
-
--- an order was found of the name at the place, if it is known
-abbrev pub FindsOrderAt : {E : Type 0} → Definitions → List Known → ℕ → Result (Option Ordered) E → Type 0
-FindsOrderAt d orders at result = HasOrders d → (x : List ℕ) → IsAt (names_of d) at x → IfOk result (λ found. KnowsMore d orders × IfSome found (λ o. TellsOrder d orders x o))
-
--- an order was found of a set's elements or a map's keys, if it is known
-abbrev pub FindsKeys : Definitions → List Known → List ℕ → Option Ordered → Type 0
-FindsKeys d orders x found = KnowsMore d orders × HasKeyOrder (forms_of d) (names_of d) orders x found
-
-abbrev pub FindsKeysOf : {E : Type 0} → Definitions → List Known → ℕ → Collection → Result (Option Ordered) E → Type 0
-FindsKeysOf d orders element c result = HasOrders d → (x e : List ℕ) (w lo hi : ℕ) → IsCollection (forms_of d) (names_of d) x c → IsAt (names_of d) element e → forms_of d x ≡ Some (sequence w lo hi e) → IfOk result (λ found. FindsKeys d orders x found)
-
--- a kind was found, and its order, if it has one
-abbrev pub FindsKind : {E : Type 0} → Definitions → List Known → ℕ → Form → Result Kind E → Type 0
-FindsKind d orders at f result = HasOrders d → (x : List ℕ) → HasForm d at f x → IfOk result (λ kind. KnowsMore d orders × KindHasOrder (forms_of d) (names_of d) orders x kind)
-
-abbrev pub FindsKindAt : {E : Type 0} → Definitions → List Known → ℕ → Result (Option (Bor Definition × Kind)) E → Type 0
-FindsKindAt d orders at result = HasOrders d → (x : List ℕ) → IsAt (names_of d) at x → IfOk result (λ found. KnowsMore d orders × IfSome found (λ r. KindHasOrder (forms_of d) (names_of d) orders x r.1))
-
--- the kind has the order of x
-abbrev pub HasOrderAt : Definitions → List ℕ → Option (Bor Definition × Kind) → Type 0
-HasOrderAt d x found = IfSome found (λ r. KindHasOrder (forms_of d) (names_of d) d.orders.items x r.1)
-
--- ---- names without orders
-
--- the name at the place, which has this definition and some bytes, isn't ordered where no order was found
+-- neither the name at the place, which has this definition and some bytes, nor the definition tells an order where none was found
 abbrev pub FindsNoBytesAt : Definitions → ℕ → Form → Option Ordered → Type 0
 FindsNoBytesAt d at f result = (x : List ℕ) → HasForm d at f x → result ≡ None → (o : Order) → OrdersBytes (forms_of d) x o → ⊥
 
--- something was found of the place: an order, or that none is known
-abbrev pub IsLookedAt : List Known → ℕ → Type 0
-IsLookedAt orders k = (order : Option Ordered) × (slice_get orders k ≡ Some (KnownOrder order))
+-- the order of a set's elements or a map's keys was found; of a list there is none
+abbrev pub FindsKeysOf : Definitions → ℕ → Collection → Option Ordered → Type 0
+FindsKeysOf d element c found =
+    (x e : List ℕ) (w lo hi : ℕ) → IsCollection (forms_of d) (names_of d) x c → IsAt (names_of d) element e → forms_of d x ≡ Some (sequence w lo hi e)
+    → HasKeyOrder (forms_of d) (names_of d) x found × TellsNoOrder (forms_of d) x found
 
--- as it was found of as many places as before
-abbrev pub KeepsLooked : List Known → List Known → Type 0
-KeepsLooked old new = (length new ≡ length old) × ((k : ℕ) → IsLookedAt old k → IsLookedAt new k)
+-- a kind was found, with the order of the keys
+abbrev pub HasOrderIn : Definitions → List ℕ → Kind → Type 0
+HasOrderIn d x kind = KindHasOrder (forms_of d) (names_of d) x kind × KindTellsOrder (forms_of d) x kind
 
--- the name at the place is open
-abbrev pub IsWaitingAt : List Open → ℕ → Type 0
-IsWaitingAt [] k = ⊥
-IsWaitingAt (e ∷ es) k = (e.0 ≡ k) ⊎ IsWaitingAt es k
+abbrev pub FindsKind : {E : Type 0} → Definitions → ℕ → Form → Result Kind E → Type 0
+FindsKind d at f result = (x : List ℕ) → HasForm d at f x → IfOk result (λ kind. HasOrderIn d x kind)
 
-module _ (F : List ℕ → Option Form) (ns : List Named) where
-  -- no order is known of a name where none was found
-  abbrev pub AreNone : List Known → Type 0
-  AreNone orders = (i : ℕ) (x : List ℕ) → slice_get orders i ≡ Some (KnownOrder None) → IsAt ns i x → IsOrdered F x → ⊥
+abbrev pub TellsOrders : Definitions → ℕ → Form → Kind → Type 0
+TellsOrders d at f kind = (x : List ℕ) → HasForm d at f x → HasOrderIn d x kind
 
-  -- unless the name is open
-  abbrev pub AreNoneBut : List Known → List Open → Type 0
-  AreNoneBut orders es = (i : ℕ) (x : List ℕ) → slice_get orders i ≡ Some (KnownOrder None) → IsAt ns i x → (IsOrdered F x → ⊥) ⊎ IsWaitingAt es i
+abbrev pub FindsKindAt : {E : Type 0} → Definitions → ℕ → Result (Option (Bor Definition × Kind)) E → Type 0
+FindsKindAt d at result = (x : List ℕ) → IsAt (names_of d) at x → IfOk result (λ found. IfSome found (λ r. HasOrderIn d x r.1))
 
-  -- the order of the name at a place needs that of the name at another
-  abbrev pub NeedsAt : ℕ → ℕ → Type 0
-  NeedsAt i k = (x : List ℕ) × (o : Order) × (p : List ℕ) × IsAt ns i x × HasOrder F x o × IsIn p (needs o) × IsAt ns k p
-
-  -- the last open name first: it needs the name at the place, and each other the one before it
-  abbrev pub LeadTo : List Open → ℕ → Type 0
-  LeadTo [] k = ⊤
-  LeadTo (e ∷ es) k = NeedsAt e.0 k × LeadTo es e.0
-
-  -- the same up to the last open name
-  abbrev pub AreLinked : List Open → Type 0
-  AreLinked [] = ⊤
-  AreLinked (e ∷ es) = LeadTo es e.0
-
--- there are orders of no name or of all, and where none was found none is known
-abbrev pub KnowsNone : Definitions → List Known → Type 0
-KnowsNone d orders = ((length orders ≡ 0) ⊎ (length orders ≡ length (names_of d))) × AreNone (forms_of d) (names_of d) orders
-
--- there are orders of all names
-abbrev pub KnowsNoneOfAll : Definitions → List Known → Type 0
-KnowsNoneOfAll d orders = (length orders ≡ length (names_of d)) × AreNone (forms_of d) (names_of d) orders
-
--- where no order was found, none is known, or the name is open and leads to that at the place
-abbrev pub SearchesAt : Definitions → List Known → List Open → ℕ → Type 0
-SearchesAt d orders es k = AreNoneBut (forms_of d) (names_of d) orders (reverse es) × LeadTo (forms_of d) (names_of d) (reverse es) k
-
--- or to the last open name
-abbrev pub SearchesOn : Definitions → List Known → List Open → Type 0
-SearchesOn d orders es = AreNoneBut (forms_of d) (names_of d) orders (reverse es) × AreLinked (forms_of d) (names_of d) (reverse es)
-
--- the name at the place was looked at, and the search goes on, or none of the open names has a known order
-abbrev pub BeginsNone : Definitions → List Known → List Open → ℕ → Bool → Type 0
-BeginsNone d orders es at more = KeepsLooked d.orders.items orders × IsLookedAt orders at × MatchBool more (SearchesOn d orders es) (AreNone (forms_of d) (names_of d) orders)
-
--- the next name that is waited for; or all open names have their orders
-abbrev pub FindsNone : Definitions → List Known → List Open → Option ℕ → Type 0
-FindsNone d orders es next = KeepsLooked d.orders.items orders × MatchOption next (AreNone (forms_of d) (names_of d) orders) (λ k. SearchesAt d orders es k)
-
--- no order of the name at the place is known, if none was found
-abbrev pub FindsNoOrderAt : {E : Type 0} → Definitions → List Known → ℕ → Result (Option Ordered) E → Type 0
-FindsNoOrderAt d orders at result = HasOrders d → KnowsNone d d.orders.items → (x : List ℕ) → IsAt (names_of d) at x → IfOk result (λ found. KnowsNone d orders × (found ≡ None → IsOrdered (forms_of d) x → ⊥))
-
--- and none of a set's elements or a map's keys
-abbrev pub FindsNoKeysOf : {E : Type 0} → Definitions → List Known → ℕ → Collection → Result (Option Ordered) E → Type 0
-FindsNoKeysOf d orders element c result = HasOrders d → KnowsNone d d.orders.items → (x e : List ℕ) (w lo hi : ℕ) → IsCollection (forms_of d) (names_of d) x c → IsAt (names_of d) element e → forms_of d x ≡ Some (sequence w lo hi e) → IfOk result (λ found. KnowsNone d orders × TellsNoOrder (forms_of d) x found)
-
--- a kind was found, which tells its order
-abbrev pub TellsKindOrder : {E : Type 0} → Definitions → List Known → ℕ → Form → Result Kind E → Type 0
-TellsKindOrder d orders at f result = HasOrders d → KnowsNone d d.orders.items → (x : List ℕ) → HasForm d at f x → IfOk result (λ kind. KnowsNone d orders × KindTellsOrder (forms_of d) x kind)
-
-abbrev pub TellsKindOrderAt : {E : Type 0} → Definitions → List Known → ℕ → Result (Option (Bor Definition × Kind)) E → Type 0
-TellsKindOrderAt d orders at result = HasOrders d → KnowsNone d d.orders.items → (x : List ℕ) → IsAt (names_of d) at x → IfOk result (λ found. KnowsNone d orders × IfSome found (λ r. KindTellsOrder (forms_of d) x r.1))
+-- the kind has the order of x
+abbrev pub HasOrderAt : Definitions → List ℕ → Option (Bor Definition × Kind) → Type 0
+HasOrderAt d x found = IfSome found (λ r. KindHasOrder (forms_of d) (names_of d) x r.1)
 
 -- ---- kinds with orders
 
@@ -355,18 +255,12 @@ HasElements d element f = (w : ℕ) × (lo : ℕ) × (hi : ℕ) × (e : List ℕ
 
 -- the keys of an object are ordered so
 abbrev pub OrdersKeys : Ordered → KeyKind → Type 0
-OrdersKeys found kind = (F : List ℕ → Option Form) (ns : List Named) (orders : List Known) (k : List ℕ) (f : Form) (keys : Keys) → AreKeys F k keys → AreKeysOf F ns k f kind keys → IsOrderIn F ns orders k found × IsOrdered F k
+OrdersKeys found kind = (F : List ℕ → Option Form) (ns : List Named) (k : List ℕ) (f : Form) (keys : Keys) → AreKeys F k keys → AreKeysOf F ns k f kind keys → FindsOrder F ns k found
 
 -- ---- primitives in a row
 
--- the bytes are so many each, and ordered as numbers
-abbrev pub AreOrderedNumbers : Ordered → ℕ → Bool → List ℕ → Type 0
-AreOrderedNumbers order n signed bytes = (order ≡ Number n signed) × (0 < n) × ((c : ℕ) × (length bytes ≡ c * n)) × All (λ b. b < 256) bytes
-
--- an order finds two of such bytes that don't ascend
-abbrev pub IsFallOf : ℕ → Bool → List ℕ → PartError → Type 0
-IsFallOf n signed bytes NoMemory = ⊤
-IsFallOf n signed bytes (RefusedPart path refusal) = (i : ℕ) × NumbersDescend n signed bytes i
-
-abbrev pub IsElementFall : Elements → List ℕ → PartError → Type 0
-IsElementFall es bytes e = (found : Ordered) × (es.order ≡ Some found) × ((signed : Bool) → AreOrderedNumbers found es.size signed bytes → IsFallOf es.size signed bytes e)
+-- the first primitive isn't below the second, of n bytes both
+abbrev pub DecidesFall : Ordered → ℕ → List ℕ → List ℕ → Bool → Type 0
+DecidesFall order n first second falls =
+    (F : List ℕ → Option Form) (ns : List Named) (e : List ℕ) → FindsOrder F ns e order → F e ≡ Some (primitive n) → 0 < n → length first ≡ n → length second ≡ n → All (λ b. b < 256) first → All (λ b. b < 256) second
+    → Decides falls (IsAtLeast F (a_value e ∷ []) first second)

@@ -14,7 +14,7 @@ use Rattle.borsh_json.specs.declared.kinds.Kind.{Kind as Found}
 use Rattle.borsh_json.specs.declared.kinds.Kind.TheVariants.{Number, Bool as Truth, Text, Bytes, Float, ByteList, Numbers, List as Elements, Map, Row, Newtype, Object, Optional, Choice, Repeated}
 use Rattle.borsh_json.specs.declared.kinds.KeyKind.{KeyKind}
 use Rattle.borsh_json.specs.declared.kinds.KeyKind.TheVariants.{Text as TextKeys, Number as NumberKeys}
-use Rattle.borsh_json.specs.Forms.{Form, primitive, sequence, tuple, newtype, unnamed, named, choice, form_of, shape_of_form, shapes, HasNoBytes}
+use Rattle.borsh_json.specs.Forms.{Form, primitive, sequence, form_of, shape_of_form, shapes, HasNoBytes, field_bytes, variant_bytes}
 use Rattle.borsh_json.specs.Table.{Lengths, Keys, texts, numbers, Kind, truth, whole, float, float_size, raw, utf8, byte_list, list, row, inner, fields, optional, variants, entries, HasKind, HasEmptyElements, RepeatsName, Part, Says}
 
 -- the name at the place is x
@@ -23,13 +23,8 @@ IsAt ns i x = name_of ns i ≡ Some x
 
 -- the width of the prefix and the range of lengths of a sequence; other definitions have none
 abbrev pub lengths_of : Form → Lengths
-lengths_of (primitive n) = record { width = 0; least = 1; greatest = 0 }
 lengths_of (sequence w lo hi e) = record { width = w; least = lo; greatest = hi }
-lengths_of (tuple ps) = record { width = 0; least = 1; greatest = 0 }
-lengths_of (newtype p) = record { width = 0; least = 1; greatest = 0 }
-lengths_of (unnamed ps) = record { width = 0; least = 1; greatest = 0 }
-lengths_of (named fs) = record { width = 0; least = 1; greatest = 0 }
-lengths_of (choice w vs) = record { width = 0; least = 1; greatest = 0 }
+lengths_of f = record { width = 0; least = 1; greatest = 0 }
 
 module _ (F : List ℕ → Option Form) (ns : List Named) where
   -- no JSON says a value of the name
@@ -59,9 +54,9 @@ module _ (F : List ℕ → Option Form) (ns : List Named) where
   IsKindOf x f (Map es order) = (k : List ℕ) × (v : List ℕ) × (keys : Keys) × IsAt ns es.key k × IsAt ns es.value v × HasKind F x (entries (lengths_of f) keys k v) × AreKeysOf k (form_of es.key_definition.now) es.key_kind keys
   IsKindOf x f (Row n) = HasKind F x (row (references (shape_of_form f))) × (length (references (shape_of_form f)) ≡ n)
   IsKindOf x f (Newtype at) = (p : List ℕ) × IsAt ns at p × HasKind F x (inner p)
-  IsKindOf x f (Object fs) = HasKind F x (fields (map (λ f. (string_bytes f.0, string_bytes f.1)) fs.now.items)) × IsDistinct bytes_eq (map (λ f. string_bytes f.0) fs.now.items)
+  IsKindOf x f (Object fs) = HasKind F x (fields (map field_bytes fs.now.items)) × IsDistinct bytes_eq (map (λ f. string_bytes f.0) fs.now.items)
   IsKindOf x f (Optional at) = (p : List ℕ) × IsAt ns at p × HasKind F x (optional p)
-  IsKindOf x f (Choice w vs) = HasKind F x (variants w (map (λ v. (v.0, string_bytes v.1, string_bytes v.2)) vs.now.items)) × IsDistinct bytes_eq (map (λ v. string_bytes v.1) vs.now.items)
+  IsKindOf x f (Choice w vs) = HasKind F x (variants w (map variant_bytes vs.now.items)) × IsDistinct bytes_eq (map (λ v. string_bytes v.1) vs.now.items)
   IsKindOf x f (Repeated name) = IsUnsayable x × RepeatsName F x name.now
 
   -- what was found of the name at a place: its definition and its kind, if it has bytes; and nothing only where it has no definition

@@ -1,16 +1,19 @@
--- The text of JSON: how it is laid out, and how long its numbers are.
-use Rattle.std.specs.Prelude.{◌≡◌, ◌⊎◌, ⊤, ℕ, ◌≤◌, List, Bool, true, false, length, All, Some}
+-- The text of JSON: how it is laid out, and which of its values are numbers.
+use Rattle.std.specs.Prelude.{◌≡◌, ◌⊎◌, ℕ, List, Bool, true, false, Option, Some}
+use Rattle.std.specs.Float.{Format}
 use Rattle.std.specs.List.{Contains}
-use Rattle.json.specs.Json.{Json, document}
+use Rattle.json.specs.Json.{Json, document, number, string}
 use Rattle.json.specs.Layout.{pretty}
 use Rattle.json.specs.Lex.{tokens}
 use Rattle.json.specs.Print.{print}
-use Rattle.json.specs.Token.{Token, begin_object, end_object, begin_array, end_array, key, string, number, boolean, null, bad}
-use Rattle.json.specs.Tree.{json_tokens}
+use Rattle.json.specs.Token.{Token}
 use Rattle.borsh_json.specs.declared.output.Layout.{Layout}
 use Rattle.borsh_json.specs.declared.output.Layout.TheVariants.{Compact, Pretty}
 use Rattle.borsh_json.specs.declared.output.LongNumbers.{LongNumbers}
 use Rattle.borsh_json.specs.declared.output.LongNumbers.TheVariants.{Plain, Quoted}
+use Rattle.borsh_json.specs.Forms.{Form}
+use Rattle.borsh_json.specs.InOrder.{IsEach}
+use Rattle.borsh_json.specs.Table.{HasKind, float, whole}
 
 -- on one line, or in several
 abbrev pub layout_if : Bool → Layout
@@ -35,24 +38,13 @@ IsPrinted layout text = text ≡ laid_out layout (tokens text)
 abbrev pub IsMarked : List ℕ → Type 0
 IsMarked s = Contains s 46 ⊎ Contains s 101
 
--- a number has at most eleven characters, as a whole number of 32 bits has, or a point or an exponent
-abbrev pub IsShortNumber : Token → Type 0
-IsShortNumber begin_object = ⊤
-IsShortNumber end_object = ⊤
-IsShortNumber begin_array = ⊤
-IsShortNumber end_array = ⊤
-IsShortNumber (key s) = ⊤
-IsShortNumber (string s) = ⊤
-IsShortNumber (number s) = (length s ≤ 11) ⊎ IsMarked s
-IsShortNumber (boolean b) = ⊤
-IsShortNumber null = ⊤
-IsShortNumber bad = ⊤
+module _ (F : List ℕ → Option Form) where
+  -- JSON of the name is a string if it is a whole number of 64 bits, and of a float a number only with a point or an exponent
+  abbrev pub QuotesLong : List ℕ → Json → Type 0
+  QuotesLong x i =
+      ((signed non_zero : Bool) → HasKind F x (whole 8 signed non_zero) → (s : List ℕ) × (i ≡ string s))
+      × ((f : Format) (s : List ℕ) → HasKind F x (float f) → i ≡ number s → IsMarked s)
 
--- none of the numbers in the JSON text is a whole number that needs 64 bits
-abbrev pub HasShortNumbers : List ℕ → Type 0
-HasShortNumbers text = (j : Json) → document text ≡ Some j → All IsShortNumber (json_tokens j)
-
--- tokens that are written so: where numbers of 64 bits are strings, the numbers are short
-abbrev pub AreWritten : LongNumbers → List Token → Type 0
-AreWritten Plain ts = ⊤
-AreWritten Quoted ts = All IsShortNumber ts
+  -- so is each that the JSON text has
+  abbrev pub HasQuotedNumbers : List ℕ → List ℕ → Type 0
+  HasQuotedNumbers root text = (j : Json) → document text ≡ Some j → IsEach F QuotesLong root j

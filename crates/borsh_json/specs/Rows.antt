@@ -16,7 +16,7 @@ use Rattle.borsh_json.specs.declared.error.JsonError.{JsonError}
 use Rattle.borsh_json.specs.declared.rows.Rows.{Rows}
 use Rattle.borsh_json.specs.Errors.{IsNoRowsReason}
 use Rattle.borsh_json.specs.Floats.{IsFloatText, IsNan}
-use Rattle.borsh_json.specs.Forms.{Form, primitive, sequence, tuple, newtype, unnamed, named, choice, IsByte}
+use Rattle.borsh_json.specs.Forms.{Form, primitive, sequence, choice, IsByte}
 use Rattle.borsh_json.specs.Places.{lengths_of}
 use Rattle.borsh_json.specs.Table.{any_length, Kind, no_bytes, truth, whole, float, raw, utf8, byte_list, list, row, inner, fields, optional, variants, entries, primitive_kind, IsWhole}
 
@@ -111,8 +111,5 @@ module _ (F : List ℕ → Option Form) where
   IsValueText x (sequence w lo hi e) own v =
       (IsRowText x (sequence w lo hi e) e × IsQuoted (drop w own) v)
       ⊎ ((IsRowText x (sequence w lo hi e) e → ⊥) × (count : Option ℕ) × IsCountOf (counted_sequence w lo hi e) own count × MatchOption count (v ≡ []) (λ k. v ≡ counted k))
-  IsValueText x (tuple ps) own v = v ≡ []
-  IsValueText x (newtype p) own v = v ≡ []
-  IsValueText x (unnamed ps) own v = v ≡ []
-  IsValueText x (named fs) own v = v ≡ []
   IsValueText x (choice w vs) own v = (variant : Option ℕ) × IsVariantIndex (map (λ v. (v.0, v.2)) vs) (take w own) variant × MatchOption variant (v ≡ []) (λ i. (k : ℤ) × (p : List ℕ) × (slice_get vs i ≡ Some (k, v, p)))
+  IsValueText x f own v = v ≡ []

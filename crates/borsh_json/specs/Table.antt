@@ -14,7 +14,7 @@ use Rattle.hex.specs.Hex.{decode_of}
 use Rattle.json.specs.Json.{Json, null, boolean, number, string, array, object, Items, no_items, item, Members, no_members, member}
 use Rattle.json.specs.Find.{get_member}
 use Rattle.borsh_walks.specs.Container.{tag, little_endian}
-use Rattle.borsh_json.specs.Forms.{Form, primitive, sequence, tuple, newtype, unnamed, named, choice, HasNoBytes, IsList, IsByte, IsOption, IsMap}
+use Rattle.borsh_json.specs.Forms.{Form, primitive, sequence, tuple, choice, named, unnamed, no_fields, HasNoBytes, IsList, IsByte, IsOption, IsMap}
 
 -- ---- how the values of a name are written
 
@@ -75,6 +75,12 @@ primitive_kind x n =
     else if bytes_eq x (codes "f64") && (n == 8) then float binary64
     else number_kind number_types x n
 
+-- a struct whose fields have no names: what its only field is, or a row of several or none
+abbrev pub unnamed_kind : List (List ℕ) → Kind
+unnamed_kind [] = row []
+unnamed_kind (p ∷ []) = inner p
+unnamed_kind (p ∷ q ∷ ps) = row (p ∷ q ∷ ps)
+
 -- the name comes twice among these
 abbrev pub ComesTwice : List ℕ → List (List ℕ) → Type 0
 ComesTwice name names = 2 ≤ count_by (λ n. bytes_eq n name) names
@@ -86,7 +92,7 @@ module _ (F : List ℕ → Option Form) where
     too_far : {x : List ℕ} → MayBeNull zero x
     without_bytes : {n : ℕ} {x : List ℕ} → HasNoBytes F x → MayBeNull (suc n) x
     an_option : {n : ℕ} {x : List ℕ} (p : List ℕ) → IsOption F x p → MayBeNull (suc n) x
-    in_newtype : {n : ℕ} {x : List ℕ} (p : List ℕ) → F x ≡ Some (newtype p) → MayBeNull n p → MayBeNull (suc n) x
+    in_newtype : {n : ℕ} {x : List ℕ} (p : List ℕ) → F x ≡ Some (unnamed (p ∷ [])) → MayBeNull n p → MayBeNull (suc n) x
 
   -- `Option<T>`, whose `T` is never `null`, as far as 128 newtypes tell
   abbrev pub IsNullable : List ℕ → List ℕ → Type 0
@@ -120,10 +126,10 @@ module _ (F : List ℕ → Option Form) where
   DefinedKind x (primitive n) kind = kind ≡ primitive_kind x n
   DefinedKind x (sequence w lo hi e) kind = SequenceKind x (record { width = w; least = lo; greatest = hi }) e kind
   DefinedKind x (tuple ps) kind = kind ≡ row ps
-  DefinedKind x (newtype p) kind = kind ≡ inner p
-  DefinedKind x (unnamed ps) kind = kind ≡ row ps
-  DefinedKind x (named fs) kind = kind ≡ fields fs
   DefinedKind x (choice w vs) kind = ChoiceKind x w vs kind
+  DefinedKind x (named fs) kind = kind ≡ fields fs
+  DefinedKind x (unnamed ps) kind = kind ≡ unnamed_kind ps
+  DefinedKind x no_fields kind = kind ≡ row []
 
   -- how the values of a name are written: each name has at most one kind
   abbrev pub HasKind : List ℕ → Kind → Type 0
@@ -229,10 +235,10 @@ abbrev pub key_order : Keys → Entry → Entry → Ordering
 key_order texts a b = slice_cmp nat_cmp a.0 b.0
 key_order (numbers n) a b = int_cmp (signed_digits_value 10 a.0) (signed_digits_value 10 b.0)
 
--- the JSON of a key, as that of another value of its type: a string, or a number where it has at most 8 bytes
+-- the JSON of a key, as that of another value of its type: a string, or a number where it has less than 8 bytes
 abbrev pub key_json : Keys → List ℕ → Json
 key_json texts k = string k
-key_json (numbers n) k = if nat_le n 8 then number k else string k
+key_json (numbers n) k = if nat_le 8 n then string k else number k
 
 -- each key and its value, as parts
 abbrev pub entry_parts : Keys → List ℕ → List ℕ → List Entry → List Part

@@ -1,12 +1,12 @@
 -- What was written of a value, and the JSON that may still follow: the invariant of the writer's loop.
-use Rattle.std.specs.Prelude.{◌≡◌, ◌⊎◌, ⊤, ℕ, suc, ◌+◌, ◌≤◌, List, [], ◌∷◌, ◌++◌, length, map, replicate, drop, Bool, true, false, Decides, Option, Some, None, Result, MatchResult, MatchOption, IfSome, option_map}
+use Rattle.std.specs.Prelude.{◌≡◌, ◌⊎◌, ⊤, ℕ, suc, ◌+◌, ◌<◌, ◌≤◌, List, [], ◌∷◌, ◌++◌, length, map, replicate, drop, Bool, true, false, Decides, Option, Some, None, Result, MatchResult, MatchOption, IfSome, option_map, MatchBool}
 use Rattle.std.specs.declared.cmp.Ordering.{Ordering as Comparison}
 use Rattle.std.specs.declared.cmp.Ordering.TheVariants.{Less}
 use Rattle.std.specs.Borrow.{Bor}
 use Rattle.json.specs.Token.{Token}
 use Rattle.json.specs.Json.{Json, null, Items, Members, no_members, member}
 use Rattle.json.specs.Tree.{json_tokens, items_tokens, members_tokens, depth, items_depth, members_depth, HasNumbers, ItemsHaveNumbers, MembersHaveNumbers}
-use Rattle.borsh_walks.specs.Container.{Shape, product, IsIn, Member}
+use Rattle.borsh_walks.specs.Container.{product, IsIn, Member}
 use Rattle.borsh_plan.specs.Plan.{root_of}
 use Rattle.borsh_values.specs.Nodes.{Opens, AreElementsOf}
 use Rattle.borsh_values.specs.Walks.{IsReadTo}
@@ -14,7 +14,6 @@ use Rattle.borsh_values.specs.Membership.{IsUndecided}
 use Rattle.borsh_plan.specs.declared.named.Named.{Named}
 use Rattle.borsh_values.specs.declared.nodes.Node.{Node}
 use Rattle.borsh_json.specs.declared.definitions.Definitions.{Definitions}
-use Rattle.borsh_json.specs.declared.definitions.Known.{Known}
 use Rattle.borsh_json.specs.declared.error.Refusal.TheVariants.{TooDeep, Descends}
 use Rattle.borsh_json.specs.declared.error.PartError.{PartError}
 use Rattle.borsh_json.specs.declared.error.PartError.TheVariants.{OutOfMemory as NoPartMemory, Refused as RefusedPart}
@@ -29,6 +28,7 @@ use Rattle.borsh_json.specs.declared.kinds.Kind.{Kind as Found}
 use Rattle.borsh_json.specs.declared.kinds.Kind.TheVariants.{Number, Bool as Truth, Text, Bytes, Float, ByteList, Numbers, List as ListKind, Map, Row as RowKind, Newtype as NewtypeKind, Object as ObjectKind, Optional, Choice, Repeated}
 use Rattle.borsh_json.specs.declared.order.Ascent.{Ascent}
 use Rattle.borsh_json.specs.declared.order.Ordered.{Ordered}
+use Rattle.borsh_json.specs.declared.output.LongNumbers.{LongNumbers}
 use Rattle.borsh_json.specs.declared.output.Output.{Output}
 use Rattle.borsh_json.specs.declared.position.Parts.{Parts}
 use Rattle.borsh_json.specs.declared.position.Parts.TheVariants.{Root, List as Elements, Row, Object, Entries as MapEntries, Newtype, Some as Present, Variant}
@@ -38,15 +38,17 @@ use Rattle.borsh_json.specs.declared.sources.EntryKey.{EntryKey}
 use Rattle.borsh_json.specs.declared.writing.Writing.{Writing}
 use Rattle.borsh_json.specs.Checked.{Due, one, ascending, AreChecked}
 use Rattle.borsh_json.specs.Descents.{HasDescent}
-use Rattle.borsh_json.specs.Forms.{Form, form_of, shape_of_form, shapes, HasNoBytes}
-use Rattle.borsh_json.specs.Frames.{Wanted, IsWanted, IsEntryKey, IsOf, GivesPart, NoneFalls}
+use Rattle.borsh_json.specs.Forms.{Form, tuple, form_of, shape_of_form, shapes, HasNoBytes}
+use Rattle.borsh_json.specs.Frames.{Wanted, IsWanted, IsEntryKey, IsOf, IsPath, GivesPart, NoneFalls, first_steps, last_steps}
 use Rattle.borsh_json.specs.Found.{forms_of, names_of}
 use Rattle.borsh_json.specs.Places.{IsAt, AreKeysOf, IsKindOf}
-use Rattle.borsh_json.specs.Orders.{HasKeyOrder, KindHasOrder, OrderedBy, ValuesCompare}
+use Rattle.borsh_json.specs.Orders.{HasKeyOrder, KindHasOrder, IsNotBelow, OrderedBy}
 use Rattle.borsh_json.specs.Represents.{SaysFirst, HaveBytes}
-use Rattle.borsh_json.specs.InOrder.{InOrder}
-use Rattle.borsh_json.specs.Leaves.{Holds, Adds, IsOpenedAs, RefusesValue, WritesLeaf}
+use Rattle.borsh_json.specs.InOrder.{Step, place, element, InOrder}
+use Rattle.borsh_json.specs.Inside.{LeadTo}
+use Rattle.borsh_json.specs.Leaves.{Holds, Adds, IsOpenedAs, RefusesValue, WritesLeaf, long_of, AreWritten}
 use Rattle.borsh_json.specs.NoJson.{RefusesBytes}
+use Rattle.borsh_json.specs.NoValue.{path_steps}
 use Rattle.borsh_json.specs.Table.{Keys, Part, row_parts, Entry, entries_of, entry_parts, key_json, key_order}
 
 -- ---- what is left to be written of a place
@@ -158,7 +160,11 @@ leaf_depth (Repeated name) = 0
 abbrev pub IsNewPlace : Found → Place → Type 0
 IsNewPlace kind p =
     (p.ascent ≡ None) × (p.last ≡ None) × ((es : FoundEntries) (n : ℕ) → p.parts ≡ MapEntries es n → (order : Ordered) × (kind ≡ Map es order))
-    × ((es : FoundElements) → kind ≡ ListKind es → es.is_refused ≡ false)
+    × ((es : FoundElements) → kind ≡ ListKind es → es.is_refused ≡ false) × (p.begun ≡ 0)
+
+-- a place's steps lead to these parts of a value with this definition and own bytes
+abbrev pub AreCalled : Form → List ℕ → Parts → List (List ℕ) → Type 0
+AreCalled f own called parts = (i : ℕ) → i < length parts → LeadTo f own i (first_steps called (suc i))
 
 -- each of these is of a place: the places the outermost first, these the innermost first
 abbrev pub AreEach : {A : Type 0} → (Place → A → Type 0) → List Place → List A → Type 0
@@ -167,33 +173,50 @@ AreEach {A} P (p ∷ ps) xs = (x : A) × (outer : List A) × P p x × AreEach P 
 
 -- ---- the invariant
 
--- a value whose parts are read: its name, where the last part begins that was begun, and the names of those that are left
-pub data Level : Type 0 where
-  opened : List ℕ → Option ℕ → List (List ℕ) → Level
+-- what leads to a value's parts, how many of them were begun, and where the last of these begins
+abbrev pub Progress : Type 0
+Progress = Parts × ℕ × Option ℕ
 
-module _ (C : List ℕ → Option Shape) (root : List ℕ) where
+-- one more begins there
+abbrev pub one_more : Progress → ℕ → Progress
+one_more g i = (g.0, suc g.1, Some i)
+
+-- a value whose parts are read: its name, how far, and the names of those that are left
+pub data Level : Type 0 where
+  opened : List ℕ → Progress → List (List ℕ) → Level
+
+-- the steps to the parts that were begun last, the innermost value first
+abbrev pub steps_to : List Level → List Step
+steps_to [] = []
+steps_to (opened x g xs ∷ ls) = steps_to ls ++ first_steps g.0 g.1
+
+module _ (F : List ℕ → Option Form) (root : List ℕ) where
   -- these bytes are read up to a place inside of values, the innermost first; the root is the only part of no value
   pub data Nested : List Level → List ℕ → Type 0 where
-    unread : Nested (opened [] None (root ∷ []) ∷ []) []
-    entered : {x y before : List ℕ} {s : Option ℕ} {xs parts : List (List ℕ)} {ls : List Level} (d : Shape) (own : List ℕ) → Nested (opened y s (x ∷ xs) ∷ ls) before → C x ≡ Some d → Opens C d own parts → Nested (opened x None parts ∷ opened y (Some (length before)) xs ∷ ls) (before ++ own)
-    passed : {x y before own : List ℕ} {s : Option ℕ} {xs : List (List ℕ)} {ls : List Level} → Nested (opened y s (x ∷ xs) ∷ ls) before → Member C x own → Nested (opened y (Some (length before)) xs ∷ ls) (before ++ own)
+    unread : Nested (opened [] (Root, 0, None) (root ∷ []) ∷ []) []
+    entered : {x y before : List ℕ} {g : Progress} {xs parts : List (List ℕ)} {ls : List Level} (f : Form) (own : List ℕ) (called : Parts) → Nested (opened y g (x ∷ xs) ∷ ls) before → F x ≡ Some f → Opens (shapes F) (shape_of_form f) own parts → AreCalled f own called parts → Nested (opened x (called, 0, None) parts ∷ opened y (one_more g (length before)) xs ∷ ls) (before ++ own)
+    passed : {x y before own : List ℕ} {g : Progress} {xs : List (List ℕ)} {ls : List Level} → Nested (opened y g (x ∷ xs) ∷ ls) before → Member (shapes F) x own → Nested (opened y (one_more g (length before)) xs ∷ ls) (before ++ own)
 
--- the name of a place's value, where its last part begins, and the name of the keys if these have to ascend
+-- the name of a place's value, how far it is read, and the name of the keys if these have to ascend
 abbrev pub Mark : Type 0
-Mark = List ℕ × Option ℕ × Option (List ℕ)
+Mark = List ℕ × Progress × Option (List ℕ)
 
--- the names are those that are left of the places; of values around their parts, of which all are begun, there is no place: of the entries of maps
+-- what leads to the key and the value of an entry
+abbrev pub of_pair : Parts
+of_pair = Row 0 2
+
+-- the names are those that are left of the places; of an entry, of which both parts are begun, there is no place of its own, but that of its map
 pub data AreLevels : List Rest → List Mark → List Level → Type 0 where
   no_levels : AreLevels [] [] []
-  level : {rs : List Rest} {ms : List Mark} {ls : List Level} (r : Rest) (m : Mark) → AreLevels rs ms ls → AreLevels (r ∷ rs) (m ∷ ms) (opened m.0 m.1 (names_of_rest r) ∷ ls)
-  no_place : {rs : List Rest} {ms : List Mark} {ls : List Level} (x : List ℕ) (s : Option ℕ) → AreLevels rs ms ls → AreLevels rs ms (opened x s [] ∷ ls)
+  level : {rs : List Rest} {ms : List Mark} {ls : List Level} (r : Rest) (m : Mark) → last_steps m.1.0 ≡ [] → AreLevels rs ms ls → AreLevels (r ∷ rs) (m ∷ ms) (opened m.0 m.1 (names_of_rest r) ∷ ls)
+  entry_level : {rs : List Rest} {ms : List Mark} {ls : List Level} (x : List ℕ) (i : ℕ) (r : Rest) (m : Mark) → last_steps m.1.0 ≡ place 1 ∷ [] → AreLevels rs ms ls → AreLevels (r ∷ rs) (m ∷ ms) (opened x (of_pair, 2, Some i) [] ∷ opened m.0 m.1 (names_of_rest r) ∷ ls)
 
 -- of each place the names that are left are due, or so many elements, whose keys ascend from its last part on
 module _ (bytes : List ℕ) where
   pub data AreOwed : List Mark → List Rest → List Due → Type 0 where
     none_owed : AreOwed [] [] []
-    names_owed : {ms : List Mark} {rs : List Rest} {ds : List Due} (x : List ℕ) (s : Option ℕ) (r : Rest) → AreOwed ms rs ds → AreOwed ((x, s, None) ∷ ms) (r ∷ rs) (map one (names_of_rest r) ++ ds)
-    elements_owed : {ms : List Mark} {rs : List Rest} {ds : List Due} (x : List ℕ) (s : Option ℕ) (r : Rest) (e k : List ℕ) (n : ℕ) → names_of_rest r ≡ replicate n e → AreOwed ms rs ds → AreOwed ((x, s, Some k) ∷ ms) (r ∷ rs) (ascending e k n (option_map (λ i. drop i bytes) s) ∷ ds)
+    names_owed : {ms : List Mark} {rs : List Rest} {ds : List Due} (x : List ℕ) (g : Progress) (r : Rest) → AreOwed ms rs ds → AreOwed ((x, g, None) ∷ ms) (r ∷ rs) (map one (names_of_rest r) ++ ds)
+    elements_owed : {ms : List Mark} {rs : List Rest} {ds : List Due} (x : List ℕ) (g : Progress) (r : Rest) (e k : List ℕ) (n : ℕ) → names_of_rest r ≡ replicate n e → AreOwed ms rs ds → AreOwed ((x, g, Some k) ∷ ms) (r ∷ rs) (ascending e k n (option_map (λ i. drop i bytes) g.2) ∷ ds)
 
 module _ (F : List ℕ → Option Form) where
   -- behind what is read these names and then the parts of the places are due; the whole is checked if these are in the bytes that are left
@@ -203,12 +226,12 @@ module _ (F : List ℕ → Option Form) where
     pub checked : AreChecked F (map one xs ++ dues) left → AreChecked F (one root ∷ []) bytes
 
   -- these tokens are JSON of the root that can be printed and read, and says these bytes
-  abbrev pub IsWhole : List ℕ → List Token → List ℕ → Type 0
-  IsWhole root ts bs = (j : Json) × (ts ≡ json_tokens j) × HasNumbers j × (depth j ≤ 128) × HaveBytes F ((root, j) ∷ []) bs
+  abbrev pub IsWhole : LongNumbers → List ℕ → List Token → List ℕ → Type 0
+  IsWhole long root ts bs = (j : Json) × (ts ≡ json_tokens j) × HasNumbers j × (depth j ≤ 128) × AreWritten F long ((root, j) ∷ []) bs
 
   -- tokens were written of so many bytes, and with any that P holds of they are JSON of the root
-  abbrev pub Begins : List ℕ → (List Token → List Part → Type 0) → List Token → List ℕ → Type 0
-  Begins root P written done = (ts : List Token) (ps : List Part) (bs : List ℕ) → P ts ps → HaveBytes F ps bs → IsWhole root (written ++ ts) (done ++ bs)
+  abbrev pub Begins : LongNumbers → List ℕ → (List Token → List Part → Type 0) → List Token → List ℕ → Type 0
+  Begins long root P written done = (ts : List Token) (ps : List Part) (bs : List ℕ) → P ts ps → AreWritten F long ps bs → IsWhole long root (written ++ ts) (done ++ bs)
 
   -- the bytes are those read and those left, and these names come next
   pub record IsHalved (root bytes done left : List ℕ) (names : List (List ℕ)) : Type 0 where
@@ -218,16 +241,16 @@ module _ (F : List ℕ → Option Form) where
   -- ---- one value
 
   -- behind these tokens whatever may follow of a place makes JSON of x that says these own bytes
-  abbrev pub IsFront : List ℕ → List ℕ → Rest → List Token → Type 0
-  IsFront x own r front =
-      (n : ℕ) (ts : List Token) (qs ps : List Part) (bs : List ℕ) → MayFollow r n ts qs → HaveBytes F (qs ++ ps) bs
-      → (j : Json) × (json_tokens j ≡ front ++ ts) × HasNumbers j × (depth j ≤ suc n) × HaveBytes F ((x, j) ∷ ps) (own ++ bs)
+  abbrev pub IsFront : LongNumbers → List ℕ → List ℕ → Rest → List Token → Type 0
+  IsFront long x own r front =
+      (n : ℕ) (ts : List Token) (qs ps : List Part) (bs : List ℕ) → MayFollow r n ts qs → AreWritten F long (qs ++ ps) bs
+      → (j : Json) × (json_tokens j ≡ front ++ ts) × HasNumbers j × (depth j ≤ suc n) × AreWritten F long ((x, j) ∷ ps) (own ++ bs)
 
   -- the beginning of JSON of x was written, and with what may follow of a place it says these own bytes
   pub record WritesFront (x own : List ℕ) (r : Rest) (old new : Output) : Type 0 where
     pub front : List Token
     pub adds : Adds front old new
-    pub whole : IsFront x own r front
+    pub whole : IsFront (long_of old) x own r front
 
   module _ (ns : List Named) where
     -- what is left of a place
@@ -238,7 +261,7 @@ module _ (F : List ℕ → Option Form) where
     IsRestOf (Object at fs) i last r = (ws : List Wanted) × IsWanted F ns (Object at fs) i ws × (r ≡ members_rest ws)
     IsRestOf (MapEntries es n) i last r =
         (k : List ℕ) × (v : List ℕ) × (e : List ℕ) × (keys : Keys) × (s : Option (List ℕ)) × (ws : List Wanted)
-        × IsAt ns es.key k × IsAt ns es.value v × (shapes F e ≡ Some (product (k ∷ v ∷ []))) × AreKeysOf F ns k (form_of es.key_definition.now) es.key_kind keys × IsLast es.key_kind last s
+        × IsAt ns es.key k × IsAt ns es.value v × (F e ≡ Some (tuple (k ∷ v ∷ []))) × AreKeysOf F ns k (form_of es.key_definition.now) es.key_kind keys × IsLast es.key_kind last s
         × IsWanted F ns (MapEntries es n) i ws × (r ≡ entries_rest keys k v e (length ws) s)
     IsRestOf (Newtype at) i last r = (ws : List Wanted) × IsWanted F ns (Newtype at) i ws × (r ≡ value_rest (map (λ w. w.1) ws))
     IsRestOf (Present at) i last r = (ws : List Wanted) × IsWanted F ns (Present at) i ws × (r ≡ value_rest (map (λ w. w.1) ws))
@@ -251,7 +274,7 @@ module _ (F : List ℕ → Option Form) where
     AreRests ps rs = AreEach IsRest ps rs
 
     -- in front of a part of a place: where the writer is
-    pub record IsWriting (root bytes : List ℕ) (p : Place) (ps : List Place) (m : Mark) (ms : List Mark) (left : List ℕ) (written : List Token) : Type 0 where
+    pub record IsWriting (long : LongNumbers) (root bytes : List ℕ) (p : Place) (ps : List Place) (m : Mark) (ms : List Mark) (left : List ℕ) (written : List Token) : Type 0 where
       pub inner : Rest
       pub around : List Rest
       pub done : List ℕ
@@ -261,12 +284,12 @@ module _ (F : List ℕ → Option Form) where
       pub halved : IsHalved root bytes done left (names_of_all (inner ∷ around))
       pub outer : List Level
       pub levels : AreLevels around ms outer
-      pub nested : Nested (shapes F) root (opened m.0 m.1 (names_of_rest inner) ∷ outer) done
+      pub nested : Nested F root (opened m.0 m.1 (names_of_rest inner) ∷ outer) done
       pub rises : IsCheckedTo root bytes [] (m ∷ ms) (inner ∷ around) left
-      pub begun : Begins root (MayFollowAll (inner ∷ around)) written done
+      pub begun : Begins long root (MayFollowAll (inner ∷ around)) written done
 
     -- in front of a value of this name, which has room for this depth, and then of the rest of the place
-    pub record IsAwaiting (root bytes : List ℕ) (x : List ℕ) (n : ℕ) (p : Place) (ps : List Place) (m : Mark) (ms : List Mark) (left : List ℕ) (written : List Token) : Type 0 where
+    pub record IsAwaiting (long : LongNumbers) (root bytes : List ℕ) (x : List ℕ) (n : ℕ) (p : Place) (ps : List Place) (m : Mark) (ms : List Mark) (left : List ℕ) (written : List Token) : Type 0 where
       pub inner : Rest
       pub around : List Rest
       pub done : List ℕ
@@ -275,13 +298,13 @@ module _ (F : List ℕ → Option Form) where
       pub room : n + length around ≡ 128
       pub halved : IsHalved root bytes done left (x ∷ names_of_all (inner ∷ around))
       pub value : List ℕ
-      pub before : Option ℕ
+      pub before : Progress
       pub beside : List (List ℕ)
       pub outer : List Level
-      pub levels : AreLevels (inner ∷ around) (m ∷ ms) (opened value (Some (length done)) beside ∷ outer)
-      pub nested : Nested (shapes F) root (opened value before (x ∷ beside) ∷ outer) done
+      pub levels : AreLevels (inner ∷ around) (m ∷ ms) (opened value (one_more before (length done)) beside ∷ outer)
+      pub nested : Nested F root (opened value before (x ∷ beside) ∷ outer) done
       pub rises : IsCheckedTo root bytes (x ∷ []) (m ∷ ms) (inner ∷ around) left
-      pub begun : Begins root (MayFollowFirst x n (inner ∷ around)) written done
+      pub begun : Begins long root (MayFollowFirst x n (inner ∷ around)) written done
 
     -- of a value of x, whose definition opens these own bytes with these parts, JSON was written whole, and then its parts have no bytes, and its
     -- elements aren't written one by one; or it was begun, and its parts are those of the place
@@ -289,7 +312,7 @@ module _ (F : List ℕ → Option Form) where
     IsWrittenAs kind x f own old new None =
         WritesLeaf F (leaf_depth kind) x own old new × (parts : List (List ℕ)) × Opens (shapes F) (shape_of_form f) own parts × ((y : List ℕ) → IsIn y parts → HasNoBytes F y)
         × ((es : FoundElements) → kind ≡ ListKind es → ⊥)
-    IsWrittenAs kind x f own old new (Some p) = (r : Rest) × IsRest p r × WritesFront x own r old new × Opens (shapes F) (shape_of_form f) own (names_of_rest r) × IsNewPlace kind p
+    IsWrittenAs kind x f own old new (Some p) = (r : Rest) × IsRest p r × WritesFront x own r old new × Opens (shapes F) (shape_of_form f) own (names_of_rest r) × IsNewPlace kind p × AreCalled f own p.parts (names_of_rest r)
 
     -- a value of x was written whole or begun, or is refused
     abbrev pub WritesValue : Found → List ℕ → Form → List ℕ → Output → Output → Result (Option Place) WriteError → Type 0
@@ -298,7 +321,7 @@ module _ (F : List ℕ → Option Form) where
     -- the same of a value of a kind without own bytes; nothing is written of another
     abbrev pub WritesStruct : List ℕ → Form → Found → Output → Output → Result (Option Place) WriteError → Type 0
     WritesStruct x f kind old new result = MatchResult result
-        (λ found. MatchOption found (HasNode kind × (new ≡ old)) (λ p. (r : Rest) × IsRest p r × WritesFront x [] r old new × (shape_of_form f ≡ product (names_of_rest r)) × IsNewPlace kind p))
+        (λ found. MatchOption found (HasNode kind × (new ≡ old)) (λ p. (r : Rest) × IsRest p r × WritesFront x [] r old new × (shape_of_form f ≡ product (names_of_rest r)) × IsNewPlace kind p × AreCalled f [] p.parts (names_of_rest r)))
         (λ e. RefusesValue F x [] e)
 
 -- of the name at the place, that the code found this kind of, the value whose node this is was written or begun, or is refused
@@ -350,7 +373,7 @@ module _ (F : List ℕ → Option Form) (root bytes : List ℕ) where
   Stops NoValue = ⊥
   Stops (Ambiguous x) = IsUndecided (shapes F) root x.now
   Stops (NotJson offset) = ⊥
-  Stops (RefusedBytes path refusal) = RefusesBytes F root bytes refusal
+  Stops (RefusedBytes path refusal) = (path.root.now ≡ root) × RefusesBytes F root bytes (path_steps path) refusal
 
 -- ---- order
 
@@ -358,7 +381,7 @@ module _ (d : Definitions) (bytes : List ℕ) where
   -- the keys of the value k ascend in this order, and its last part begins there
   abbrev pub IsAscending : Option Ascent → Mark → Type 0
   IsAscending None m = ⊤
-  IsAscending (Some a) m = HasKeyOrder (forms_of d) (names_of d) d.orders.items m.0 (Some a.order) × (a.last ≡ m.1)
+  IsAscending (Some a) m = HasKeyOrder (forms_of d) (names_of d) m.0 (Some a.order) × (a.last ≡ m.1.2)
 
   -- the last entry of these begins there with bytes that its key says
   abbrev pub IsLastKey : FoundEntries → Option EntryKey → Option ℕ → Type 0
@@ -370,18 +393,18 @@ module _ (d : Definitions) (bytes : List ℕ) where
 
   -- the value is a map of these entries, whose keys ascend
   abbrev pub IsMapOf : List ℕ → FoundEntries → Type 0
-  IsMapOf x es = (order : Ordered) × (f : Form) × IsKindOf (forms_of d) (names_of d) x f (Map es order) × KindHasOrder (forms_of d) (names_of d) d.orders.items x (Map es order)
+  IsMapOf x es = (order : Ordered) × (f : Form) × IsKindOf (forms_of d) (names_of d) x f (Map es order) × KindHasOrder (forms_of d) (names_of d) x (Map es order)
 
   -- where the place's parts are entries, the value is such a map
   abbrev pub IsKeyed : Parts → Option EntryKey → Mark → Type 0
-  IsKeyed parts last m = (es : FoundEntries) (n : ℕ) → parts ≡ MapEntries es n → IsMapOf m.0 es × IsLastKey es last m.1
+  IsKeyed parts last m = (es : FoundEntries) (n : ℕ) → parts ≡ MapEntries es n → IsMapOf m.0 es × IsLastKey es last m.1.2
 
   -- keys that have to ascend are those of the place's order
   abbrev pub IsComparing : Option Ascent → Option (List ℕ) → Type 0
   IsComparing ascent k = IfSome k (λ k. MatchOption ascent ⊥ (λ a. OrderedBy d k a.order))
 
   abbrev pub IsMarked : Place → Mark → Type 0
-  IsMarked p m = IsAscending p.ascent m × IsKeyed p.parts p.last m × IsComparing p.ascent m.2
+  IsMarked p m = IsAscending p.ascent m × IsKeyed p.parts p.last m × IsComparing p.ascent m.2 × (p.parts ≡ m.1.0) × (p.begun ≡ m.1.1)
 
 -- ---- the writer
 
@@ -389,16 +412,19 @@ module _ (d : Definitions) (w : Writing) where
   -- the writer walks by these definitions, and has written these tokens
   pub record IsWriterOf : Type 0 where
     pub plan : w.walk.plan.now ≡ d.plan.now
+    pub long : LongNumbers
+    pub kept : long_of w.out ≡ long
     pub tokens : List Token
     pub holds : Holds w.out tokens
     pub offset : w.walk.offset + length w.walk.left.now ≡ length w.bytes.now
+    pub root : w.position.root.now ≡ root_of d.plan.now
 
   -- it is in front of a part of this place
   pub record IsWritingAt (p : Place) : Type 0 where
     pub writer : IsWriterOf
     pub mark : Mark
     pub marks : List Mark
-    pub state : IsWriting (forms_of d) (names_of d) (root_of d.plan.now) w.bytes.now p w.position.outer.items mark marks w.walk.left.now writer.tokens
+    pub state : IsWriting (forms_of d) (names_of d) writer.long (root_of d.plan.now) w.bytes.now p w.position.outer.items mark marks w.walk.left.now writer.tokens
     pub here : IsMarked d w.bytes.now p mark
     pub around : AreEach (IsMarked d w.bytes.now) w.position.outer.items marks
 
@@ -408,7 +434,7 @@ module _ (d : Definitions) (w : Writing) where
     pub room : ℕ
     pub mark : Mark
     pub marks : List Mark
-    pub state : IsAwaiting (forms_of d) (names_of d) (root_of d.plan.now) w.bytes.now x room w.position.place w.position.outer.items mark marks w.walk.left.now writer.tokens
+    pub state : IsAwaiting (forms_of d) (names_of d) writer.long (root_of d.plan.now) w.bytes.now x room w.position.place w.position.outer.items mark marks w.walk.left.now writer.tokens
     pub here : IsMarked d w.bytes.now w.position.place mark
     pub around : AreEach (IsMarked d w.bytes.now) w.position.outer.items marks
 
@@ -416,7 +442,7 @@ module _ (d : Definitions) (w : Writing) where
   pub record HasWritten : Type 0 where
     pub tokens : List Token
     pub holds : Holds w.out tokens
-    pub whole : IsWhole (forms_of d) (root_of d.plan.now) tokens w.bytes.now
+    pub whole : IsWhole (forms_of d) (long_of w.out) (root_of d.plan.now) tokens w.bytes.now
     pub rises : AreChecked (forms_of d) (one (root_of d.plan.now) ∷ []) w.bytes.now
 
   abbrev pub IsWrittenOn : Bool → Type 0
@@ -425,7 +451,7 @@ module _ (d : Definitions) (w : Writing) where
 
 -- JSON of the root was written that can be printed and read, says the bytes, and in which what has to ascend does
 abbrev pub WritesJson : (List ℕ → Option Form) → List ℕ → List ℕ → Output → Type 0
-WritesJson F root bytes out = (j : Json) × Holds out (json_tokens j) × HasNumbers j × (depth j ≤ 128) × HaveBytes F ((root, j) ∷ []) bytes × InOrder F root j
+WritesJson F root bytes out = (j : Json) × Holds out (json_tokens j) × HasNumbers j × (depth j ≤ 128) × AreWritten F (long_of out) ((root, j) ∷ []) bytes × InOrder F root j
 
 -- an error of the writer of these definitions
 abbrev pub StopsBy : Definitions → List ℕ → JsonError → Type 0
@@ -447,26 +473,32 @@ abbrev pub IsFull : ℕ → PartError → Type 0
 IsFull n NoPartMemory = ⊤
 IsFull n (RefusedPart path refusal) = (refusal ≡ TooDeep) × (128 ≤ n)
 
--- the error of a part that was not written, with its path
+-- the error of a part that was not written
 abbrev pub IsOfWrite : WriteError → PartError → Type 0
 IsOfWrite OutOfMemory e = e ≡ NoPartMemory
 IsOfWrite (Refused refusal) e = IsOf refusal e
 IsOfWrite (Element index refusal) e = IsOf refusal e
 
--- so has the refusal of elements that don't ascend, of which P holds
-abbrev pub IsFullOrFalls : ℕ → Type 0 → PartError → Type 0
-IsFullOrFalls n P NoPartMemory = ⊤
-IsFullOrFalls n P (RefusedPart path refusal) = ((refusal ≡ TooDeep) × (128 ≤ n)) ⊎ ((refusal ≡ Descends) × P)
+-- the steps to what the error is of: the part, or an element of it
+abbrev pub write_steps : List Step → WriteError → List Step
+write_steps steps OutOfMemory = steps
+write_steps steps (Refused refusal) = steps
+write_steps steps (Element index refusal) = steps ++ element index ∷ []
+
+-- the error of the part that these steps lead to is that refusal; or that of an element of it, of which P holds if so many are in front of the one before it
+abbrev pub IsFullOrFalls : List ℕ → List Step → ℕ → (ℕ → Type 0) → PartError → Type 0
+IsFullOrFalls root steps n P NoPartMemory = ⊤
+IsFullOrFalls root steps n P (RefusedPart path refusal) = (((refusal ≡ TooDeep) × (128 ≤ n)) × IsPath root steps path) ⊎ ((refusal ≡ Descends) × (passed : ℕ) × IsPath root (steps ++ element (suc passed) ∷ []) path × P passed)
 
 -- none of the elements in the own bytes of a list falls
 abbrev pub NoneFallsIn : FoundElements → Form → List ℕ → Type 0
 NoneFallsIn es f own = (bytes : List ℕ) → AreElementsOf (shape_of_form f) own bytes → NoneFalls es bytes
 
 -- the refusal is right of the own bytes of a value of a kind
-abbrev pub RefusesElements : ℕ → Found → Node → PartError → Type 0
-RefusesElements depth kind n e =
-    (F : List ℕ → Option Form) (ns : List Named) (orders : List Known) (x : List ℕ) (parts : List (List ℕ)) (after : List ℕ)
-    → IsOpenedAs F x (form_of n.definition.now) n.bytes.now parts → IsKindOf F ns x (form_of n.definition.now) kind → KindHasOrder F ns orders x kind → IsFullOrFalls depth (HasDescent F x (n.bytes.now ++ after)) e
+abbrev pub RefusesElements : List ℕ → List Step → ℕ → Found → Node → PartError → Type 0
+RefusesElements root steps depth kind n e =
+    (F : List ℕ → Option Form) (ns : List Named) (x : List ℕ) (parts : List (List ℕ)) (after : List ℕ)
+    → IsOpenedAs F x (form_of n.definition.now) n.bytes.now parts → IsKindOf F ns x (form_of n.definition.now) kind → KindHasOrder F ns x kind → IsFullOrFalls root steps depth (HasDescent F x (n.bytes.now ++ after)) e
 
 -- the next part begins at the offset, where parts have to ascend
 abbrev pub BeginsNext : Option Ascent → ℕ → Option Ascent → Type 0
@@ -476,7 +508,7 @@ BeginsNext (Some a) i new = (b : Ascent) × (new ≡ Some b) × (b.order ≡ a.o
 -- whether it is above the one before, if there is one
 abbrev pub TellsAscent : Definitions → List ℕ → Option Ascent → ℕ → Bool → Type 0
 TellsAscent d bytes None j ascends = ascends ≡ true
-TellsAscent d bytes (Some a) j ascends = MatchOption a.last (ascends ≡ true) (λ i. (k : List ℕ) (r : Comparison) → OrderedBy d k a.order → ValuesCompare d k (drop i bytes) (drop j bytes) r → Decides ascends (r ≡ Less))
+TellsAscent d bytes (Some a) j ascends = MatchOption a.last (ascends ≡ true) (λ i. (k : List ℕ) → OrderedBy d k a.order → MatchBool ascends (IsNotBelow d k (drop i bytes) (drop j bytes) → ⊥) (IsNotBelow d k (drop i bytes) (drop j bytes)))
 
 -- the next part of the place is above the last one, where parts have to ascend
 abbrev pub RisesAt : Definitions → Writing → Place → Type 0
@@ -489,7 +521,7 @@ AscendsFrom (Some order) new = (a : Ascent) × (new ≡ Some a) × (a.order ≡ 
 
 -- the part is begun of the place p, which is q now
 abbrev pub IsBegunOf : Definitions → ℕ → Place → Place → FoundPart → Type 0
-IsBegunOf d i p q part = GivesPart d p.parts p.begun q.parts q.begun (Some part) × (q.parts ≡ p.parts) × (q.last ≡ p.last) × BeginsNext p.ascent i q.ascent
+IsBegunOf d i p q part = GivesPart d p.parts p.begun q.parts q.begun (Some part) × (q.parts ≡ p.parts) × (q.last ≡ p.last) × BeginsNext p.ascent i q.ascent × (q.begun ≡ suc p.begun)
 
 -- a step of the writer: it is in front of another part, or at the end, or has stopped
 abbrev pub IsWrittenNext : Definitions → Writing → Writing → Result Bool JsonError → Type 0

@@ -1,6 +1,6 @@
 // The format's own types: a name is one of theirs if it is composed of the names of its parts, and has their definition. Names are
 // compared with the composed ones and never taken apart, since a container may give any definition to any name.
-ghost use Rattle.borsh_json.specs.Words.{HasForm, IsCollection, IsMapName, IsNamed, IsOption, IsSetName, IsUnit, choice, form_of, form_of_struct, forms_of, joined, newtype, plan_names, sequence, tuple};
+ghost use Rattle.borsh_json.specs.Words.{HasForm, IsCollection, IsMapName, IsNamed, IsOption, IsSetName, IsUnit, choice, form_of, form_of_struct, forms_of, joined, plan_names, sequence, tuple, unnamed, variant_bytes};
 ghost use Rattle.std.specs.Prelude.{◌≡◌, ◌++◌, ◌∷◌, [], ℕ, List, Decides, MatchBool, MatchOption, Some, codes, map, option_map, slice_get, string_bytes};
 
 use crate::definitions::Definitions;
@@ -58,7 +58,7 @@ fn are_of_option(
     at: usize,
     variants: &[(DiscriminantValue, VariantName, Declaration)],
 ) -> bool
-    ensures { let vs = map (λ v. (v.0, string_bytes v.1, string_bytes v.2)) variants.now in
+    ensures { let vs = map variant_bytes variants.now in
         (x : List ℕ) → HasForm definitions.now at (choice 1 vs) x → MatchBool result
         ((p : List ℕ) × (slice_get (map (λ v. v.2) vs) 1 ≡ Some p) × IsOption (forms_of definitions.now) x p)
         ((p : List ℕ) → IsOption (forms_of definitions.now) x p → ⊥) }
@@ -101,8 +101,8 @@ fn is_option_name(name: &str, some: &(DiscriminantValue, VariantName, Declaratio
 
 /// Whether a struct has one field, without a name.
 pub fn is_newtype(definition: &Definition) -> bool
-    ensures { MatchBool result ((p : List ℕ) × (form_of definition.now ≡ newtype p))
-        ((p : List ℕ) → form_of definition.now ≡ newtype p → ⊥) }
+    ensures { MatchBool result ((p : List ℕ) × (form_of definition.now ≡ unnamed (p ∷ [])))
+        ((p : List ℕ) → form_of definition.now ≡ unnamed (p ∷ []) → ⊥) }
 {
     match definition {
         Definition::Struct { fields } => has_one_unnamed(fields),
@@ -111,8 +111,8 @@ pub fn is_newtype(definition: &Definition) -> bool
 }
 
 fn has_one_unnamed(fields: &Fields) -> bool
-    ensures { MatchBool result ((p : List ℕ) × (form_of_struct fields.now ≡ newtype p))
-        ((p : List ℕ) → form_of_struct fields.now ≡ newtype p → ⊥) }
+    ensures { MatchBool result ((p : List ℕ) × (form_of_struct fields.now ≡ unnamed (p ∷ [])))
+        ((p : List ℕ) → form_of_struct fields.now ≡ unnamed (p ∷ []) → ⊥) }
 {
     match fields {
         Fields::UnnamedFields(parts) => parts.len() == 1,

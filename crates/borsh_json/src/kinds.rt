@@ -1,6 +1,6 @@
 // How the values of a name are written in JSON.
-ghost use Rattle.borsh_json.specs.Words.{AreEntries, AreKeys, AreKeysOf, FindsKeysOf, FindsKind, FindsNoKeysOf, HasElements, HasForm, HasNoBytes, IsAlike, IsAt, IsByte, IsCollection, IsKindOf, IsMap, IsNamed, IsNullable, IsPrimitiveKind, IsRefusedList, IsRepeated, Keys, MayBeNull, OrdersKeys, TellsKind, TellsKindOrder, form_of, form_of_struct, forms_in, forms_of, map_of, packed_size, plan_names, primitive_kind, sequence, shape_of_form, texts};
-ghost use Rattle.std.specs.Prelude.{◌≡◌, ℕ, List, Decides, IfOk, MatchBool, MatchOption, OnOk, Some, map, option_map, string_bytes};
+ghost use Rattle.borsh_json.specs.Words.{AreEntries, AreKeys, AreKeysOf, FindsKeysOf, FindsKind, HasElements, HasForm, HasNoBytes, IsAt, IsByte, IsCollection, IsKindOf, IsMap, IsNamed, IsNullable, IsPrimitiveKind, IsRefusedList, IsRepeated, Keys, MayBeNull, OrdersKeys, TellsKind, TellsOrders, form_of, form_of_struct, forms_in, forms_of, map_of, packed_size, plan_names, primitive_kind, sequence, shape_of_form, texts};
+ghost use Rattle.std.specs.Prelude.{◌≡◌, ℕ, List, Decides, IfOk, MatchBool, MatchOption, Some, map, option_map, string_bytes};
 
 use crate::definitions::Definitions;
 use crate::floats::is_float;
@@ -22,7 +22,7 @@ pub struct Elements {
     pub at: usize,
     /// How many bytes each has, if they are primitives; otherwise 0.
     pub size: u8,
-    /// How they have to ascend, or their keys, if the list is a set or a map whose order is known.
+    /// How they have to ascend, or their keys, if the list is a set or a map.
     pub order: Option<Ordered>,
     /// Whether the list is refused, since its elements or keys have no bytes.
     pub is_refused: bool,
@@ -81,21 +81,19 @@ pub enum Kind<'a> {
 
 /// How the values of the name at a place, which has this definition, are written. Their bytes are at least one.
 pub fn kind_of<'a>(
-    definitions: &mut Definitions<'a, '_>,
+    definitions: &Definitions<'a, '_>,
     at: usize,
     definition: &'a Definition,
 ) -> Result<Kind<'a>, AllocError>
-    ensures kind { let ns = plan_names definitions.old.plan.now in
-        let F = forms_in (map_of definitions.old.plan.now) in
+    ensures kind { let ns = plan_names definitions.now.plan.now in
+        let F = forms_in (map_of definitions.now.plan.now) in
         IfOk result (λ kind. (x : List ℕ) → IsAt ns at x →
         F x ≡ Some (form_of definition.now) → (HasNoBytes F x → ⊥) → IsKindOf F ns x (form_of definition.now) kind) }
-    ensures same { OnOk result (IsAlike definitions.old definitions.new) }
-    ensures orders { FindsKind definitions.old definitions.new.orders.items at (form_of definition.now) result }
-    ensures tells { TellsKindOrder definitions.old definitions.new.orders.items at (form_of definition.now) result }
+    ensures orders { FindsKind definitions.now at (form_of definition.now) result }
 {
     match definition {
         Definition::Primitive(size) => Ok(kind_of_primitive(definitions.name(at), *size)),
-        Definition::Sequence { .. } => kind_of_sequence(definitions, at, definition),
+        Definition::Sequence { .. } => Ok(kind_of_sequence(definitions, at, definition)),
         Definition::Tuple { elements } => Ok(Kind::Row(elements.len())),
         Definition::Struct { fields } => kind_of_struct(definitions, at, fields),
         Definition::Enum {
@@ -151,8 +149,7 @@ fn kind_of_struct<'a>(
     fields: &'a Fields,
 ) -> Result<Kind<'a>, AllocError>
     ensures kind { IfOk result (TellsKind definitions.now at (form_of_struct fields.now)) }
-    ensures orders { FindsKind definitions.now definitions.now.orders.items at (form_of_struct fields.now) result }
-    ensures tells { TellsKindOrder definitions.now definitions.now.orders.items at (form_of_struct fields.now) result }
+    ensures orders { FindsKind definitions.now at (form_of_struct fields.now) result }
 {
     match fields {
         Fields::NamedFields(fields) => match repeated_field(definitions.alloc, fields)? {
@@ -209,17 +206,14 @@ fn repeated_name<'a>(mut names: Vec<&'a str>) -> Option<&'a str>
 }
 
 fn kind_of_sequence<'a>(
-    definitions: &mut Definitions<'a, '_>,
+    definitions: &Definitions<'a, '_>,
     at: usize,
     definition: &'a Definition,
-) -> Result<Kind<'a>, AllocError>
+) -> Kind<'a>
     ensures kind { (w lo hi : ℕ) (e : List ℕ) → form_of definition.now ≡ sequence w lo hi e →
-        IfOk result (TellsKind definitions.old at (form_of definition.now)) }
-    ensures same { OnOk result (IsAlike definitions.old definitions.new) }
+        TellsKind definitions.now at (form_of definition.now) result }
     ensures orders { (w lo hi : ℕ) (e : List ℕ) → form_of definition.now ≡ sequence w lo hi e →
-        FindsKind definitions.old definitions.new.orders.items at (form_of definition.now) result }
-    ensures tells { (w lo hi : ℕ) (e : List ℕ) → form_of definition.now ≡ sequence w lo hi e →
-        TellsKindOrder definitions.old definitions.new.orders.items at (form_of definition.now) result }
+        TellsOrders definitions.now at (form_of definition.now) result }
 {
     let element = definitions.part(at, 0);
     if is_byte(definitions, element) {
@@ -230,60 +224,54 @@ fn kind_of_sequence<'a>(
 }
 
 fn kind_of_bytes<'a>(
-    definitions: &mut Definitions<'a, '_>,
+    definitions: &Definitions<'a, '_>,
     at: usize,
     element: usize,
     definition: &'a Definition,
-) -> Result<Kind<'a>, AllocError>
+) -> Kind<'a>
     ensures kind { (w lo hi : ℕ) (e : List ℕ) → form_of definition.now ≡ sequence w lo hi e →
-        IsNamed definitions.old element e → IsByte (forms_of definitions.old) e →
-        IfOk result (TellsKind definitions.old at (form_of definition.now)) }
-    ensures same { OnOk result (IsAlike definitions.old definitions.new) }
-    ensures orders { HasElements definitions.old element (form_of definition.now) →
-        FindsKind definitions.old definitions.new.orders.items at (form_of definition.now) result }
-    ensures tells { HasElements definitions.old element (form_of definition.now) →
-        TellsKindOrder definitions.old definitions.new.orders.items at (form_of definition.now) result }
+        IsNamed definitions.now element e → IsByte (forms_of definitions.now) e →
+        TellsKind definitions.now at (form_of definition.now) result }
+    ensures orders { HasElements definitions.now element (form_of definition.now) →
+        TellsOrders definitions.now at (form_of definition.now) result }
 {
     if is_text(definitions, at, definition) {
-        return Ok(Kind::Text);
+        return Kind::Text;
     }
     let collection = collection_of(definitions, at, definition);
-    let order = order_in(definitions, element, collection)?;
-    Ok(Kind::ByteList(Elements {
+    let order = order_in(definitions, element, collection);
+    Kind::ByteList(Elements {
         at: element,
         size: 1,
         order,
         is_refused: false,
-    }))
+    })
 }
 
 fn kind_of_list<'a>(
-    definitions: &mut Definitions<'a, '_>,
+    definitions: &Definitions<'a, '_>,
     at: usize,
     element: usize,
     definition: &'a Definition,
-) -> Result<Kind<'a>, AllocError>
+) -> Kind<'a>
     ensures kind { (w lo hi : ℕ) (e : List ℕ) → form_of definition.now ≡ sequence w lo hi e →
-        IsNamed definitions.old element e → (IsByte (forms_of definitions.old) e → ⊥) →
-        IfOk result (TellsKind definitions.old at (form_of definition.now)) }
-    ensures same { OnOk result (IsAlike definitions.old definitions.new) }
-    ensures orders { HasElements definitions.old element (form_of definition.now) →
-        FindsKind definitions.old definitions.new.orders.items at (form_of definition.now) result }
-    ensures tells { HasElements definitions.old element (form_of definition.now) →
-        TellsKindOrder definitions.old definitions.new.orders.items at (form_of definition.now) result }
+        IsNamed definitions.now element e → (IsByte (forms_of definitions.now) e → ⊥) →
+        TellsKind definitions.now at (form_of definition.now) result }
+    ensures orders { HasElements definitions.now element (form_of definition.now) →
+        TellsOrders definitions.now at (form_of definition.now) result }
 {
     let collection = collection_of(definitions, at, definition);
     if definitions.is_zero_size(element) {
-        return Ok(refused_list(element));
+        return refused_list(element);
     }
     if has_empty_keys(definitions, collection) {
-        return Ok(refused_list(element));
+        return refused_list(element);
     }
     if let Some(entries) = entries_of(definitions, collection) {
-        return Ok(Kind::Map(entries, order_of_keys(entries.key_kind)));
+        return Kind::Map(entries, order_of_keys(entries.key_kind));
     }
     let size = size_of_primitive(definitions.get(element));
-    let order = order_in(definitions, element, collection)?;
+    let order = order_in(definitions, element, collection);
     let elements = Elements {
         at: element,
         size,
@@ -291,9 +279,9 @@ fn kind_of_list<'a>(
         is_refused: false,
     };
     if size == 0 {
-        Ok(Kind::List(elements))
+        Kind::List(elements)
     } else {
-        Ok(Kind::Numbers(elements))
+        Kind::Numbers(elements)
     }
 }
 
@@ -332,20 +320,18 @@ fn has_empty_keys(definitions: &Definitions<'_, '_>, collection: Collection) -> 
     }
 }
 
-/// How the elements of a set, or the keys of a map, are ordered, where that is known.
+/// How the elements of a set, or the keys of a map, are ordered; of another list nothing is.
 fn order_in(
-    definitions: &mut Definitions<'_, '_>,
+    definitions: &Definitions<'_, '_>,
     element: usize,
     collection: Collection,
-) -> Result<Option<Ordered>, AllocError>
-    ensures same { OnOk result (IsAlike definitions.old definitions.new) }
-    ensures orders { FindsKeysOf definitions.old definitions.new.orders.items element collection result }
-    ensures none { FindsNoKeysOf definitions.old definitions.new.orders.items element collection result }
+) -> Option<Ordered>
+    ensures { FindsKeysOf definitions.now element collection result }
 {
     match collection {
-        Collection::List => Ok(None),
-        Collection::Set => definitions.order_of(element),
-        Collection::Map(key, _) => definitions.order_of(key),
+        Collection::List => None,
+        Collection::Set => Some(definitions.order_of(element)),
+        Collection::Map(key, _) => Some(definitions.order_of(key)),
     }
 }
 

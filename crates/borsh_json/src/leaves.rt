@@ -106,7 +106,7 @@ pub fn write_numbers(
 /// Writes the element of an index.
 fn put_element(alloc: Global, kind: Kind<'_>, index: usize, own: &[u8], out: &mut Output) -> Written
     ensures { ForPrimitives kind.entry own.now
-        (λ F e. IsElementWritten F e own.now out.old out.new result) }
+        (λ F e. IsElementWritten F index e own.now out.old out.new result) }
 {
     match put_primitive(alloc, kind, own, out) {
         Ok(()) => Ok(()),
@@ -117,7 +117,7 @@ fn put_element(alloc: Global, kind: Kind<'_>, index: usize, own: &[u8], out: &mu
 /// The error, as that of the element of an index.
 fn of_element(error: WriteError, index: usize) -> WriteError
     ensures { (F : List ℕ → Option Form) (e own : List ℕ) (k : TableKind) → HasKind F e k →
-        HasSize k (length own) → RefusesValue F e own error → RefusesAt F e own result }
+        HasSize k (length own) → RefusesValue F e own error → RefusesAt F index e own result }
 {
     match error {
         WriteError::OutOfMemory => WriteError::OutOfMemory,

@@ -1,5 +1,5 @@
 // The members of an object, by their keys.
-ghost use Rattle.borsh_json.specs.Words.{AreKeyed, AreKeysOf, AreSorted, BeginsWith, DeniesRead, Entry, FailsRead, Finds, Form, HasFields, HasKind, HasNoNumber, HaveOneEach, InMembers, IsDistinct, IsKeyReason, IsPermutation, IsRank, IsText, Json, JsonMembers, Keys, Lengths, NamedPlace, ShowsRead, TextKeys, bytes_eq, entries_of, get_member, map_entries, mark_of, object, texts};
+ghost use Rattle.borsh_json.specs.Words.{AreKeyed, AreKeysOf, AreSorted, BeginsWith, DeniesRead, Entry, FailsRead, Finds, Form, HasFields, HasKind, HasNoNumber, HaveOneEach, InMembers, IsDistinct, IsKeyReason, IsPermutation, IsRank, IsText, Json, JsonMembers, Keys, Lengths, NamedPlace, ShowsRead, TextKeys, bytes_eq, entries_of, field_bytes, get_member, map_entries, mark_of, object, texts};
 ghost use Rattle.std.specs.Prelude.{◌≡◌, ◌⊎◌, ◌≤◌, [], ℕ, IfSome, List, MatchResult, Option, length, map, string_bytes};
 
 use crate::error::{ReadError, Refusal};
@@ -124,7 +124,7 @@ pub fn fields_of<'t, 's>(
     ensures { let all = fields.now.items in IsDistinct bytes_eq (map (λ f. string_bytes f.0) all) → (j : Json) →
         BeginsWith element.now j → MatchResult result
         (λ s. (ms : JsonMembers) × (n : ℕ) × (j ≡ object ms) × (n ≡ length (entries_of ms)) ×
-        HasFields s [] (map (λ f. (string_bytes f.0, string_bytes f.1)) all) ms n)
+        HasFields s [] (map field_bytes all) ms n)
         (λ e. DeniesRead (IsKeyReason j) e ((ms : JsonMembers) × (j ≡ object ms) × HaveOneEach (entries_of ms))) }
 {
     match fields_in_place(fields, element) {

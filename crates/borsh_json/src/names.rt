@@ -1,9 +1,10 @@
 // What is told of the names of a plan.
-ghost use Rattle.borsh_json.specs.Names.{IsFoundWord, IsWord, TellsNames};
-ghost use Rattle.borsh_json.specs.Words.{IsAt, forms_of, names_of};
-ghost use Rattle.std.specs.Prelude.{ℕ, List, IfOk, string_bytes};
+ghost use Rattle.borsh_json.specs.Names.{HasOtherKeys, HasToldKeys, IsFoundListWord, IsFoundWord, IsWord, TellsNames};
+ghost use Rattle.borsh_json.specs.Words.{Form, HasKeyOrder, IsAt, NamedPlace, OtherOrder, TellsNoOrder, forms_of, names_of};
+ghost use Rattle.std.specs.Prelude.{◌≡◌, ℕ, List, IfOk, MatchBool, Option, string_bytes};
 
-use crate::kinds::Kind;
+use crate::kinds::{Elements, Kind};
+use crate::order::Ordered;
 use crate::table::Table;
 use crate::writing::text_of;
 use json::{Token, Writer};
@@ -13,7 +14,7 @@ impl Table<'_, '_> {
     /// A JSON object that has each name the root leads to, the root first, and how its values are written as JSON: `empty` where they
     /// have no bytes, `bool`, `number`, `signed number`, `float`, `bytes` (other primitives), `text`, `byte list`, `list`, `map` (those that
     /// are objects), `row` (an array of so many), `newtype`, `object`, `option` (those that may be `null`), `enum`; or `refused`. A list
-    /// that is a set or map whose keys have a known order is `sorted`. Left open: memory; names whose fields or variants repeat a name.
+    /// that is a set or map is `sorted`, if an order of its keys is told, but for parts of these. Left open: memory; names whose fields or variants repeat a name.
     ///
     /// ```
     /// assert_eq!(rt; json.names()?, "{\"Vec<u8>\":\"byte list\",\"u8\":\"number\"}");
@@ -54,19 +55,21 @@ fn word_of(kind: Kind<'_>) -> &'static str
         Kind::Text => "text",
         Kind::Bytes(_) => "bytes",
         Kind::Float(_) => "float",
-        Kind::ByteList(elements) => match elements.order {
-            Some(_) => "sorted byte list",
-            None => "byte list",
-        },
-        Kind::Numbers(elements) => match elements.order {
-            Some(_) => "sorted list",
-            None => "list",
-        },
-        Kind::List(elements) => match elements.order {
-            _ if elements.is_refused => "refused",
-            Some(_) => "sorted list",
-            None => "list",
-        },
+        Kind::ByteList(elements) => {
+            if is_sorted(elements.order) {
+                "sorted byte list"
+            } else {
+                "byte list"
+            }
+        }
+        Kind::Numbers(elements) => word_of_list(elements),
+        Kind::List(elements) => {
+            if elements.is_refused {
+                "refused"
+            } else {
+                word_of_list(elements)
+            }
+        }
         Kind::Map(_, _) => "map",
         Kind::Row(_) => "row",
         Kind::Newtype(_) => "newtype",
@@ -74,5 +77,35 @@ fn word_of(kind: Kind<'_>) -> &'static str
         Kind::Optional(_) => "option",
         Kind::Choice(_, _) => "enum",
         Kind::Repeated(_) => "refused",
+    }
+}
+
+fn word_of_list(elements: Elements) -> &'static str
+    ensures { IsFoundListWord elements result.now }
+{
+    if is_sorted(elements.order) {
+        "sorted list"
+    } else {
+        "list"
+    }
+}
+
+/// Whether a list is a set or map of whose keys the names or definitions tell an order.
+fn is_sorted(order: Option<Ordered>) -> bool
+    ensures { (F : List ℕ → Option Form) (ns : List NamedPlace) (x : List ℕ) →
+        HasKeyOrder F ns x order → TellsNoOrder F x order → MatchBool result (HasToldKeys F x) (HasOtherKeys F x) }
+{
+    match order {
+        Some(order) => !is_other(order),
+        None => false,
+    }
+}
+
+fn is_other(order: Ordered) -> bool
+    ensures { MatchBool result ((at : ℕ) × (order ≡ OtherOrder at)) ((at : ℕ) → order ≡ OtherOrder at → ⊥) }
+{
+    match order {
+        Ordered::Other(_) => true,
+        _ => false,
     }
 }

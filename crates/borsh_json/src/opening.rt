@@ -1,5 +1,5 @@
 // What the JSON of a part says by its definition: its own bytes, and the parts that it has.
-ghost use Rattle.borsh_json.specs.Words.{AddsList, AddsOrFalls, BeginsWith, DeniesRead, ElementsFall, Form, FoundMap, FoundObject, FoundOrder, FoundRow, HasKeyOrder, HasKind, InItems, InMembers, IsArrayOf, IsAt, IsDistinct, IsExpected, IsHex, IsKindOf, IsListOf, IsNumber, IsOpened, IsOpenedOrFalls, IsUnexpected, IsVariantAt, Json, JsonItems, JsonMembers, KindHasOrder, KindTellsOrder, KnownAt, KnowsNoOrder, NamedPlace, NamesVariant, NoneFalls, OneSource, Opens, OutOfMemory, SaysArray, TableKind, array, byte_list, bytes_eq, float, float_size, form_of, forms_in, lengths_of, list_parts, map_of, no_bytes, object, optional, plan_names, raw, spec_variants, string, tag, truth, utf8, whole};
+ghost use Rattle.borsh_json.specs.Words.{AddsList, AddsOrFalls, BeginsWith, DeniesRead, ElementsFall, Form, FoundMap, FoundObject, FoundOrder, FoundRow, HasKeyOrder, HasKind, InItems, InMembers, IsArrayOf, IsAt, IsDistinct, IsExpected, IsHex, IsKindOf, IsListOf, IsNumber, IsOpened, IsOpenedOrFalls, IsUnexpected, IsVariantAt, Json, JsonItems, JsonMembers, KindHasOrder, KindTellsOrder, KnowsNoOrder, NamedPlace, NamesVariant, NoneFalls, OneSource, Opens, OutOfMemory, SaysArray, TableKind, array, byte_list, bytes_eq, float, float_size, form_of, forms_in, lengths_of, list_parts, map_of, no_bytes, object, optional, plan_names, raw, spec_variants, string, tag, truth, utf8, variant_bytes, whole};
 ghost use Rattle.std.specs.Float.{Format};
 ghost use Rattle.std.specs.Prelude.{◌≡◌, ◌++◌, ◌≤◌, ⊤, [], ℕ, List, IfErr, IfOk, IfSome, Option, MatchOption, MatchResult, None, OnOk, Some, false, length, map, option_map, pos, string_bytes, take};
 
@@ -39,7 +39,7 @@ pub fn open_part<'a, 't, 's>(
         let ns = plan_names json.now.plan.now in
         (x : List ℕ) (j : Json) → IsAt ns at x →
         BeginsWith element.entry j →
-        IsOpenedOrFalls F ns json.now.orders.items x j out.old.items out.new.items result }
+        IsOpenedOrFalls F ns x j out.old.items out.new.items result }
 {
     if json.is_zero_size(at) {
         return open_null(json.alloc(), &element);
@@ -61,10 +61,9 @@ fn open_kind<'a, 't, 's>(
 ) -> Opened<'a, 't, 's>
     ensures { let F = forms_in (map_of json.now.plan.now) in
         let ns = plan_names json.now.plan.now in let f = form_of definition.now in
-        let orders = json.now.orders.items in
         (x : List ℕ) (j : Json) → IsAt ns at x → F x ≡ Some f →
-        IsKindOf F ns x f kind.entry → KindHasOrder F ns orders x kind.entry → KindTellsOrder F x kind.entry →
-        BeginsWith element.entry j → IsOpenedOrFalls F ns orders x j out.old.items out.new.items result }
+        IsKindOf F ns x f kind.entry → KindHasOrder F ns x kind.entry → KindTellsOrder F x kind.entry →
+        BeginsWith element.entry j → IsOpenedOrFalls F ns x j out.old.items out.new.items result }
 {
     let alloc = json.alloc();
     match kind {
@@ -283,11 +282,11 @@ fn open_byte_list<'a, 't, 's>(
     element: &Element<'t, 's>,
     out: &mut Vec<u8>,
 ) -> Opened<'a, 't, 's>
-    ensures { (F : List ℕ → Option Form) (ns : List NamedPlace) (orders : List KnownAt) (x : List ℕ) (j : Json) (e : List ℕ) →
+    ensures { (F : List ℕ → Option Form) (ns : List NamedPlace) (x : List ℕ) (j : Json) (e : List ℕ) →
         IsAt ns elements.at e → HasKind F x (byte_list (lengths_of (form_of definition.now)) e) →
-        elements.size ≡ 1 → HasKeyOrder F ns orders x elements.order → (elements.order ≡ None → KnowsNoOrder F x) →
+        elements.size ≡ 1 → HasKeyOrder F ns x elements.order → (elements.order ≡ None → KnowsNoOrder F x) →
         BeginsWith element.now j →
-        IsOpenedOrFalls F ns orders x j out.old.items out.new.items result }
+        IsOpenedOrFalls F ns x j out.old.items out.new.items result }
 {
     let Some(text) = element.as_str() else {
         return open_items(alloc, definition, elements, element, out);
@@ -425,11 +424,11 @@ fn open_list<'a, 't, 's>(
     element: &Element<'t, 's>,
     out: &mut Vec<u8>,
 ) -> Opened<'a, 't, 's>
-    ensures { (F : List ℕ → Option Form) (ns : List NamedPlace) (orders : List KnownAt) (x : List ℕ) (j : Json) →
-        HasKeyOrder F ns orders x elements.order →
+    ensures { (F : List ℕ → Option Form) (ns : List NamedPlace) (x : List ℕ) (j : Json) →
+        HasKeyOrder F ns x elements.order →
         (elements.is_refused ≡ false → elements.order ≡ None → KnowsNoOrder F x) →
         IsListOf F ns x (form_of definition.now) elements.at elements.is_refused → BeginsWith element.now j →
-        IsOpened F ns orders x j out.old.items out.new.items result }
+        IsOpened F ns x j out.old.items out.new.items result }
 {
     if elements.is_refused {
         return Err(ReadError::Refused(Refusal::EmptyElements));
@@ -444,12 +443,12 @@ fn open_items<'a, 't, 's>(
     element: &Element<'t, 's>,
     out: &mut Vec<u8>,
 ) -> Opened<'a, 't, 's>
-    ensures { (F : List ℕ → Option Form) (ns : List NamedPlace) (orders : List KnownAt) (x : List ℕ) (j : Json)
+    ensures { (F : List ℕ → Option Form) (ns : List NamedPlace) (x : List ℕ) (j : Json)
         (kind : TableKind) (e : List ℕ) →
-        IsAt ns elements.at e → HasKind F x kind → HasKeyOrder F ns orders x elements.order →
+        IsAt ns elements.at e → HasKind F x kind → HasKeyOrder F ns x elements.order →
         (elements.order ≡ None → KnowsNoOrder F x) →
         SaysArray F j kind (lengths_of (form_of definition.now)) e → BeginsWith element.now j →
-        IsOpened F ns orders x j out.old.items out.new.items result }
+        IsOpened F ns x j out.old.items out.new.items result }
 {
     match array_of(element) {
         Array::Of(items, count) => match put_length(alloc, definition, count, out) {
@@ -569,9 +568,9 @@ fn open_variant<'a, 't, 's>(
     ensures { let F = forms_in (map_of json.now.plan.now) in let ns = plan_names json.now.plan.now in
         (x : List ℕ) (j : Json) → IsAt ns at x →
         IsDistinct bytes_eq (map (λ v. string_bytes v.1) variants.now.items) →
-        HasKind F x (spec_variants width (map (λ v. (v.0, string_bytes v.1, string_bytes v.2)) variants.now.items)) →
+        HasKind F x (spec_variants width (map variant_bytes variants.now.items)) →
         BeginsWith element.now j →
-        IsOpened F ns json.now.orders.items x j out.old.items out.new.items result }
+        IsOpened F ns x j out.old.items out.new.items result }
 {
     let alloc = json.alloc();
     let Some((name, value)) = variant_in(element) else {
@@ -645,7 +644,7 @@ fn variant_named<'a>(
     variants: &'a Variants,
     name: &str,
 ) -> Option<(usize, &'a i64, &'a str)>
-    ensures { IsVariantAt (map (λ v. (v.0, string_bytes v.1, string_bytes v.2)) variants.now.items) name.now
+    ensures { IsVariantAt (map variant_bytes variants.now.items) name.now
         (option_map (λ r. (r.0, r.1.now, r.2.now)) result) }
 {
     if let Some(index) = json.variant_index(at, name)
@@ -659,7 +658,7 @@ fn variant_named<'a>(
 
 /// The same of the first variant of this name.
 fn first_named<'a>(variants: &'a Variants, name: &str) -> Option<(usize, &'a i64, &'a str)>
-    ensures { IsVariantAt (map (λ v. (v.0, string_bytes v.1, string_bytes v.2)) variants.now.items) name.now
+    ensures { IsVariantAt (map variant_bytes variants.now.items) name.now
         (option_map (λ r. (r.0, r.1.now, r.2.now)) result) }
 {
     let mut index: usize = 0;

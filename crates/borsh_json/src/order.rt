@@ -1,12 +1,13 @@
-// The order of the keys of maps and sets, where names and definitions tell it.
-ghost use Rattle.borsh_json.specs.Words.{AreNumbers, AreOrderedNumbers, ComparesFronts, ComparesNumbers, ComparesTexts, Comparison, DecidesAscent, FindsBytesAt, FindsNext, FindsNoBytesAt, HasForm, InRange, IsAt, IsCut, IsNeeded, IsOrderOf, IsSequenceName, IsTreeMapName, NumberOrder, NumbersDescend, Order, OrderedBy, OrdersBytes, TakesCount, ValuesCompare, array_order, decimal, form_of, forms_of, int_cmp, is_negative, following, little_endian, names_of, nat_cmp, needs, plan_names, primitive_kind, sequence, tag, tuple, tuple_name};
-ghost use Rattle.std.specs.Prelude.{◌≡◌, ◌⊎◌, ◌+◌, ◌++◌, ◌∷◌, [], ◌<◌, ◌^◌, ℕ, ℤ, Bool, List, Decides, IfOk, IfSome, MatchBool, MatchOption, None, Some, codes, drop, length, map, option_map, pos, string_bytes, true};
+// The order of the keys of maps and sets, as far as names and definitions tell it.
+ghost use Rattle.borsh_json.specs.Words.{AreNumbers, ArePrimitives, ComparesCopies, ComparesFronts, ComparesNumbers, ComparesTexts, DecidesAscent, DecidesFall, FindsBytesAt, FindsCopies, FindsNext, FindsNoBytesAt, Form, HasForm, InRange, IsCut, IsNotBelow, IsSequenceName, IsTreeMapName, Less, NamedPlace, NumberOrder, OrderedBy, OrdersBytes, PrimitivesDescend, TakesBoth, TakesCounts, TakesSame, array_order, decimal, following, form_of, forms_of, int_cmp, is_negative, little_endian, nat_cmp, node_size, primitive_kind, sequence, shape_of_form, tag, tuple, tuple_name, variant_of};
+ghost use Rattle.std.specs.Prelude.{◌≡◌, ◌⊎◌, ◌++◌, ◌∷◌, [], ◌<◌, ◌≤◌, ◌^◌, ℕ, ℤ, All, Bool, List, Decides, IfOk, IfSome, MatchBool, MatchOption, None, Option, Some, codes, drop, length, map, option_map, slice_get, string_bytes, true};
 
 use crate::definitions::Definitions;
 use crate::formats::{behind, is_composed, is_list, option_part};
-use crate::kinds::{Kind, is_text, kind_of_primitive};
+use crate::kinds::{Kind, Variants, is_text, kind_of_primitive};
 use crate::table::Table;
-use borsh_walks::{Declaration, Definition};
+use borsh_values::{Node, count_of};
+use borsh_walks::{Declaration, Definition, DiscriminantValue};
 use itoa::Buffer;
 use std::alloc::AllocError;
 use std::cmp::Ordering;
@@ -28,33 +29,11 @@ pub enum Ordered {
     List(usize, usize),
     /// As tuples, whose definition is at this place and has so many parts: by the first part that differs.
     Tuple(usize, usize),
+    /// Neither the name at this place nor its definition tells: of two values is known only whether they are the same.
+    Other(usize),
 }
 
-impl Ordered {
-    /// The place of a name whose order has to be known too; none if there is no such index.
-    pub fn part(&self, definitions: &Definitions<'_, '_>, index: usize) -> Option<usize>
-        ensures part { (x : List ℕ) (o : Order) →
-            IsOrderOf (forms_of definitions.now) (names_of definitions.now) x self.now o →
-            IsNeeded (names_of definitions.now) (needs o) index result }
-        ensures more { IfSome result (λ _. index + 1 < 2 ^ 64) }
-    {
-        match self {
-            Ordered::Tuple(at, count) => {
-                if index < *count {
-                    Some(definitions.part(*at, index))
-                } else {
-                    None
-                }
-            }
-            Ordered::Array(_, part) | Ordered::List(_, part) => {
-                if index == 0 { Some(*part) } else { None }
-            }
-            _ => None,
-        }
-    }
-}
-
-/// How the values of the name at a place are ordered, if its parts are; none where that isn't known: of structs, enums, and
+/// How the values of the name at a place are ordered; none where neither that nor the definition tells it: of structs, enums, and
 /// primitives of other names.
 pub fn ordered_as(
     definitions: &Definitions<'_, '_>,
@@ -232,6 +211,10 @@ enum Pending {
     Elements(usize, u64, u64),
     /// The parts of the tuple at a place, which has so many, from this one on.
     Parts(usize, usize, usize),
+    /// So many values of the name at a place, of which is known only whether they are the same.
+    Copies(usize, u64),
+    /// The parts of the definition at a place from this one on, of which is known only whether they are the same.
+    PartCopies(usize, usize),
 }
 
 /// Two encodings of values of one name that are being compared: what is left of each.
@@ -242,46 +225,62 @@ struct Pair<'b> {
 }
 
 impl<'b> Pair<'b> {
-    /// The next bytes of both. Where fewer are left these are all: then they are no encodings of the name.
-    fn take(&mut self, left: usize, right: usize) -> (&'b [u8], &'b [u8])
-        ensures left { IsCut left self.old.left.now result.0.now self.new.left.now }
-        ensures right { IsCut right self.old.right.now result.1.now self.new.right.now }
+    /// The next bytes of both; none where fewer are left: then they are no encodings of the name.
+    fn take(&mut self, left: usize, right: usize) -> Option<(&'b [u8], &'b [u8])>
+        ensures { TakesBoth left right self.old self.new result }
     {
+        if self.left.len() < left || self.right.len() < right {
+            return None;
+        }
         let (left, left_after) = split(self.left, left);
         let (right, right_after) = split(self.right, right);
         self.left = left_after;
         self.right = right_after;
-        (left, right)
+        Some((left, right))
+    }
+
+    /// The next bytes of both, if these are the same.
+    fn take_same(&mut self, size: usize) -> Option<&'b [u8]>
+        ensures { TakesSame size self.old self.new result }
+    {
+        let (left, right) = self.take(size, size)?;
+        if left == right { Some(left) } else { None }
     }
 
     /// The counts, of so many bytes, that come next in both.
-    fn take_counts(&mut self, width: usize) -> (u64, u64)
-        ensures left { TakesCount width self.old.left.now result.0 self.new.left.now }
-        ensures right { TakesCount width self.old.right.now result.1 self.new.right.now }
+    fn take_counts(&mut self, width: usize) -> Option<(u64, u64)>
+        ensures { TakesCounts width self.old self.new result }
     {
-        let (left, right) = self.take(width, width);
-        (count_in(left), count_in(right))
+        let (left, right) = self.take(width, width)?;
+        Some((count_in(left), count_in(right)))
     }
 
     fn compare_numbers(&mut self, size: u8, is_signed: bool) -> Ordering
         ensures { ComparesNumbers size is_signed self.old self.new result }
     {
         let size = usize::from(size);
-        let (left, right) = self.take(size, size);
+        let Some((left, right)) = self.take(size, size) else {
+            return Ordering::Less;
+        };
         compare_numbers(left, right, is_signed)
     }
 
     fn compare_texts(&mut self) -> Ordering
         ensures { ComparesTexts self.old self.new result }
     {
-        let (left, right) = self.take_counts(4);
-        let (left, right) = self.take(left as usize, right as usize);
+        let Some((left, right)) = self.take_counts(4) else {
+            return Ordering::Less;
+        };
+        let Some((left, right)) = self.take(left as usize, right as usize) else {
+            return Ordering::Less;
+        };
         left.cmp(right)
     }
 }
 
 fn split<'b>(bytes: &'b [u8], count: usize) -> (&'b [u8], &'b [u8])
-    ensures { IsCut count bytes.now result.0.now result.1.now }
+    ensures cut { IsCut count bytes.now result.0.now result.1.now }
+    ensures small { All (λ b. b < 256) bytes.now }
 {
     bytes.split_at(count.min(bytes.len()))
 }
@@ -298,15 +297,16 @@ fn count_in(bytes: &[u8]) -> u64
     }
 }
 
-/// How two encodings compare, as the values of a name with this order, which begin the bytes.
-pub fn compare(
+/// Whether the first of two values of a name with this order, which begin the bytes, isn't below the second, as far as the order
+/// is told: it is equal or above.
+pub fn is_at_least(
     json: &Table<'_, '_>,
     order: Ordered,
     left: &[u8],
     right: &[u8],
-) -> Result<Ordering, AllocError>
-    ensures { (x : List ℕ) → OrderedBy json.now x order → (r : Comparison) →
-        ValuesCompare json.now x left.now right.now r → IfOk result (λ o. o ≡ r) }
+) -> Result<bool, AllocError>
+    ensures { (x : List ℕ) → OrderedBy json.now x order → IfOk result (λ b. MatchBool b
+        (IsNotBelow json.now x left.now right.now) (IsNotBelow json.now x left.now right.now → ⊥)) }
 {
     let mut pair = Pair { left, right };
     let mut pending: Vec<Pending> = Vec::new(json.alloc());
@@ -316,12 +316,18 @@ pub fn compare(
         match front {
             Ordering::Equal => match next_value(json, &mut pending)? {
                 Next::Value(next) => order = next,
-                Next::Decided(ordering) => return Ok(ordering),
+                Next::Decided(ordering) => return Ok(is_ge(ordering)),
             },
-            decided => return Ok(decided),
+            decided => return Ok(is_ge(decided)),
         }
     }
     Err(AllocError)
+}
+
+fn is_ge(ordering: Ordering) -> bool
+    ensures { MatchBool result (ordering ≡ Less → ⊥) (ordering ≡ Less) }
+{
+    !ordering.is_lt()
 }
 
 /// What comes next of what is to be compared.
@@ -354,6 +360,18 @@ fn next_value(json: &Table<'_, '_>, pending: &mut Vec<Pending>) -> Result<Next, 
                     return Ok(Next::Value(json.known_order(part)));
                 }
             }
+            Pending::Copies(at, count) => {
+                if count > 0 && !json.is_zero_size(at) {
+                    pending.push(Pending::Copies(at, count - 1))?;
+                    return Ok(Next::Value(Ordered::Other(at)));
+                }
+            }
+            Pending::PartCopies(at, index) => {
+                if let Some(part) = json.part_at(at, index) {
+                    pending.push(Pending::PartCopies(at, index + 1))?;
+                    return Ok(Next::Value(Ordered::Other(part)));
+                }
+            }
         }
     }
     Ok(Next::Decided(Ordering::Equal))
@@ -377,7 +395,9 @@ fn compare_front(
             Ok(Ordering::Equal)
         }
         Ordered::List(width, element) => {
-            let (left, right) = pair.take_counts(width);
+            let Some((left, right)) = pair.take_counts(width) else {
+                return Ok(Ordering::Less);
+            };
             if json.is_zero_size(element) {
                 return Ok(left.cmp(&right));
             }
@@ -388,7 +408,112 @@ fn compare_front(
             pending.push(Pending::Parts(at, count, 0))?;
             Ok(Ordering::Equal)
         }
+        Ordered::Other(at) => compare_copies(json, at, pair, pending),
     }
+}
+
+/// How two values compare of which is known only whether they are the same: `Equal` if their own bytes are, and the parts become
+/// pending; otherwise `Less`, since nothing tells that they don't ascend.
+fn compare_copies(
+    json: &Table<'_, '_>,
+    at: usize,
+    pair: &mut Pair<'_>,
+    pending: &mut Vec<Pending>,
+) -> Result<Ordering, AllocError>
+    ensures { ComparesCopies json.now at pending.old.items pair.old pending.new.items pair.new result }
+{
+    if json.is_zero_size(at) {
+        return Ok(Ordering::Equal);
+    }
+    let Some((definition, _)) = json.kind(at) else {
+        return Ok(Ordering::Less);
+    };
+    let Some(own) = pair.take_same(own_size(definition)) else {
+        return Ok(Ordering::Less);
+    };
+    match copies_behind(json, at, definition, own) {
+        Some(parts) => {
+            pending.push(parts)?;
+            Ok(Ordering::Equal)
+        }
+        None => Ok(Ordering::Less),
+    }
+}
+
+/// How many own bytes a value of the definition has: those of a primitive, of the count of a sequence, or of the tag of an enum.
+fn own_size(definition: &Definition) -> usize
+    ensures { result ≡ node_size (shape_of_form (form_of definition.now)) }
+{
+    match definition {
+        Definition::Primitive(size) => usize::from(*size),
+        Definition::Sequence { length_width, .. } => usize::from(*length_width),
+        Definition::Enum { tag_width, .. } => usize::from(*tag_width),
+        Definition::Tuple { .. } | Definition::Struct { .. } => 0,
+    }
+}
+
+/// The parts of a value of the name at a place that has these own bytes; none if its definition has no such value.
+fn copies_behind(
+    json: &Table<'_, '_>,
+    at: usize,
+    definition: &Definition,
+    own: &[u8],
+) -> Option<Pending>
+    ensures { let s = shape_of_form (form_of definition.now) in (x : List ℕ) →
+        HasForm json.now at (form_of definition.now) x → length own.now ≡ node_size s → FindsCopies json.now s own.now result }
+{
+    match definition {
+        Definition::Primitive(_) => Some(Pending::Copies(at, 0)),
+        Definition::Tuple { .. } => Some(Pending::PartCopies(at, 0)),
+        Definition::Struct { .. } => Some(Pending::PartCopies(at, 0)),
+        Definition::Sequence { .. } => {
+            let node = Node {
+                at,
+                name: json.name(at),
+                definition,
+                bytes: own,
+                offset: 0,
+                depth: 0,
+            };
+            match count_of(&node) {
+                Some(count) => Some(Pending::Copies(json.part(at, 0), count)),
+                None => None,
+            }
+        }
+        Definition::Enum { variants, .. } => match variant_with(variants, own) {
+            Some(index) => Some(Pending::Copies(json.part(at, index), 1)),
+            None => None,
+        },
+    }
+}
+
+/// The place of the first variant with a tag of at most eight bytes.
+fn variant_with(variants: &Variants, tag: &[u8]) -> Option<usize>
+    ensures { let vs = map (λ v. (v.0, string_bytes v.2)) variants.now.items in
+        MatchOption result (length tag.now ≤ 8 → variant_of tag.now vs ≡ None)
+        (λ i. (length tag.now ≤ 8) × (k : ℤ) × (p : List ℕ) × (slice_get vs i ≡ Some (k, p)) × (variant_of tag.now vs ≡ Some p)) }
+{
+    if tag.len() > 8 {
+        return None;
+    }
+    let mut index = 0;
+    while let Some((discriminant, _, _)) = variants.get(index) {
+        if is_tag(discriminant, tag) {
+            return Some(index);
+        }
+        index += 1;
+    }
+    None
+}
+
+/// Whether at most eight bytes are the tag of a variant.
+fn is_tag(discriminant: &DiscriminantValue, bytes: &[u8]) -> bool
+    requires { length bytes.now ≤ 8 }
+    ensures { Decides result (tag (length bytes.now) discriminant.now ≡ bytes.now) }
+{
+    let value = *discriminant;
+    let tag = value.to_le_bytes();
+    bytes == &tag[..bytes.len()]
 }
 
 /// How two numbers of the same size compare.
@@ -429,7 +554,7 @@ fn compare_bytes(left: &[u8], right: &[u8]) -> Ordering
     Ordering::Equal
 }
 
-/// Of a set or map whose order is known, where its elements begin in the bytes, as they are gone through.
+/// Of a set or map, where its elements begin in the bytes, as they are gone through.
 #[derive(Clone, Copy)]
 pub struct Ascent {
     order: Ordered,
@@ -458,7 +583,7 @@ impl Ascent {
         self.earlier = mem::replace(&mut self.last, Some(start));
     }
 
-    /// Whether the element that was begun last is above the one before it. All of its bytes are there.
+    /// Whether the element that was begun last is above the one before it, as far as the order is told.
     pub fn ascends(&self, json: &Table<'_, '_>, bytes: &[u8]) -> Result<bool, AllocError>
         ensures first { self.now.earlier ≡ None → IfOk result (λ ascends. ascends ≡ true) }
         ensures order { DecidesAscent json.now self.now bytes.now result }
@@ -471,8 +596,8 @@ impl Ascent {
         };
         let left = from(bytes, earlier);
         let right = from(bytes, last);
-        let ordering = compare(json, self.order, left, right)?;
-        Ok(ordering.is_lt())
+        let is_at_least = is_at_least(json, self.order, left, right)?;
+        Ok(!is_at_least)
     }
 }
 
@@ -482,14 +607,11 @@ fn from(bytes: &[u8], start: usize) -> &[u8]
     &bytes[start.min(bytes.len())..]
 }
 
-/// The first element of a list of primitives of so many bytes that isn't above the one before it.
+/// The first element of a list of primitives of so many bytes that isn't above the one before it, as far as the order is told.
 pub fn first_descent(order: Ordered, size: usize, bytes: &[u8]) -> Option<usize>
-    ensures { (signed : Bool) → AreOrderedNumbers order size signed bytes.now →
-        MatchOption result ((i : ℕ) → NumbersDescend size signed bytes.now i → ⊥) (NumbersDescend size signed bytes.now) }
+    ensures { (F : List ℕ → Option Form) (ns : List NamedPlace) (e : List ℕ) → ArePrimitives F ns e order size bytes.now →
+        MatchOption result ((i : ℕ) → PrimitivesDescend F e size bytes.now i → ⊥) (PrimitivesDescend F e size bytes.now) }
 {
-    let Ordered::Number(_, is_signed) = order else {
-        return None;
-    };
     let mut rest = bytes;
     for index in 1..bytes.len() {
         if rest.len() <= size {
@@ -497,10 +619,20 @@ pub fn first_descent(order: Ordered, size: usize, bytes: &[u8]) -> Option<usize>
         }
         let (element, after) = split(rest, size);
         let (next, _) = split(after, size);
-        if !compare_numbers(element, next, is_signed).is_lt() {
+        if falls(order, element, next) {
             return Some(index);
         }
         rest = after;
     }
     None
+}
+
+/// Whether the first of two primitives isn't below the second, as far as the order is told.
+fn falls(order: Ordered, first: &[u8], second: &[u8]) -> bool
+    ensures { DecidesFall order (length first.now) first.now second.now result }
+{
+    match order {
+        Ordered::Number(_, is_signed) => !compare_numbers(first, second, is_signed).is_lt(),
+        _ => first == second,
+    }
 }

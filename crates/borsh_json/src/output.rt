@@ -1,12 +1,12 @@
 // The JSON text that is being written.
-ghost use Rattle.borsh_json.specs.Leaves.{Adds, Holds};
-ghost use Rattle.borsh_json.specs.Printed.{AreWritten, IsShortNumber, laid_out};
+ghost use Rattle.borsh_json.specs.Leaves.{Adds, Holds, long_of, long_token};
+ghost use Rattle.borsh_json.specs.Printed.{laid_out};
 ghost use Rattle.borsh_json.specs.declared.output.Output.TheVariants.{Nothing};
 ghost use Rattle.json.specs.Lex.{tokens};
 ghost use Rattle.json.specs.Print.{IsNumber, IsPrintable};
 ghost use Rattle.json.specs.Reads.{token_of};
-ghost use Rattle.json.specs.Token.{Token as TokenOf, number as a_number, string as a_string};
-ghost use Rattle.std.specs.Prelude.{◌≡◌, ◌⊎◌, ◌∷◌, [], IfSome, IsUtf8, List, OnOk, true};
+ghost use Rattle.json.specs.Token.{Token as TokenOf};
+ghost use Rattle.std.specs.Prelude.{◌≡◌, ◌∷◌, [], IfSome, IsUtf8, List, OnOk, true};
 
 use json::{Pretty, Token, Writer};
 use std::alloc::{AllocError, Global};
@@ -86,7 +86,7 @@ impl Output {
         ensures tokens { (ts : List TokenOf) → Holds self ts → IfSome result (λ text. tokens text.items ≡ ts) }
         ensures utf8 { (ts : List TokenOf) → Holds self ts → IfSome result (λ text. IsUtf8 text.items) }
         ensures layout { (ts : List TokenOf) → Holds self ts → IfSome result (λ text. text.items ≡ laid_out style.layout ts) }
-        ensures long { (ts : List TokenOf) → Holds self ts → IfSome result (λ _. AreWritten style.long_numbers ts) }
+        ensures long { IfSome result (λ _. long_of self ≡ style.long_numbers) }
     {
         if !self.has_long(style.long_numbers) {
             return None;
@@ -100,7 +100,7 @@ impl Output {
 
     /// Whether a text is kept in which numbers of 64 bits are written so.
     fn has_long(&self, long_numbers: LongNumbers) -> bool
-        ensures { result ≡ true → (ts : List TokenOf) → Holds self.now ts → AreWritten long_numbers ts }
+        ensures { result ≡ true → long_of self.now ≡ long_numbers }
     {
         match self {
             Output::Compact(_, long) | Output::Pretty(_, long) => *long == long_numbers,
@@ -116,8 +116,7 @@ impl Output {
     }
 
     pub fn put(&mut self, token: Token<'_>) -> Result<(), AllocError>
-        requires printable { IsPrintable (token_of token) }
-        requires short { IsShortNumber (token_of token) }
+        requires { IsPrintable (token_of token) }
         ensures { OnOk result (Adds (token_of token.entry ∷ []) self.old self.new) }
     {
         match self {
@@ -130,8 +129,7 @@ impl Output {
     /// Puts a number of 64 bits: a number, or a string.
     pub fn put_long(&mut self, number: &str) -> Result<(), AllocError>
         requires { IsNumber number.now }
-        ensures { OnOk result (Adds (a_string number.now ∷ []) self.old self.new
-            ⊎ Adds (a_number number.now ∷ []) self.old self.new) }
+        ensures { OnOk result (Adds (long_token (long_of self.old) number.now ∷ []) self.old self.new) }
     {
         match self {
             Output::Compact(writer, LongNumbers::Plain) => writer.token(Token::Number(number)),

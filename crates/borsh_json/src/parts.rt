@@ -177,10 +177,9 @@ fn take_next<'a, 't, 's>(
 ) -> Result<Next<'t, 's>, ReadError>
     ensures parts { (place.new.parts ≡ place.old.parts) × (place.new.ascent ≡ place.old.ascent) }
     ensures next { let F = forms_of json.now in let ns = names_of json.now in
-        let orders = json.now.orders.items in
         (d : ℕ) (x : List ℕ) (i : Json) (own : List ℕ) (ds : List JsonPart) →
-        IsDoing F ns orders place.old source.old d x i own ds → MatchResult result
-        (IsNext F ns orders d x i own ds place.new source.new out.old.items out.new.items)
+        IsDoing F ns place.old source.old d x i own ds → MatchResult result
+        (IsNext F ns d x i own ds place.new source.new out.old.items out.new.items)
         (DeniesKey F ns d x i own ds place.new) }
 {
     let Some(part) = place.next_part(json) else {

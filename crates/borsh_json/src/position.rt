@@ -1,5 +1,5 @@
 // Where in a value the reader or writer is.
-ghost use Rattle.borsh_json.specs.Words.{AscendsFrom, GivesPart, HasPath, IsElementFall, IsFull, IsOf, IsOfRead, IsOfWrite, IsPartError, IsPath, IsReadRefusal, IsUnreadable, NoneFalls, Root, Step, TooDeep, element_step, error_steps, first_steps, found_step, place_step, step_of, steps_at, steps_through};
+ghost use Rattle.borsh_json.specs.Words.{AscendsFrom, GivesPart, HasPath, IsElementFall, IsFull, IsOf, IsOfRead, IsOfWrite, IsPartError, IsPath, IsReadRefusal, IsUnreadable, NoneFalls, Root, Step, TooDeep, element_step, error_steps, first_steps, found_step, place_step, step_of, steps_at, steps_through, write_steps};
 ghost use Rattle.borsh_json.specs.declared.error.Refusal.TheVariants.{Descends};
 ghost use Rattle.std.specs.Prelude.{◌≡◌, ◌+◌, ◌^◌, ◌<◌, ◌≤◌, ◌∷◌, ◌++◌, [], true, false, ℕ, List, None, length, map, IfErr, IfOk, IfSome, MatchOption, OnOk};
 
@@ -76,7 +76,7 @@ impl<'a, 'k> Place<'a, 'k> {
         }
     }
 
-    /// The same place, whose parts have to ascend where their order is known.
+    /// The same place, whose parts have to ascend in an order, if there is one.
     pub fn in_order(self, order: Option<Ordered>) -> Place<'a, 'k>
         ensures same { (result.parts ≡ self.entry.parts) × (result.begun ≡ self.entry.begun) × (result.last ≡ self.entry.last) }
         ensures ascent { AscendsFrom order result.ascent }
@@ -250,7 +250,8 @@ impl<'a, 'k> Position<'a, 'k> {
     pub fn check_ascent(&self, elements: Elements, bytes: &[u8]) -> PartResult<'a, ()>
         ensures reading { IfErr result (IsPartError IsUnreadable) }
         ensures descends { IfErr result (IsOf Descends) }
-        ensures falls { IfErr result (IsElementFall elements bytes.now) }
+        ensures falls { let s = self.now in IfErr result (IsElementFall s.root.now
+            (steps_through s.outer.items ++ steps_at s.place) elements bytes.now) }
         ensures rises { OnOk result (NoneFalls elements bytes.now) }
     {
         let Some(order) = elements.order else {
@@ -300,7 +301,9 @@ impl<'a, 'k> Position<'a, 'k> {
 
     /// The error of the part that was begun last and not written, or of an element of it.
     pub fn refused_value(&self, error: WriteError) -> PartError<'a>
-        ensures { IsOfWrite error result }
+        ensures same { IsOfWrite error result }
+        ensures path { HasPath self.now.root.now
+            (write_steps (steps_through self.now.outer.items ++ steps_at self.now.place) error) result }
     {
         match error {
             WriteError::OutOfMemory => PartError::OutOfMemory,
@@ -321,7 +324,9 @@ impl<'a, 'k> Position<'a, 'k> {
 
     /// The error of the key of the entry that was begun last.
     pub fn refused_key(&self, error: WriteError) -> PartError<'a>
-        ensures { IsOfWrite error result }
+        ensures same { IsOfWrite error result }
+        ensures path { HasPath self.now.root.now (steps_through self.now.outer.items ++
+            (first_steps self.now.place.parts self.now.place.begun ++ place_step 0 ∷ [])) result }
     {
         match error {
             WriteError::OutOfMemory => PartError::OutOfMemory,

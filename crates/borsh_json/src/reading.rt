@@ -19,8 +19,8 @@ use std::collections::BTreeMap;
 /// definitions is refused with its path and what was expected; so are keys that come twice, the bits of a NaN, and arrays whose
 /// elements or keys don't ascend where they have to. The bytes are a member of the root.
 ///
-/// Determined: after `Ok` the text says the bytes, and no others, and the keys of its sets and maps ascend where their order is
-/// known. A text that says bytes, with its keys in order, is refused with `OutOfMemory`, `Ambiguous` or `TooDeep` alone; after any
+/// Determined: after `Ok` the text says the bytes, and no others, and the keys of its sets and maps ascend as far as their order
+/// is told. A text that says bytes, with its keys in order, is refused with `OutOfMemory`, `Ambiguous` or `TooDeep` alone; after any
 /// other error but `Descends` the text says no bytes at all. A refusal's path leads from the root to the first place that fails: the
 /// parts before it, in the order of the bytes, have bytes. The JSON of this part fails itself, whatever its parts say, for the reason
 /// of the refusal (a map also for a key that is no number); or it is a field that the object hasn't (`MissingField`), a part inside of

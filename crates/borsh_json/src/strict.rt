@@ -14,8 +14,8 @@ use std::collections::BTreeMap;
 /// text is kept, and each refusal is the same.
 ///
 /// So it refuses bytes that are no member of `root`, or that its type would refuse as far as names tell: a `bool` that is neither 0
-/// nor 1, a `String` that isn't UTF-8, a non-zero number of 0, a NaN, a set or map whose keys don't ascend in an order that is
-/// known; and also what has no JSON: two fields or variants of one name, lists with a length whose elements and maps whose keys have
+/// nor 1, a `String` that isn't UTF-8, a non-zero number of 0, a NaN, a set or map whose keys don't ascend, as far as their order
+/// is told; and also what has no JSON: two fields or variants of one name, lists with a length whose elements and maps whose keys have
 /// no bytes, and values that nest more than 128 deep.
 ///
 /// Determined: after `Ok` some JSON text represents the bytes as [`to_json`](crate::to_json)'s does; the errors are as there. Left

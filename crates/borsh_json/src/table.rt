@@ -1,7 +1,7 @@
 // The table of the names of a plan, and how the values of each are written as JSON.
-ghost use Rattle.borsh_json.specs.Words.{Form, HasFound, HasNoBytes, HasOrderAt, IsAt, IsKindAt, KindTellsOrder, OrderedBy, definitions_of, forms_in, forms_of, map_of, names_of, plan_names, references, root_of, shape_of_form};
+ghost use Rattle.borsh_json.specs.Words.{Form, HasNoBytes, HasOrderAt, IsAt, IsKindAt, IsPartAt, KindTellsOrder, OrderedBy, definitions_of, forms_in, forms_of, map_of, names_of, plan_names, references, root_of, shape_of_form};
 ghost use Rattle.borsh_values.specs.Membership.{IsAnswer};
-ghost use Rattle.std.specs.Prelude.{◌≡◌, ℕ, List, Decides, IfOk, IfSome, Some, slice_get};
+ghost use Rattle.std.specs.Prelude.{◌≡◌, ◌+◌, ◌<◌, ◌^◌, ℕ, List, Decides, IfOk, IfSome, Some, slice_get};
 
 use crate::definitions::Definitions;
 use crate::kinds::Kind;
@@ -15,12 +15,14 @@ use std::marker::Model;
 /// A plan, and how the values of its names are written as JSON. The functions [`to_json`](crate::to_json) and
 /// [`from_json`](crate::from_json) make one for each call; a caller with many values of one type makes it once.
 ///
-/// In contracts it is its plan, and the orders of keys that were found.
+/// In contracts it is its plan.
 #[derive(Drop)]
 pub struct Table<'a, 'l> {
     definitions: Definitions<'a, 'l>,
     /// Of each name its definition, if it has one, and how its values are written.
     kinds: Vec<Option<(&'a Definition, Kind<'a>)>>,
+    /// Of each name how its values are ordered; empty where there is no set or map.
+    orders: Vec<Ordered>,
     indexes: Indexes<'a>,
 }
 
@@ -38,7 +40,7 @@ impl<'a, 'l> Model for Table<'a, 'l> {
 
     ghost view = { λ j. j.definitions };
 
-    ghost invariant = { λ j. HasKinds j.definitions j.kinds.items };
+    ghost invariant = { λ j. HasKinds j.definitions j.kinds.items j.orders.items };
 }
 
 impl<'a, 'l> Table<'a, 'l> {
@@ -55,17 +57,23 @@ impl<'a, 'l> Table<'a, 'l> {
     pub fn new(alloc: Global, plan: &'l Plan<'a>) -> Result<Table<'a, 'l>, AllocError>
         ensures { IfOk result (λ j. j.plan.now ≡ plan.now) }
     {
-        let mut definitions = Definitions::new(alloc, plan);
+        let definitions = Definitions::new(alloc, plan);
         let count = plan.len();
         let mut kinds = Vec::with_capacity(alloc, count)?;
         for at in 0..count {
             let kind = definitions.find_kind(at)?;
             kinds.push(kind)?;
         }
+        let orders = if have_order(kinds.as_slice()) {
+            definitions.orders()?
+        } else {
+            Vec::new(alloc)
+        };
         let indexes = indexes_of(alloc, kinds.as_slice())?;
         Ok(Table {
             definitions,
             kinds,
+            orders,
             indexes,
         })
     }
@@ -105,6 +113,15 @@ impl<'a, 'l> Table<'a, 'l> {
         self.definitions.part(at, index)
     }
 
+    /// The place of a part of the definition at a place, if there is that part.
+    pub(crate) fn part_at(&self, at: usize, index: usize) -> Option<usize>
+        ensures part { (x : List ℕ) (f : Form) → IsAt (names_of self.now) at x → forms_of self.now x ≡ Some f →
+            IsPartAt (names_of self.now) (references (shape_of_form f)) index result }
+        ensures more { IfSome result (λ _. index + 1 < 2 ^ 64) }
+    {
+        self.definitions.part_at(at, index)
+    }
+
     /// Whether the values of the name at a place have no bytes. Left open: none.
     pub fn is_zero_size(&self, at: usize) -> bool
         ensures { (x : List ℕ) → IsAt (plan_names self.now.plan.now) at x →
@@ -132,11 +149,33 @@ impl<'a, 'l> Table<'a, 'l> {
         self.indexes.get(&at)?.get(name).copied()
     }
 
-    /// The order that was found of the name at a place.
+    /// How the values of the name at a place are ordered.
     pub(crate) fn known_order(&self, at: usize) -> Ordered
-        ensures { HasFound self.now.orders.items at → (x : List ℕ) →
-            IsAt (plan_names self.now.plan.now) at x → OrderedBy self.now x result }
+        ensures { (x : List ℕ) → IsAt (names_of self.now) at x → OrderedBy self.now x result }
     {
-        self.definitions.known_order(at).unwrap_or(Ordered::Single)
+        match self.orders.as_slice().get(at).copied() {
+            Some(order) => order,
+            None => self.definitions.order_of(at),
+        }
     }
+}
+
+/// Whether one of the kinds is that of a set or map.
+fn have_order(kinds: &[Option<(&Definition, Kind<'_>)>]) -> bool {
+    for kind in kinds {
+        let Some((_, kind)) = kind else {
+            continue;
+        };
+        let is_ordered = match kind {
+            Kind::ByteList(elements) | Kind::Numbers(elements) | Kind::List(elements) => {
+                elements.order.is_some()
+            }
+            Kind::Map(_, _) => true,
+            _ => false,
+        };
+        if is_ordered {
+            return true;
+        }
+    }
+    false
 }

@@ -1,11 +1,11 @@
 // A value as JSON.
-ghost use Rattle.borsh_json.specs.Words.{Adds, AreKeysOf, BeginsNext, EntryOf, Form, FoundBytes, FoundElements, FoundKeyKind, FoundList, FoundNumbers, FoundPart, HasNoBytes, HasNode, Holds, IsAbove, IsAt, IsAwaitingAt, IsBegunOf, IsEntryKey, IsKeyPut, IsKindOf, IsLast, IsNoJsonReason, IsPartWritten, IsWritingAt, IsWrittenNext, Keys, KindHasOrder, KindTellsOrder, Member, NamedPlace, NoneFallsIn, Place, RefusesElements, RisesAt, ShowsNoJson, StopsBy, TellsAscent, TextRepresents, WritesJson, definitions_in, definitions_of, ends_of, form_of, forms_in, forms_of, map_of, names_of, root_of, shapes};
+ghost use Rattle.borsh_json.specs.Words.{Adds, AreKeysOf, BeginsNext, EntryOf, Form, FoundBytes, FoundElements, FoundKeyKind, FoundList, FoundNumbers, FoundPart, HasNoBytes, HasNode, Holds, IsAbove, IsAt, IsAwaitingAt, IsBegunOf, IsEntryKey, IsKeyPut, IsKindOf, IsLast, IsNoJsonReason, IsPartWritten, IsWritingAt, IsWrittenNext, Keys, KindHasOrder, KindTellsOrder, Member, NamedPlace, NoneFallsIn, Place, RefusesElements, RisesAt, ShowsNoJson, StopsBy, TellsAscent, TextRepresents, WritesJson, definitions_in, definitions_of, ends_of, form_of, forms_in, forms_of, map_of, names_of, root_of, shapes, steps_at, steps_through};
 ghost use Rattle.borsh_json.specs.Ascii.{IsInLine, IsPlain, IsSameJson};
-ghost use Rattle.borsh_json.specs.Printed.{HasShortNumbers, IsPrinted};
+ghost use Rattle.borsh_json.specs.Printed.{HasQuotedNumbers, IsPrinted};
 ghost use Rattle.borsh_json.specs.declared.output.Layout.TheVariants.{Compact};
 ghost use Rattle.borsh_json.specs.declared.output.LongNumbers.TheVariants.{Quoted};
 ghost use Rattle.borsh_json.specs.declared.output.Characters.TheVariants.{Any, Ascii};
-ghost use Rattle.std.specs.Prelude.{◌≡◌, ◌<◌, [], ℕ, All, Decides, IfErr, IfOk, IfSome, IsUtf8, List, MatchResult, OnOk, Option, Some, length, string_bytes, true};
+ghost use Rattle.std.specs.Prelude.{◌≡◌, ◌<◌, ◌++◌, [], ℕ, All, Decides, IfErr, IfOk, IfSome, IsUtf8, List, MatchResult, OnOk, Option, Some, length, string_bytes, true};
 
 use crate::ascii::{in_ascii, is_ascii};
 use crate::error::{JsonError, PartResult, Refusal};
@@ -37,17 +37,19 @@ use std::collections::BTreeMap;
 ///
 /// Refused with their path are bytes that the type itself would refuse (a `bool` of 2, a `String` that isn't UTF-8, a non-zero
 /// number of 0, a NaN, a set or map whose keys don't ascend), two fields or variants of one name, lists with a length whose
-/// elements and maps whose keys have no bytes, and values that nest more than 128 deep. The order of keys is known of numbers,
-/// `bool`, texts, and of tuples, arrays, lists, ordered sets and maps, and options of these, and not of structs and enums.
+/// elements and maps whose keys have no bytes, and values that nest more than 128 deep. The order of keys is told of numbers,
+/// `bool`, texts, and of tuples, arrays, lists, ordered sets and maps, and options of these; of structs, enums and others only
+/// that two are the same.
 ///
-/// Determined: after `Ok` the text is JSON that says these bytes, and in which keys ascend where their order is known, of the
+/// Determined: after `Ok` the text is JSON that says these bytes, and in which keys ascend as far as their order is told, of the
 /// characters of the style; a compact one is one line, without control characters; where any are allowed, it has no white space
-/// but that of its layout; with quoted numbers no whole number has more than eleven characters. So no other bytes have it, they
-/// are a member of the root ([`crate::text_determines_bytes`]), and [`crate::from_json`] gives them back, but for `OutOfMemory`,
+/// but that of its layout; with quoted numbers each whole number of 64 bits is a string. So no other bytes have it, they are a
+/// member of the root ([`crate::text_determines_bytes`]), and [`crate::from_json`] gives them back, but for `OutOfMemory`,
 /// `Ambiguous` and `TooDeep`. `NoMember` and `Ambiguous` are as of [`borsh_values::is_member`], and `NoValue` and `NotJson`
-/// aren't returned. After `Refused` they are a member with a part of this kind: `TooDeep`, a value inside of 128 others;
-/// `Descends`, a set or map of which two neighbours don't ascend in the known order of its keys; others, a value of the kind that
-/// the refusal names, which no JSON says. Left open: memory; which of such texts, and the paths of refusals: tested.
+/// aren't returned. After `Refused` they are a member, and the path leads from the root to a part of this kind: `TooDeep`, a value
+/// inside of 128 others; `Descends`, an element of a set or an entry of a map that isn't above the one before it, as far as the order
+/// of its keys is told; others, a value of the kind that the refusal names, which no JSON says. Left open: memory; which of such
+/// texts: tested.
 ///
 /// ```
 /// let text = to_json(alloc, "(u8, bool)", &definitions, &[7, 1], Style::COMPACT)?;
@@ -66,8 +68,8 @@ pub fn to_json<'a>(
     ensures line { style.layout ≡ Compact → IfOk result (λ text. All IsInLine (string_bytes text)) }
     ensures printed { style.characters ≡ Any →
         IfOk result (λ text. IsPrinted style.layout (string_bytes text)) }
-    ensures short { style.long_numbers ≡ Quoted →
-        IfOk result (λ text. HasShortNumbers (string_bytes text)) }
+    ensures quoted { let F = forms_in map.now in style.long_numbers ≡ Quoted →
+        IfOk result (λ text. HasQuotedNumbers F root.now (string_bytes text)) }
     ensures reason { IfErr result (λ e. IsNoJsonReason (definitions_in map.now) root.now bytes.now e) }
     ensures refused { IfErr result (λ e. ShowsNoJson (forms_in map.now) root.now bytes.now e) }
 {
@@ -85,8 +87,8 @@ impl<'a, 'l> Table<'a, 'l> {
         ensures line { style.layout ≡ Compact → IfOk result (λ text. All IsInLine (string_bytes text)) }
         ensures printed { style.characters ≡ Any →
             IfOk result (λ text. IsPrinted style.layout (string_bytes text)) }
-        ensures short { style.long_numbers ≡ Quoted →
-            IfOk result (λ text. HasShortNumbers (string_bytes text)) }
+        ensures quoted { let l = self.now.plan.now in style.long_numbers ≡ Quoted →
+            IfOk result (λ text. HasQuotedNumbers (forms_in (map_of l)) (root_of l) (string_bytes text)) }
         ensures reason { let l = self.now.plan.now in
             IfErr result (λ e. IsNoJsonReason (definitions_of l) (root_of l) bytes.now e) }
         ensures refused { let l = self.now.plan.now in
@@ -268,7 +270,7 @@ impl<'a, 'l, 'b> Writing<'a, 'l, 'b> {
     ) -> Result<(), JsonError<'a>>
         ensures part { let F = forms_of json.now in let ns = names_of json.now in
             (x : List ℕ) (f : Form) → IsAt ns at x → F x ≡ Some f →
-            IsKindOf F ns x f kind.entry → KindHasOrder F ns json.now.orders.items x kind.entry →
+            IsKindOf F ns x f kind.entry → KindHasOrder F ns x kind.entry →
             KindTellsOrder F x kind.entry → (HasNoBytes F x → ⊥) → HasNode kind.entry →
             IsAwaitingAt json.now self.old x → IsPartWritten json.now self.old self.new result }
         ensures bytes { self.new.bytes ≡ self.old.bytes }
@@ -285,7 +287,7 @@ impl<'a, 'l, 'b> Writing<'a, 'l, 'b> {
     }
 }
 
-/// How a list's parts ascend that are written one by one, where that is known.
+/// How a list's parts ascend that are written one by one, if they have to.
 fn order_of(kind: Kind<'_>) -> Option<Ordered>
     ensures list { IfSome result (λ order. (es : FoundElements) × (kind.entry ≡ FoundList es) × (es.order ≡ Some order)) }
     ensures all { (es : FoundElements) → kind.entry ≡ FoundList es → result ≡ es.order }
@@ -303,7 +305,8 @@ fn check_elements<'a>(
     node: &Node<'_, '_>,
 ) -> PartResult<'a, ()>
     ensures room { OnOk result ((es : FoundElements) → kind.entry ≡ FoundNumbers es → length position.now.outer.items < 128) }
-    ensures full { IfErr result (RefusesElements (length position.now.outer.items) kind.entry node.now) }
+    ensures full { let p = position.now in IfErr result (RefusesElements p.root.now
+        (steps_through p.outer.items ++ steps_at p.place) (length p.outer.items) kind.entry node.now) }
     ensures bytes { let f = form_of node.now.definition.now in
         OnOk result ((es : FoundElements) → kind.entry ≡ FoundBytes es → NoneFallsIn es f node.now.bytes.now) }
     ensures numbers { let f = form_of node.now.definition.now in

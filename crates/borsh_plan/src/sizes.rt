@@ -112,7 +112,7 @@ fn next_sizes(alloc: Global, names: &Names<'_>, sizes: &Vec<u64>) -> Result<Vec<
     Ok(found)
 }
 
-/// The sizes that are known of the names of a table.
+/// The sizes that are known of the names of a table. They pay in bench row `Vec<(u64, u64, u64)>`, `is_member`.
 pub fn free_sizes(alloc: Global, names: &Names<'_>) -> Result<Vec<u64>, AllocError>
     ensures { let C = definitions_in names.now.map.now in
         IfOk result (λ v. AreSizes (λ x. known_size C x) names.now.names.items v.items) }

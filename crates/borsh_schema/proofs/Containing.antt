@@ -5,16 +5,16 @@ use Rattle.std.specs.String.{string_cmp}
 use Rattle.std.proofs.lemmas.List.{length-map}
 use Rattle.borsh_walks.specs.declared.definition.Definition.{Definition}
 use Rattle.borsh_schema.specs.declared.container.BorshSchemaContainer.{BorshSchemaContainer}
-use Rattle.borsh_definitions.specs.Described.{NamedDefinition, DefinitionTree, definitions_by_name, nothing_defined}
+use Rattle.borsh_definitions.specs.Described.{Form, DefinitionTree, forms_in, nothing_defined}
 use Rattle.borsh_schema.specs.Joined.{AreConsistent, IsDefinedIn, IsUnion}
 use Rattle.borsh_schema.specs.Containers.{declaration_of, defined_in, map_of, IsContainerOf}
 use Rattle.borsh_schema.proofs.Laws.Sameness.{said_entry, SayTheSame, container_as, container_once}
 
 pub container_made : {name : List ℕ} {ps : DefinitionTree} (m n : BTreeMap (String Global) Definition) {d : String Global} (c : BorshSchemaContainer)
-    → definitions_by_name m ≡ nothing_defined → IsUnion (definitions_by_name m) ps (definitions_by_name n) → string_bytes d ≡ name → declaration_of c ≡ d → map_of c ≡ n → IsContainerOf name ps c
+    → forms_in m ≡ nothing_defined → IsUnion (forms_in m) ps (forms_in n) → string_bytes d ≡ name → declaration_of c ≡ d → map_of c ≡ n → IsContainerOf name ps c
 container_made {ps = ps} m n c e j f g h = record {
   root = ap string_bytes g ∙ f;
-  definitions = subst (λ a. IsUnion a ps (definitions_by_name (map_of c))) e (subst (λ k. IsUnion (definitions_by_name m) ps (definitions_by_name k)) (sym h) j);
+  definitions = subst (λ a. IsUnion a ps (forms_in (map_of c))) e (subst (λ k. IsUnion (forms_in m) ps (forms_in k)) (sym h) j);
 }
 
 -- two containers by ascending name are compared, first by how many definitions they have
@@ -28,7 +28,7 @@ module _ {name : List ℕ} {ps : DefinitionTree} (own sent : BorshSchemaContaine
 
 -- a type that has a container gives no name two definitions
 module _ {name : List ℕ} {ps : DefinitionTree} (c : BorshSchemaContainer) (is : IsContainerOf name ps c) where
-  has : (n : List ℕ) (d : NamedDefinition) → IsDefinedIn nothing_defined ps n d → defined_in c n ≡ Some d
+  has : (n : List ℕ) (d : Form) → IsDefinedIn nothing_defined ps n d → defined_in c n ≡ Some d
   has n d (inl h) = absurd (cc)
   has n d (inr h) = is.definitions.has n d h
 

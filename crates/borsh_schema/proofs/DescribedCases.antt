@@ -7,7 +7,7 @@ use Rattle.borsh_enums.specs.Cases.{fork, fork_view}
 use Rattle.borsh_enums.specs.declared.cases.Fork.{Fork}
 use Rattle.borsh_enums.specs.declared.cases.TagOf.{TagOf}
 use Rattle.borsh_walks.specs.Container.{Shape, product, choice, IsListedVariant, first_variant, later_variant}
-use Rattle.borsh_definitions.specs.Described.{NamedDefinition, shape, variants, DefinitionTree, defined, both}
+use Rattle.borsh_definitions.specs.Described.{Form, shape_of_form, choice, DefinitionTree, defined, both}
 use Rattle.borsh_definitions.specs.Language.{Holds, Describes, DescribesChoice, DescribedCodec, DescribedFields}
 use Rattle.borsh_definitions.proofs.Laws.Members.{describes_contramap, describes_parts, describes_choice, choice_tag, choice_either}
 
@@ -59,7 +59,7 @@ pub record DescribedCases (A : Type 0) (vs ws : List Row) (ps : DefinitionTree) 
   pub cases : (C : List ℕ → Option Shape) → Holds C ps → CasesIn C codec (listed vs) (listed ws)
 
 -- a variant: its fields, seen through a view, behind a tag
-abbrev pub case_described : {A B : Type 0} {k : ℕ} {name n : List ℕ} {d : NamedDefinition} {vs : List Row} (view : B → A) (fields : DescribedFields A) → shape d ≡ product fields.names → nat_lt k 256 ≡ true
+abbrev pub case_described : {A B : Type 0} {k : ℕ} {name n : List ℕ} {d : Form} {vs : List Row} (view : B → A) (fields : DescribedFields A) → shape_of_form d ≡ product fields.names → nat_lt k 256 ≡ true
     → DescribedCases (TagOf k × B) ((pos k, name, n) ∷ vs) vs (defined n d fields.parts)
 case_described {k = k} view fields e t = record {
   codec = contramap (λ v. v.1) (behind_tag k (contramap view fields.codec));
@@ -71,7 +71,7 @@ abbrev pub fork_described : {A B : Type 0} {us vs ws : List Row} {ps qs : Defini
 fork_described d e = record { codec = fork d.codec e.codec; cases = λ C h. fork_in (d.cases C h.0) (e.cases C h.1) }
 
 -- an enum, whose variants these are
-abbrev pub enum_described : {S A : Type 0} {name : List ℕ} {vs : List Row} {ps : DefinitionTree} → (S → A) → DescribedCases A vs [] ps → DescribedCodec S name (defined name (variants 1 vs) ps)
+abbrev pub enum_described : {S A : Type 0} {name : List ℕ} {vs : List Row} {ps : DefinitionTree} → (S → A) → DescribedCases A vs [] ps → DescribedCodec S name (defined name (choice 1 vs) ps)
 enum_described view d = record {
   codec = contramap view d.codec;
   describes = λ C h. describes_enum view h.0 (d.cases C h.1);

@@ -5,7 +5,7 @@ use Rattle.std.specs.Result.{IsErrAnd}
 use Rattle.std.proofs.lemmas.Result.{err_from_is_err_and, on_ok_weaker, IfErr-weaker}
 use Rattle.borsh_walks.specs.declared.definition.Definition.{Definition}
 use Rattle.borsh_schema.specs.declared.definitions.SchemaBuildError.{SchemaBuildError}
-use Rattle.borsh_definitions.specs.Described.{NamedDefinition, DefinitionTree, none, defined, both}
+use Rattle.borsh_definitions.specs.Described.{Form, DefinitionTree, none, defined, both}
 use Rattle.borsh_schema.specs.Joined.{AddsDefinitions}
 use Rattle.borsh_schema.proofs.Laws.Joining.{joined_then, joined_defined, not_joined_first, not_joined_then, not_joined_defined}
 
@@ -27,5 +27,5 @@ adds_then {r = r} p q = record {
 }
 
 -- a definition and then the parts are the definition with its parts
-pub adds_defined : {a b : Map} {n : List ℕ} {d : NamedDefinition} {ps : DefinitionTree} {r : Result (Unit {0}) SchemaBuildError} → AddsDefinitions a b (both (defined n d none) ps) r → AddsDefinitions a b (defined n d ps) r
+pub adds_defined : {a b : Map} {n : List ℕ} {d : Form} {ps : DefinitionTree} {r : Result (Unit {0}) SchemaBuildError} → AddsDefinitions a b (both (defined n d none) ps) r → AddsDefinitions a b (defined n d ps) r
 adds_defined {r = r} q = record { ok = on_ok_weaker r joined_defined q.ok; err = IfErr-weaker r _ _ (λ e h. not_joined_defined h) q.err }

@@ -10,7 +10,7 @@ use Rattle.borsh_walks.specs.Definitions.{definitions_in}
 use Rattle.borsh_walks.specs.declared.definition.Definition.{Definition}
 use Rattle.borsh_schema.specs.declared.container.BorshSchemaContainer.{BorshSchemaContainer}
 use Rattle.borsh_schema.specs.declared.container.Definitions.{Definitions}
-use Rattle.borsh_definitions.specs.Described.{DefinitionMap, definitions_by_name, nothing_defined, DefinitionTree}
+use Rattle.borsh_definitions.specs.Described.{DefinitionMap, forms_in, nothing_defined, DefinitionTree}
 use Rattle.borsh_schema.specs.Joined.{IsUnion}
 
 -- the root
@@ -35,7 +35,7 @@ ReplacesDefinition old new name d = (n : List ℕ) → definition_of new n ≡ u
 
 -- the definitions, as a function of the name
 abbrev pub defined_in : BorshSchemaContainer → DefinitionMap
-defined_in c = definitions_by_name (map_of c)
+defined_in c = forms_in (map_of c)
 
 -- the same, as the walks and the language see them
 abbrev pub language_of : BorshSchemaContainer → List ℕ → Option Shape

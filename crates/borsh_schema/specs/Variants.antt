@@ -1,7 +1,7 @@
 -- What an enum brings: its own definition, and one for the fields of each variant.
 use Rattle.std.specs.Prelude.{ℕ, ℤ, pos, List, [], ◌∷◌, ◌++◌, map}
 use Rattle.std.specs.Borrow.{Bor}
-use Rattle.borsh_definitions.specs.Described.{NamedDefinition, variants, named, unnamed, no_fields, DefinitionTree, none, defined, both}
+use Rattle.borsh_definitions.specs.Described.{Form, choice, named, unnamed, no_fields, DefinitionTree, none, defined, both}
 use Rattle.borsh_definitions.specs.Names.{texts, beside}
 pub use Rattle.borsh_definitions.specs.Names.{name_with, variant_type}
 
@@ -14,7 +14,7 @@ abbrev pub row_names : List (Bor (List ℕ) × Bor (List (Bor (List ℕ)))) → 
 row_names rows = map (λ r. (r.0.now, texts r.1.now)) rows
 
 -- fields of these names and types; those without names are unnamed
-abbrev pub variant_fields : List (List ℕ) → List (List ℕ) → NamedDefinition
+abbrev pub variant_fields : List (List ℕ) → List (List ℕ) → Form
 variant_fields [] [] = no_fields
 variant_fields [] (t ∷ ts) = unnamed (t ∷ ts)
 variant_fields (f ∷ fs) ts = named (beside (f ∷ fs) ts)
@@ -58,7 +58,7 @@ read_fork first second enum vs = record {
 
 -- an enum of this name, with a tag of one byte, whose variants have these names; `whole` is its name with parameters
 abbrev pub enum_definitions_as : List ℕ → List ℕ → List VariantNames → ReadsVariants → DefinitionTree
-enum_definitions_as whole name vs read = defined whole (variants 1 (read name vs).rows) (read name vs).parts
+enum_definitions_as whole name vs read = defined whole (choice 1 (read name vs).rows) (read name vs).parts
 
 abbrev pub enum_definitions : List ℕ → List VariantNames → ReadsVariants → DefinitionTree
 enum_definitions name = enum_definitions_as name name

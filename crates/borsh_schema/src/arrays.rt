@@ -1,5 +1,5 @@
 // Arrays: their elements in order, with no count.
-ghost use Rattle.borsh_definitions.specs.Described.{defined, list, both, none};
+ghost use Rattle.borsh_definitions.specs.Described.{defined, sequence, both, none};
 ghost use Rattle.borsh_definitions.proofs.Laws.Members.{describes_row};
 ghost use Rattle.borsh_definitions.specs.Names.{array_name};
 ghost use Rattle.borsh_definitions.proofs.Laws.Quoted.{array_described};
@@ -13,7 +13,7 @@ use std::alloc::Global;
 impl<T: BorshSchema, const N: usize> BorshSchema for [T; N] {
     ghost name = { array_name T.name N };
 
-    ghost parts = { defined (array_name T.name N) (list 0 N N T.name) (both T.parts none) };
+    ghost parts = { defined (array_name T.name N) (sequence 0 N N T.name) (both T.parts none) };
 
     ghost described = { array_described N T.described };
 

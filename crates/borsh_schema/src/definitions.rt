@@ -2,7 +2,7 @@
 ghost use Rattle.std.specs.Prelude.{◌≡◌, Decides, IfErr};
 ghost use Rattle.std.specs.BTreeMap.{IsUnchanged};
 ghost use Rattle.borsh_schema.specs.declared.definitions.SchemaBuildError.TheVariants.{OutOfMemory};
-ghost use Rattle.borsh_definitions.specs.Described.{named_definition, none};
+ghost use Rattle.borsh_definitions.specs.Described.{form_of, none};
 ghost use Rattle.borsh_schema.specs.Errors.{size_error};
 ghost use Rattle.borsh_schema.specs.Joined.{AddsDefinitions, AnswersKnown, definition_with};
 
@@ -71,7 +71,7 @@ impl From<SchemaBuildError> for SchemaMaxSerializedSizeError {
 
 // Whether two definitions are equal, names and all.
 fn says_the_same(known: &Definition, given: &Definition) -> bool
-    ensures { Decides result (named_definition known.now ≡ named_definition given.now) }
+    ensures { Decides result (form_of known.now ≡ form_of given.now) }
 {
     known == given
 }

@@ -2,7 +2,7 @@
 ghost use Rattle.std.specs.Prelude.{◌≡◌, ◌++◌, IfOk, IfErr, OnOk, map, string_bytes};
 ghost use Rattle.std.specs.Slice.Iter.{iter_rest};
 ghost use Rattle.borsh_schema.specs.declared.definitions.SchemaBuildError.TheVariants.{OutOfMemory};
-ghost use Rattle.borsh_definitions.specs.Described.{defined, named_fields, variant_bytes};
+ghost use Rattle.borsh_definitions.specs.Described.{defined, form_of_struct, variant_bytes};
 ghost use Rattle.borsh_schema.specs.Joined.{AddsDefinitions};
 ghost use Rattle.borsh_definitions.specs.Names.{texts};
 ghost use Rattle.borsh_schema.specs.Variants.{ReadsVariants, enum_definitions, enum_definitions_as, name_with, read_case, read_case_with, read_fork, variant_fields, row_names, variant_type};
@@ -146,7 +146,7 @@ impl<A: VariantTypes, B: VariantTypes> VariantTypes for Fork<A, B> {
 
 // Fields of these names, or without names where there are none, and of the types `P`.
 fn fields_of<P: FieldTypes>(alloc: Global, names: &[&str]) -> SchemaResult<Fields>
-    ensures ok { IfOk result (λ f. named_fields f ≡ variant_fields (texts names.now) P.described.names) }
+    ensures ok { IfOk result (λ f. form_of_struct f ≡ variant_fields (texts names.now) P.described.names) }
     ensures err { IfErr result (λ e. e ≡ OutOfMemory) }
 {
     if names.is_empty() {

@@ -4,7 +4,7 @@ use Rattle.std.specs.Prelude.{slice_get, string_bytes, option_map}
 use Rattle.std.specs.Map.{lookup}
 use Rattle.std.specs.Cmp.Lexicographic.{slice_cmp}
 use Rattle.std.specs.Ordering.{nat_cmp, is_eq}
-use Rattle.borsh_definitions.specs.Described.{NamedDefinition, DefinitionMap, definitions_by_name, named_definition}
+use Rattle.borsh_definitions.specs.Described.{Form, DefinitionMap, forms_in, form_of}
 use Rattle.std.specs.BTreeMap.{BTreeMap}
 use Rattle.borsh_walks.specs.declared.definition.Definition.{Definition}
 use Rattle.borsh_source.specs.Lists.{IsListed, AreListed}
@@ -22,11 +22,11 @@ pub record Collected (S : Source) (root : ℕ) (name : List ℕ) (D : Definition
   pub entries : List Entry
   pub uses : List Used
   pub means : Means S [] [] root name entries uses
-  pub there : (n : List ℕ) (d : NamedDefinition) → IsListed (n, d) entries → D n ≡ Some d
+  pub there : (n : List ℕ) (d : Form) → IsListed (n, d) entries → D n ≡ Some d
   pub used : AreListed uses all
   pub led : (u : Used) → IsListed u all → Leads S root u
   pub defined : (i : ℕ) (u : Used) → slice_get all i ≡ Some u → i < next → IsPresent S D all u
-  pub only : (n : List ℕ) (d : NamedDefinition) → D n ≡ Some d → IsBrought S root (n, d)
+  pub only : (n : List ℕ) (d : Form) → D n ≡ Some d → IsBrought S root (n, d)
 
 pub collected_first : (S : Source) (root : ℕ) (name : List ℕ) {d e : DefinitionMap} {u v : List Used} → ((n : List ℕ) → d n ≡ None) → u ≡ [] → Brought (Means S [] [] root name) d e u v → Collected S root name e v 0
 collected_first S root name nothing q p = record {
@@ -128,5 +128,5 @@ pub means_outside : {S : Source} {root : ℕ} {name : List ℕ} {a b : Definitio
 means_outside {S = S} {root = root} {name = name} {a = a} {b = b} {u = u} {v = v} ps gs p q h = subst (λ z. Brought (Means S [] z root name) a b u v) q (subst (λ z. Brought (Means S z gs root name) a b u v) p h)
 
 -- an empty map
-pub nothing_in : (m : BTreeMap (String Global) Definition) → m.entries ≡ [] → (n : List ℕ) → definitions_by_name m n ≡ None
-nothing_in m e n = ap (λ es. option_map named_definition (lookup (λ k. is_eq (slice_cmp nat_cmp n (string_bytes k))) es)) e
+pub nothing_in : (m : BTreeMap (String Global) Definition) → m.entries ≡ [] → (n : List ℕ) → forms_in m n ≡ None
+nothing_in m e n = ap (λ es. option_map form_of (lookup (λ k. is_eq (slice_cmp nat_cmp n (string_bytes k))) es)) e

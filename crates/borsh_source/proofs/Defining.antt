@@ -2,7 +2,7 @@
 use Rattle.std.proofs.Common.{◌≡◌, ℕ, ◌+◌, ◌<◌, ℤ, pos, List, [], ◌∷◌, ◌++◌, take, Some, sym, ◌∙◌, ap, subst, Bool, Vec, String, Global}
 use Rattle.std.specs.Prelude.{slice_get, string_bytes, Option}
 use Rattle.std.proofs.lemmas.List.{append-nil}
-use Rattle.borsh_definitions.specs.Described.{DefinitionMap, NamedDefinition, variants}
+use Rattle.borsh_definitions.specs.Described.{DefinitionMap, Form, choice}
 use Rattle.borsh_source.specs.Views.{Stands, Used, named}
 use Rattle.borsh_source.specs.Forms.{Entry}
 use Rattle.borsh_source.specs.Reading.{fields_in}
@@ -22,7 +22,7 @@ ends : {A B : Type 0} (P : List A → List B → Type 0) (ds es fs : List A) (us
 ends P ds es fs us vs p q h = subst (λ l. P (ds ++ es) l) (sym (ap (λ l. us ++ l) q ∙ append-nil us)) (subst (λ l. P (ds ++ l) us) (sym p) h)
 
 module _ (S : Source) (ps : List Parameter) (gs : List Stands) where
-  pub fields_brought : {a b c : DefinitionMap} {u v w : List Used} (ts : List ℕ) (ns : List (List ℕ)) (x : List ℕ) (fs : Fields) (f : NamedDefinition) (entries : List Entry) → ts ≡ kept_types (fields_in fs) → f ≡ fields_definition ns fs → entries ≡ (x, f) ∷ [] → Brought (MeansAll S ps gs ts ns) a b u v → Brought (AreThese entries []) b c v w → Brought (FieldsBring S ps gs x fs) a c u w
+  pub fields_brought : {a b c : DefinitionMap} {u v w : List Used} (ts : List ℕ) (ns : List (List ℕ)) (x : List ℕ) (fs : Fields) (f : Form) (entries : List Entry) → ts ≡ kept_types (fields_in fs) → f ≡ fields_definition ns fs → entries ≡ (x, f) ∷ [] → Brought (MeansAll S ps gs ts ns) a b u v → Brought (AreThese entries []) b c v w → Brought (FieldsBring S ps gs x fs) a c u w
   fields_brought ts ns x fs f entries e g r p q = brought_then p q (λ ds es us vs m k.
       ends (FieldsBring S ps gs x fs) ds es ((x, fields_definition ns fs) ∷ []) us vs (k.0 ∙ r ∙ ap (λ z. (x, z) ∷ []) g) k.1 (of_fields (subst (λ l. MeansAll S ps gs l ns ds us) e m)))
 
@@ -46,10 +46,10 @@ module _ (S : Source) (t : Used) (item : Item) (at : slice_get S.items.items t.i
   pub struct_brought : {a c : DefinitionMap} {u w : List Used} (x : List ℕ) (fs : Fields) → item.kind ≡ Struct fs → x ≡ name_given (string_bytes item.name) t.given → Brought (FieldsBring S ps gs x fs) a c u w → Brought (Defines S t) a c u w
   struct_brought x fs k e p = brought_as p (λ ds us m. of_struct at k (subst (λ z. FieldsBring S item.parameters.items (given_within item t) z fs ds us) e (subst (λ l. FieldsBring S l (given_within item t) x fs ds us) same (subst (λ l. FieldsBring S ps l x fs ds us) given m))))
 
-  pub enum_brought : {a b c : DefinitionMap} {u v w : List Used} (x name : List ℕ) (d : Option Bool) (vs : Vec Variant Global) (us : List Variant) (rows : List (ℤ × List ℕ × List ℕ)) (explicit : Bool) (entries : List Entry) → item.kind ≡ Enum d vs → us ≡ vs.items → AreTagsDecided d us → explicit ≡ is_explicit d → x ≡ name_given (string_bytes item.name) t.given → name ≡ string_bytes item.name → entries ≡ (x, variants 1 rows) ∷ [] → Brought (SomeVariantsBring S ps gs name explicit us rows) a b u v → Brought (AreThese entries []) b c v w → Brought (Defines S t) a c u w
+  pub enum_brought : {a b c : DefinitionMap} {u v w : List Used} (x name : List ℕ) (d : Option Bool) (vs : Vec Variant Global) (us : List Variant) (rows : List (ℤ × List ℕ × List ℕ)) (explicit : Bool) (entries : List Entry) → item.kind ≡ Enum d vs → us ≡ vs.items → AreTagsDecided d us → explicit ≡ is_explicit d → x ≡ name_given (string_bytes item.name) t.given → name ≡ string_bytes item.name → entries ≡ (x, choice 1 rows) ∷ [] → Brought (SomeVariantsBring S ps gs name explicit us rows) a b u v → Brought (AreThese entries []) b c v w → Brought (Defines S t) a c u w
   enum_brought x name d vs us rows explicit entries k f decided e n g r p q = brought_then p q (λ ds es ws qs m h.
       let V = λ (as_ps : List Parameter) (as_gs : List Stands) (y : List ℕ) (z : Bool) (l : List Variant). VariantsBring S as_ps as_gs y z l rows m.0 ds ws in
-      ends (Defines S t) ds es ((name_given (string_bytes item.name) t.given, variants 1 rows) ∷ []) ws qs (h.0 ∙ r ∙ ap (λ z. (z, variants 1 rows) ∷ []) n) h.1
+      ends (Defines S t) ds es ((name_given (string_bytes item.name) t.given, choice 1 rows) ∷ []) ws qs (h.0 ∙ r ∙ ap (λ z. (z, choice 1 rows) ∷ []) n) h.1
       (of_enum at k (subst (λ l. AreTagsDecided d l) f decided)
       (subst (λ l. V l (given_within item t) (string_bytes item.name) (is_explicit d) vs.items) same
       (subst (λ l. V ps l (string_bytes item.name) (is_explicit d) vs.items) given

@@ -5,7 +5,7 @@ use Rattle.borsh_walks.specs.Definitions.{definitions_in as shapes_in}
 use Rattle.borsh_walks.specs.RulesAnswer.{RulesFault}
 use Rattle.borsh_walks.specs.Errors.{broken_rule}
 use Rattle.borsh_walks.specs.declared.error.SchemaContainerValidateError.{SchemaContainerValidateError}
-use Rattle.borsh_definitions.specs.Described.{NamedDefinition, DefinitionMap, definitions_by_name}
+use Rattle.borsh_definitions.specs.Described.{Form, DefinitionMap, forms_in}
 use Rattle.borsh_source.specs.Lists.{IsListed, AreListed}
 use Rattle.borsh_source.specs.Views.{Used, used}
 use Rattle.borsh_source.specs.Forms.{Entry}
@@ -21,9 +21,9 @@ use Rattle.borsh_source.specs.declared.error.Cause.TheVariants.{Rule}
 
 -- the new definitions are the old ones and these
 pub record Adds (old new : DefinitionMap) (es : List Entry) : Type 0 where
-  pub keeps : (n : List ℕ) (d : NamedDefinition) → old n ≡ Some d → new n ≡ Some d
-  pub has : (n : List ℕ) (d : NamedDefinition) → IsListed (n, d) es → new n ≡ Some d
-  pub only : (n : List ℕ) (d : NamedDefinition) → new n ≡ Some d → (old n ≡ Some d) ⊎ IsListed (n, d) es
+  pub keeps : (n : List ℕ) (d : Form) → old n ≡ Some d → new n ≡ Some d
+  pub has : (n : List ℕ) (d : Form) → IsListed (n, d) es → new n ≡ Some d
+  pub only : (n : List ℕ) (d : Form) → new n ≡ Some d → (old n ≡ Some d) ⊎ IsListed (n, d) es
 
 -- the new list is the old one, and these items where it lacked them
 pub record Notes (old new : List Used) (us : List Used) : Type 0 where
@@ -40,7 +40,7 @@ pub record Brought (Meant : List Entry → List Used → Type 0) (d0 d1 : Defini
   pub notes : Notes u0 u1 uses
 
 abbrev pub definitions_so_far : Output → DefinitionMap
-definitions_so_far o = definitions_by_name o.definitions
+definitions_so_far o = forms_in o.definitions
 
 abbrev pub uses_in : Output → List Used
 uses_in o = map used o.uses.items
@@ -69,7 +69,7 @@ pub record IsPresent (S : Source) (D : DefinitionMap) (all : List Used) (u : Use
   pub entries : List Entry
   pub uses : List Used
   pub defines : Defines S u entries uses
-  pub there : (n : List ℕ) (d : NamedDefinition) → IsListed (n, d) entries → D n ≡ Some d
+  pub there : (n : List ℕ) (d : Form) → IsListed (n, d) entries → D n ≡ Some d
   pub used : AreListed uses all
 
 -- a definition is one that the type brings, or an item to which it leads
@@ -83,14 +83,14 @@ pub record IsMeaning (S : Source) (root : ℕ) (name : List ℕ) (D : Definition
   pub entries : List Entry
   pub uses : List Used
   pub means : Means S [] [] root name entries uses
-  pub there : (n : List ℕ) (d : NamedDefinition) → IsListed (n, d) entries → D n ≡ Some d
+  pub there : (n : List ℕ) (d : Form) → IsListed (n, d) entries → D n ≡ Some d
   -- the items to which it leads
   pub all : List Used
   pub used : AreListed uses all
   pub led : (u : Used) → IsListed u all → Leads S root u
   pub defined : (u : Used) → IsListed u all → IsPresent S D all u
   -- and nothing else
-  pub only : (n : List ℕ) (d : NamedDefinition) → D n ≡ Some d → IsBrought S root (n, d)
+  pub only : (n : List ℕ) (d : Form) → D n ≡ Some d → IsBrought S root (n, d)
 
 -- ---- refusals
 
@@ -102,7 +102,7 @@ SaysFault f OutOfMemory = Unit {0}
 -- the error says a rule of the format that the container of the type breaks
 pub record IsBroken (S : Source) (root : ℕ) (e : CompileError) : Type 0 where
   pub container : Compiled
-  pub is : IsMeaning S root (string_bytes container.declaration) (definitions_by_name container.definitions)
+  pub is : IsMeaning S root (string_bytes container.declaration) (forms_in container.definitions)
   pub fault : SchemaContainerValidateError
   pub broken : RulesFault (shapes_in container.definitions) (string_bytes container.declaration) fault
   pub says : SaysFault fault e

@@ -2,7 +2,7 @@
 use Rattle.std.specs.Prelude.{◌≡◌, ℕ, pos, List, [], ◌∷◌, ◌++◌, map, Option, Some, None, IfSome, option_map, codes, String, string_bytes}
 use Rattle.std.specs.Global.{Global}
 use Rattle.borsh_walks.specs.declared.definition.Definition.{Definition}
-use Rattle.borsh_definitions.specs.Described.{NamedDefinition, bytes, list, tuple, variants, named, unnamed, no_fields, named_definition}
+use Rattle.borsh_definitions.specs.Described.{Form, primitive, sequence, tuple, choice, named, unnamed, no_fields, form_of}
 use Rattle.borsh_definitions.specs.Names.{applied, applied_to_two, tuple_name, array_name}
 use Rattle.borsh_definitions.specs.Types.{list_of, option_of, result_of, range_of, range_from, range_to}
 use Rattle.borsh_definitions.specs.Addresses.{octets_of}
@@ -11,31 +11,31 @@ use Rattle.borsh_source.specs.declared.formats.Kind.TheVariants.{Bytes, Text, Oc
 
 -- a name with its definition
 abbrev pub Entry : Type 0
-Entry = List ℕ × NamedDefinition
+Entry = List ℕ × Form
 
 -- a type: its name, and the definitions that it has beside those of its arguments
 abbrev pub Formed : Type 0
 Formed = List ℕ × List Entry
 
 -- a type with its own definition alone
-abbrev pub alone : List ℕ → NamedDefinition → Option Formed
+abbrev pub alone : List ℕ → Form → Option Formed
 alone n d = Some (n, (n, d) ∷ [])
 
 -- so many bytes in an array
 abbrev pub octets_entries : ℕ → List Entry
-octets_entries n = (array_name (codes "u8") n, list 0 n n (codes "u8")) ∷ (codes "u8", bytes 1) ∷ []
+octets_entries n = (array_name (codes "u8") n, sequence 0 n n (codes "u8")) ∷ (codes "u8", primitive 1) ∷ []
 
 -- an address of so many bytes
 abbrev pub address_entries : List ℕ → ℕ → List Entry
 address_entries name n = (name, octets_of n) ∷ octets_entries n
 
 -- an enum of two variants: tag, name and type of each
-abbrev pub variants_of_two : ℕ × List ℕ × List ℕ → ℕ × List ℕ × List ℕ → NamedDefinition
-variants_of_two a b = variants 1 ((pos a.0, a.1, a.2) ∷ (pos b.0, b.1, b.2) ∷ [])
+abbrev pub variants_of_two : ℕ × List ℕ × List ℕ → ℕ × List ℕ × List ℕ → Form
+variants_of_two a b = choice 1 ((pos a.0, a.1, a.2) ∷ (pos b.0, b.1, b.2) ∷ [])
 
 -- tag 0 or 1 by the kind of address, and what has the name of that kind
-abbrev pub either_of : List ℕ → List ℕ → NamedDefinition
-either_of v4 v6 = variants 1 ((pos 0, codes "V4", v4) ∷ (pos 1, codes "V6", v6) ∷ [])
+abbrev pub either_of : List ℕ → List ℕ → Form
+either_of v4 v6 = choice 1 ((pos 0, codes "V4", v4) ∷ (pos 1, codes "V6", v6) ∷ [])
 
 -- an enum of both, the name of each variant and of what it holds
 abbrev pub either_entries : List ℕ → List ℕ × List ℕ → List ℕ × List ℕ → List Entry
@@ -47,11 +47,11 @@ ip_entries =
     ++ (address_entries (codes "Ipv4Addr") 4 ++ address_entries (codes "Ipv6Addr") 16)
 
 -- an address and a port
-abbrev pub with_port : List ℕ → NamedDefinition
+abbrev pub with_port : List ℕ → Form
 with_port address = named ((codes "ip", address) ∷ (codes "port", codes "u16") ∷ [])
 
 abbrev pub port_entries : List ℕ → List ℕ → ℕ → List Entry
-port_entries name address n = (name, with_port address) ∷ (codes "u16", bytes 2) ∷ address_entries address n
+port_entries name address n = (name, with_port address) ∷ (codes "u16", primitive 2) ∷ address_entries address n
 
 abbrev pub socket_entries : List Entry
 socket_entries =
@@ -59,8 +59,8 @@ socket_entries =
     ++ (port_entries (codes "SocketAddrV4") (codes "Ipv4Addr") 4 ++ port_entries (codes "SocketAddrV6") (codes "Ipv6Addr") 16)
 
 -- the definition of a tuple, of which the empty one has no bytes
-abbrev pub tuple_of : List (List ℕ) → NamedDefinition
-tuple_of [] = bytes 0
+abbrev pub tuple_of : List (List ℕ) → Form
+tuple_of [] = primitive 0
 tuple_of (n ∷ ns) = tuple (n ∷ ns)
 
 abbrev pub form_tuple : List (List ℕ) → Option Formed
@@ -68,10 +68,10 @@ form_tuple ns = alone (tuple_name ns) (tuple_of ns)
 
 -- a type without arguments
 abbrev pub form_alone : List ℕ → Kind → Option Formed
-form_alone stem (Bytes w) = alone stem (bytes w)
-form_alone stem Text = Some (codes "String", (codes "String", list_of (codes "u8")) ∷ (codes "u8", bytes 1) ∷ [])
-form_alone stem Octets = Some (codes "Vec<u8>", (codes "Vec<u8>", list_of (codes "u8")) ∷ (codes "u8", bytes 1) ∷ [])
-form_alone stem Phantom = alone (codes "()") (bytes 0)
+form_alone stem (Bytes w) = alone stem (primitive w)
+form_alone stem Text = Some (codes "String", (codes "String", list_of (codes "u8")) ∷ (codes "u8", primitive 1) ∷ [])
+form_alone stem Octets = Some (codes "Vec<u8>", (codes "Vec<u8>", list_of (codes "u8")) ∷ (codes "u8", primitive 1) ∷ [])
+form_alone stem Phantom = alone (codes "()") (primitive 0)
 form_alone stem RangeFull = alone (codes "RangeFull") no_fields
 form_alone stem Ipv4Addr = Some (stem, address_entries (codes "Ipv4Addr") 4)
 form_alone stem Ipv6Addr = Some (stem, address_entries (codes "Ipv6Addr") 16)
@@ -87,7 +87,7 @@ abbrev pub name_of_one : List ℕ → List ℕ → List ℕ
 name_of_one stem n = stem ++ applied (codes "<") n
 
 -- the definition of a type with one argument that its name is made of
-abbrev pub definition_of_one : Kind → List ℕ → Option NamedDefinition
+abbrev pub definition_of_one : Kind → List ℕ → Option Form
 definition_of_one ListKind n = Some (list_of n)
 definition_of_one OptionKind n = Some (option_of n)
 definition_of_one Range n = Some (range_of n)
@@ -106,9 +106,9 @@ after e f = option_map (λ f. (f.0, e ∷ f.1)) f
 -- a type with one argument
 abbrev pub form_one : List ℕ → Kind → List ℕ → Option Formed
 form_one stem Through n = Some (n, [])
-form_one stem OptionKind n = after (codes "()", bytes 0) (form_applied stem OptionKind n)
+form_one stem OptionKind n = after (codes "()", primitive 0) (form_applied stem OptionKind n)
 form_one stem Tuple n = form_tuple (n ∷ [])
-form_one stem (Array k) n = alone (array_name n k) (list 0 k k n)
+form_one stem (Array k) n = alone (array_name n k) (sequence 0 k k n)
 form_one stem kind n = form_applied stem kind n
 
 -- the name of a type with two arguments
@@ -132,7 +132,7 @@ form stem kind (n ∷ m ∷ ns) = form_two stem kind (n ∷ m ∷ ns)
 
 -- a name with its definition
 abbrev pub entry : String Global × Definition → Entry
-entry e = (string_bytes e.0, named_definition e.1)
+entry e = (string_bytes e.0, form_of e.1)
 
 -- definitions were put at the end of a list
 abbrev pub Appends : List (String Global × Definition) → List (String Global × Definition) → List Entry → Type 0

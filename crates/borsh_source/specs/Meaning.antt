@@ -1,7 +1,7 @@
 -- What written types and items mean: a name, the definitions that it brings, and the items that are used.
 use Rattle.std.specs.Prelude.{◌≡◌, ℕ, ◌+◌, ◌<◌, ◌≤◌, pos, ℤ, List, [], ◌∷◌, ◌++◌, length, take, Option, Some, None, Bool, true, false, cond, codes, string_bytes, slice_get, String, Vec}
 use Rattle.std.specs.Global.{Global}
-use Rattle.borsh_definitions.specs.Described.{NamedDefinition, variants, named as named_fields, unnamed as unnamed_fields, no_fields}
+use Rattle.borsh_definitions.specs.Described.{Form, choice, named as named_fields, unnamed as unnamed_fields, no_fields}
 use Rattle.borsh_definitions.specs.Names.{name_with, variant_type, beside}
 use Rattle.borsh_source.specs.Views.{Stands, unread, named, number, Used, given_of, IsItem, IsNoItem}
 use Rattle.borsh_source.specs.Numbers.{Evaluates, IsNumber}
@@ -120,12 +120,12 @@ kept_names [] = []
 kept_names (f ∷ fs) = cond f.skipped (kept_names fs) (string_bytes f.name ∷ kept_names fs)
 
 -- the definition of fields whose types have these names
-abbrev pub some_definition : Fields → List (List ℕ) → NamedDefinition
+abbrev pub some_definition : Fields → List (List ℕ) → Form
 some_definition (Named fs) ns = named_fields (beside (kept_names fs.items) ns)
 some_definition (Unnamed fs) ns = unnamed_fields ns
 some_definition Empty ns = unnamed_fields ns
 
-abbrev pub fields_definition : List (List ℕ) → Fields → NamedDefinition
+abbrev pub fields_definition : List (List ℕ) → Fields → Form
 fields_definition [] fs = no_fields
 fields_definition (n ∷ ns) fs = some_definition fs (n ∷ ns)
 
@@ -184,4 +184,4 @@ given_within item u = u.given ++ named (name_given (string_bytes item.name) u.gi
 -- an item that is used brings its definitions, and what its types bring
 pub data Defines (S : Source) (u : Used) : List Entry → List Used → Type 0 where
   of_struct : {item : Item} {fs : Fields} {ds : List Entry} {us : List Used} → slice_get S.items.items u.item ≡ Some item → item.kind ≡ Struct fs → FieldsBring S item.parameters.items (given_within item u) (name_given (string_bytes item.name) u.given) fs ds us → Defines S u ds us
-  of_enum : {item : Item} {d : Option Bool} {vs : Vec Variant Global} {rows : List (ℤ × List ℕ × List ℕ)} {next : ℕ} {ds : List Entry} {us : List Used} → slice_get S.items.items u.item ≡ Some item → item.kind ≡ Enum d vs → AreTagsDecided d vs.items → VariantsBring S item.parameters.items (given_within item u) (string_bytes item.name) (is_explicit d) vs.items rows next ds us → Defines S u (ds ++ (name_given (string_bytes item.name) u.given, variants 1 rows) ∷ []) us
+  of_enum : {item : Item} {d : Option Bool} {vs : Vec Variant Global} {rows : List (ℤ × List ℕ × List ℕ)} {next : ℕ} {ds : List Entry} {us : List Used} → slice_get S.items.items u.item ≡ Some item → item.kind ≡ Enum d vs → AreTagsDecided d vs.items → VariantsBring S item.parameters.items (given_within item u) (string_bytes item.name) (is_explicit d) vs.items rows next ds us → Defines S u (ds ++ (name_given (string_bytes item.name) u.given, choice 1 rows) ∷ []) us

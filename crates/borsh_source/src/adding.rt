@@ -1,6 +1,6 @@
 // What a compilation has found so far.
 ghost use Rattle.std.specs.Prelude.{◌≡◌, ◌∷◌, [], Decides, IsTrue, OnOk, map, string_bytes};
-ghost use Rattle.borsh_definitions.specs.Described.{definitions_by_name, named_definition};
+ghost use Rattle.borsh_definitions.specs.Described.{forms_in, form_of};
 ghost use Rattle.borsh_source.specs.Container.{Adds, AreThese, Brings, IsKept, uses_in};
 ghost use Rattle.borsh_source.specs.Errors.{Answers};
 ghost use Rattle.borsh_source.specs.Forms.{entry as entry_of};
@@ -31,7 +31,7 @@ pub struct Output<'a> {
 
 // Whether two definitions are equal, names and all.
 fn says_the_same(known: &Definition, given: &Definition) -> bool
-    ensures { Decides result (named_definition known.now ≡ named_definition given.now) }
+    ensures { Decides result (form_of known.now ≡ form_of given.now) }
 {
     known == given
 }
@@ -53,8 +53,8 @@ fn put(
     definition: Definition,
     definitions: &mut BTreeMap<Declaration, Definition>,
 ) -> Result<(), CompileError>
-    ensures { Answers (source_of context.now) result (λ _. Adds (definitions_by_name definitions.old)
-        (definitions_by_name definitions.new) ((string_bytes name, named_definition definition) ∷ [])) }
+    ensures { Answers (source_of context.now) result (λ _. Adds (forms_in definitions.old)
+        (forms_in definitions.new) ((string_bytes name, form_of definition) ∷ [])) }
 {
     if let Some(known) = definitions.get(name.as_str()) {
         if says_the_same(known, &definition) {

@@ -1,6 +1,6 @@
 // A tree and a type are compiled.
 ghost use Rattle.std.specs.Prelude.{◌⊎◌, ⊤, IfErr, IfOk, string_bytes};
-ghost use Rattle.borsh_definitions.specs.Described.{definitions_by_name};
+ghost use Rattle.borsh_definitions.specs.Described.{forms_in};
 ghost use Rattle.borsh_walks.specs.Container.{IsValid};
 ghost use Rattle.borsh_walks.specs.Definitions.{definitions_in as shapes_in};
 ghost use Rattle.borsh_walks.specs.RulesAnswer.{JudgesRules};
@@ -125,7 +125,7 @@ fn broken(
 /// ```
 pub fn compile(alloc: Global, source: &Source, root: usize) -> Result<Compiled, CompileError>
     ensures meaning { IfOk result (λ c. IsMeaning source.now root (string_bytes c.declaration)
-        (definitions_by_name c.definitions)) }
+        (forms_in c.definitions)) }
     ensures valid { IfOk result (λ c. IsValid (shapes_in c.definitions) (string_bytes c.declaration)) }
     ensures told { IfErr result (λ e. IsTold source.now e ⊎ IsBroken source.now root e) }
 {

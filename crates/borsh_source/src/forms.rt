@@ -1,6 +1,6 @@
 // What the types of the format bring: their names and definitions, by the names of their arguments.
 ghost use Rattle.std.specs.Prelude.{◌≡◌, ◌∷◌, ◌++◌, [], IfOk, IfSome, OnOk, Some, string_bytes};
-ghost use Rattle.borsh_definitions.specs.Described.{list, named, named_definition, unnamed};
+ghost use Rattle.borsh_definitions.specs.Described.{sequence, named, form_of, unnamed};
 ghost use Rattle.borsh_definitions.specs.Names.{following, tuple_name as name_of_tuple};
 ghost use Rattle.borsh_definitions.specs.Addresses.{octets_of};
 ghost use Rattle.borsh_definitions.specs.Types.{list_of};
@@ -37,7 +37,7 @@ fn with_two(alloc: Global, stem: &str, first: &str, second: &str) -> Result<Decl
 
 // The definition of a list.
 fn list_definition(alloc: Global, element: &str) -> Result<Definition, AllocError>
-    ensures { IfOk result (λ d. named_definition d ≡ list_of element.now) }
+    ensures { IfOk result (λ d. form_of d ≡ list_of element.now) }
 {
     Ok(Definition::Sequence {
         length_width: Definition::DEFAULT_LENGTH_WIDTH,
@@ -48,7 +48,7 @@ fn list_definition(alloc: Global, element: &str) -> Result<Definition, AllocErro
 
 // The definition of an array.
 fn array_definition(alloc: Global, element: &str, length: usize) -> Result<Definition, AllocError>
-    ensures { IfOk result (λ d. named_definition d ≡ list 0 length length element.now) }
+    ensures { IfOk result (λ d. form_of d ≡ sequence 0 length length element.now) }
 {
     Ok(Definition::Sequence {
         length_width: Definition::ARRAY_LENGTH_WIDTH,
@@ -109,7 +109,7 @@ pub fn copied(alloc: Global, names: &[Declaration]) -> Result<Vec<Declaration>, 
 
 // The definition of a tuple.
 fn tuple_definition(alloc: Global, names: &[Declaration]) -> Result<Definition, AllocError>
-    ensures { IfOk result (λ d. named_definition d ≡ tuple_of (texts_of names.now)) }
+    ensures { IfOk result (λ d. form_of d ≡ tuple_of (texts_of names.now)) }
 {
     match names {
         [] => Ok(Definition::Primitive(0)),
@@ -121,7 +121,7 @@ fn tuple_definition(alloc: Global, names: &[Declaration]) -> Result<Definition, 
 
 // A struct with one named field, or with two.
 fn one_named(alloc: Global, field: &str, of: &str) -> Result<Definition, AllocError>
-    ensures { IfOk result (λ d. named_definition d ≡ named ((field.now, of.now) ∷ [])) }
+    ensures { IfOk result (λ d. form_of d ≡ named ((field.now, of.now) ∷ [])) }
 {
     let fields = Fields::NamedFields(vec![in alloc; (text(alloc, field)?, text(alloc, of)?)]?);
     Ok(Definition::Struct { fields })
@@ -134,7 +134,7 @@ fn two_named(
     second: &str,
     of_second: &str,
 ) -> Result<Definition, AllocError>
-    ensures { IfOk result (λ d. named_definition d
+    ensures { IfOk result (λ d. form_of d
         ≡ named ((first.now, of_first.now) ∷ (second.now, of_second.now) ∷ [])) }
 {
     let fields = Fields::NamedFields(vec![in alloc;
@@ -146,7 +146,7 @@ fn two_named(
 
 // A struct with one unnamed field.
 fn one_unnamed(alloc: Global, of: &str) -> Result<Definition, AllocError>
-    ensures { IfOk result (λ d. named_definition d ≡ unnamed (of.now ∷ [])) }
+    ensures { IfOk result (λ d. form_of d ≡ unnamed (of.now ∷ [])) }
 {
     let fields = Fields::UnnamedFields(vec![in alloc; text(alloc, of)?]?);
     Ok(Definition::Struct { fields })
@@ -158,7 +158,7 @@ fn two_variants(
     first: (u8, &str, &str),
     second: (u8, &str, &str),
 ) -> Result<Definition, AllocError>
-    ensures { IfOk result (λ d. named_definition d ≡ variants_of_two
+    ensures { IfOk result (λ d. form_of d ≡ variants_of_two
         (first.entry.0, first.entry.1.now, first.entry.2.now)
         (second.entry.0, second.entry.1.now, second.entry.2.now)) }
 {
@@ -187,7 +187,7 @@ fn push(
     definition: Definition,
 ) -> Result<(), AllocError>
     ensures { OnOk result (Appends entries.old.items entries.new.items
-        ((name.now, named_definition definition) ∷ [])) }
+        ((name.now, form_of definition) ∷ [])) }
 {
     let entry = (text(alloc, name)?, definition);
     entries.push(entry)?;
@@ -210,7 +210,7 @@ fn push_octets(alloc: Global, entries: &mut Vec<Entry>, length: usize) -> Result
 
 // The definition of an address of so many bytes.
 fn octets_definition(alloc: Global, length: usize) -> Result<Definition, AllocError>
-    ensures { IfOk result (λ d. named_definition d ≡ octets_of length) }
+    ensures { IfOk result (λ d. form_of d ≡ octets_of length) }
 {
     let name = format!(in alloc; "[u8; {length}]")?;
     one_named(alloc, "octets", name.as_str())
@@ -371,7 +371,7 @@ fn definition_with_one(
     kind: Kind,
     argument: &str,
 ) -> Result<Option<Definition>, AllocError>
-    ensures { IfOk result (λ o. IfSome o (λ d. definition_of_one kind argument.now ≡ Some (named_definition d))) }
+    ensures { IfOk result (λ o. IfSome o (λ d. definition_of_one kind argument.now ≡ Some (form_of d))) }
 {
     match kind {
         Kind::List => Ok(Some(list_definition(alloc, argument)?)),

@@ -1,6 +1,6 @@
 // The definitions of items.
 ghost use Rattle.std.specs.Prelude.{◌≡◌, ◌<◌, ◌++◌, ◌∷◌, [], IfOk, IsTrue, MatchOption, None, OnOk, if◌then◌else◌, map, pos, string_bytes, false};
-ghost use Rattle.borsh_definitions.specs.Described.{field_bytes, named_definition, unnamed, variant_bytes};
+ghost use Rattle.borsh_definitions.specs.Described.{field_bytes, form_of, unnamed, variant_bytes};
 ghost use Rattle.borsh_definitions.specs.Names.{beside};
 ghost use Rattle.borsh_source.specs.Container.{Brings};
 ghost use Rattle.borsh_source.specs.Errors.{Answers};
@@ -114,7 +114,7 @@ fn some_definition(
     names: &[Declaration],
 ) -> Result<Definition, AllocError>
     ensures { IfOk result (λ d.
-        named_definition d ≡ some_definition fields.now (texts_of names.now)) }
+        form_of d ≡ some_definition fields.now (texts_of names.now)) }
 {
     match fields {
         Fields::Named(fields) => {
@@ -129,7 +129,7 @@ fn some_definition(
 
 // The definition of fields without names.
 fn unnamed_definition(alloc: Global, names: &[Declaration]) -> Result<Definition, AllocError>
-    ensures { IfOk result (λ d. named_definition d ≡ unnamed (texts_of names.now)) }
+    ensures { IfOk result (λ d. form_of d ≡ unnamed (texts_of names.now)) }
 {
     let fields = borsh_walks::Fields::UnnamedFields(copied(alloc, names)?);
     Ok(Definition::Struct { fields })
@@ -142,7 +142,7 @@ fn fields_definition(
     names: &[Declaration],
 ) -> Result<Definition, AllocError>
     ensures { IfOk result (λ d.
-        named_definition d ≡ fields_definition (texts_of names.now) fields.now) }
+        form_of d ≡ fields_definition (texts_of names.now) fields.now) }
 {
     match names {
         [] => Ok(Definition::Struct {

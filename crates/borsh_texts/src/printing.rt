@@ -1,6 +1,6 @@
 // A container as Rust items.
 ghost use Rattle.std.specs.Prelude.{IfOk, string_bytes};
-ghost use Rattle.borsh_definitions.specs.Described.{definitions_by_name};
+ghost use Rattle.borsh_definitions.specs.Described.{forms_in};
 ghost use Rattle.borsh_source.specs.Container.{IsMeaning};
 
 use crate::error::TextError;
@@ -86,7 +86,7 @@ pub fn print_items(
     definitions: &BTreeMap<String, Definition>,
 ) -> Result<Items, NoItems>
     ensures { IfOk result (λ i. IsMeaning i.tree i.root (string_bytes i.compiled.declaration)
-        (definitions_by_name i.compiled.definitions)) }
+        (forms_in i.compiled.definitions)) }
 {
     let mut names = own_names(alloc, definitions)?;
     match same_items(alloc, root, definitions, &mut names) {
@@ -109,7 +109,7 @@ fn same_items<'b>(
     names: &mut BTreeSet<&'b str>,
 ) -> Result<Items, NoItems>
     ensures { IfOk result (λ i. IsMeaning i.tree i.root (string_bytes i.compiled.declaration)
-        (definitions_by_name i.compiled.definitions)) }
+        (forms_in i.compiled.definitions)) }
 {
     let outcome = compiled(alloc, root, definitions, names);
     add_others(&outcome, definitions, names)?;
@@ -171,7 +171,7 @@ fn compiled(
     names: &BTreeSet<&str>,
 ) -> Result<Items, NoItems>
     ensures { IfOk result (λ i. IsMeaning i.tree i.root (string_bytes i.compiled.declaration)
-        (definitions_by_name i.compiled.definitions)) }
+        (forms_in i.compiled.definitions)) }
 {
     let text = text_of(alloc, root, definitions, names)?;
     let mut tree = match parse_items(alloc, text.as_str()) {

@@ -16,7 +16,7 @@ use Rattle.borsh_tool_commands.specs.Answers.{AnswersMember, line_of, words_line
 use Rattle.borsh_tool_commands.specs.Answers.AnswersMember.{member, no_member, not_canonical}
 use Rattle.borsh_json.specs.Ascii.{IsPlain, is_printable}
 use Rattle.borsh_json.specs.Forms.{forms_in}
-use Rattle.borsh_json.specs.InOrder.{IsRepresented}
+use Rattle.borsh_json.specs.InOrder.{Step, IsRepresented}
 use Rattle.borsh_json.specs.NoJson.{RefusesBytes}
 use Rattle.borsh_json.specs.declared.error.Refusal.{Refusal}
 use Rattle.std.specs.Char.{digit_char}
@@ -63,5 +63,5 @@ module _ (m : BTreeMap (String Global) Definition) {root name bytes out : List �
   pub no_told : (why : List ℕ) (strict : Bool) → root ≡ name → (Member (definitions_in m) root bytes → ⊥) → (is_yes ≡ false) × (out ≡ line_of (codes "no member: " ++ why)) → AnswersMember m name bytes strict is_yes out
   no_told why strict same none h = no_member why (λ is. none (subst (λ (r : List ℕ). Member (definitions_in m) r bytes) (sym same) is)) h.0 h.1
 
-  pub refusal_told : (why : List ℕ) (refusal : Refusal) → root ≡ name → Member (definitions_in m) root bytes → RefusesBytes (forms_in m) root bytes refusal → (is_yes ≡ false) × (out ≡ line_of (codes "not canonical: " ++ why)) → AnswersMember m name bytes true is_yes out
-  refusal_told why refusal same is r h = not_canonical why refusal (subst (λ (r : List ℕ). Member (definitions_in m) r bytes) same is) (subst (λ (x : List ℕ). RefusesBytes (forms_in m) x bytes refusal) same r) refl h.0 h.1
+  pub refusal_told : (why : List ℕ) (path : List Step) (refusal : Refusal) → root ≡ name → Member (definitions_in m) root bytes → RefusesBytes (forms_in m) root bytes path refusal → (is_yes ≡ false) × (out ≡ line_of (codes "not canonical: " ++ why)) → AnswersMember m name bytes true is_yes out
+  refusal_told why path refusal same is r h = not_canonical why path refusal (subst (λ (r : List ℕ). Member (definitions_in m) r bytes) same is) (subst (λ (x : List ℕ). RefusesBytes (forms_in m) x bytes path refusal) same r) refl h.0 h.1

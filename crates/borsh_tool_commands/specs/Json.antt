@@ -8,7 +8,7 @@ use Rattle.borsh_json.specs.Forms.{forms_in}
 use Rattle.borsh_json.specs.InOrder.{TextRepresents}
 use Rattle.borsh_json.specs.NoJson.{ShowsNoJson}
 use Rattle.borsh_json.specs.NoValue.{ShowsNoValue}
-use Rattle.borsh_json.specs.Printed.{HasShortNumbers}
+use Rattle.borsh_json.specs.Printed.{HasQuotedNumbers}
 use Rattle.borsh_json.specs.declared.error.JsonError.{JsonError}
 use Rattle.borsh_json.specs.declared.error.JsonError.TheVariants.{OutOfMemory as NoMemory}
 use Rattle.borsh_json.specs.declared.output.Layout.{Layout}
@@ -17,15 +17,15 @@ use Rattle.borsh_walks.specs.Definitions.{definitions_in}
 use Rattle.borsh_walks.specs.declared.definition.Definition.{Definition}
 use Rattle.borsh_tool_commands.specs.Answers.{line_of}
 
--- none of the numbers in the line of JSON is a whole number that needs 64 bits
-abbrev pub HasShortLine : List ℕ → Type 0
-HasShortLine line = (text : List ℕ) → line ≡ line_of text → HasShortNumbers text
-
 -- there is a reason of this kind, and not only a failed allocation
 abbrev pub HasReason : (JsonError → Type 0) → Type 0
 HasReason Reason = (e : JsonError) × Reason e × (e ≡ NoMemory → ⊥)
 
 module _ (map : BTreeMap (String Global) Definition) (root : List ℕ) where
+  -- each whole number of 64 bits in the line of JSON is a string
+  abbrev pub HasQuotedLine : List ℕ → Type 0
+  HasQuotedLine line = (text : List ℕ) → line ≡ line_of text → HasQuotedNumbers (forms_in map) root text
+
   -- the text is JSON that says the bytes, which are a member of the root; the elements of sets and the keys of maps ascend where their order is known
   abbrev pub IsJsonInOrder : List ℕ → List ℕ → Type 0
   IsJsonInOrder text bytes = TextRepresents (forms_in map) root text bytes

@@ -13,7 +13,7 @@ use Rattle.borsh_tool_commands.specs.Answers.{AnswersMember, line_of}
 use Rattle.borsh_tool_commands.specs.Failures.{IsNoAnswer, IsJsonFailure, IsNoValue}
 use Rattle.borsh_tool_commands.specs.Items.{AreItems}
 use Rattle.borsh_texts.specs.declared.printing.Items.{Items}
-use Rattle.borsh_tool_commands.specs.Json.{HasShortLine, IsJsonLine}
+use Rattle.borsh_tool_commands.specs.Json.{HasQuotedLine, IsJsonLine}
 use Rattle.borsh_json.specs.Printed.{layout_if}
 use Rattle.borsh_tool_commands.specs.Many.{IsWriteFailure}
 use Rattle.borsh_tool_commands.specs.Plain.{digits}
@@ -23,9 +23,9 @@ use Rattle.borsh_tool_commands.specs.Sent.{EncodesJson, IsContainer, IsSchemaJso
 abbrev pub in_digits : Bool → List ℕ → List ℕ
 in_digits wanted bytes = if wanted then line_of (flat_map digits bytes) else bytes
 
--- whether the answer is yes, and what is printed: of `decode` JSON, without numbers of 64 bits if these are quoted, and a line feed, of `encode` the bytes or their digits, of `member` its line; `show` writes as it goes
+-- whether the answer is yes, and what is printed: of `decode` JSON, with strings for numbers of 64 bits if these are quoted, and a line feed, of `encode` the bytes or their digits, of `member` its line; `show` writes as it goes
 abbrev pub Replies : Action → ValueRequest → Schema → List ℕ → Bool → List ℕ → Type 0
-Replies Decode r s value is_yes out = (is_yes ≡ true) × IsJsonLine s.definitions (string_bytes s.root) (layout_if r.is_compact) value out × (r.has_quoted_numbers ≡ true → HasShortLine out)
+Replies Decode r s value is_yes out = (is_yes ≡ true) × IsJsonLine s.definitions (string_bytes s.root) (layout_if r.is_compact) value out × (r.has_quoted_numbers ≡ true → HasQuotedLine s.definitions (string_bytes s.root) out)
 Replies Encode r s value is_yes out = (is_yes ≡ true) × ((sent : List ℕ) × EncodesJson r.with_schema s value sent × (out ≡ in_digits r.is_hex sent))
 Replies AskMember r s value is_yes out = AnswersMember s.definitions (string_bytes s.root) value r.is_strict is_yes out
 Replies Show r s value is_yes out = ⊥

@@ -4,7 +4,7 @@ use Rattle.std.specs.BTreeMap.{BTreeMap}
 use Rattle.std.specs.Global.{Global}
 use Rattle.borsh.specs.Reading.{Decoded}
 use Rattle.borsh_definitions.specs.Codecs.{root_and_map}
-use Rattle.borsh_definitions.specs.Described.{definitions_by_name, nothing_defined}
+use Rattle.borsh_definitions.specs.Described.{forms_in, nothing_defined}
 use Rattle.borsh_definitions.specs.Own.{container_definitions}
 use Rattle.borsh_io.specs.Stream.{ReaderState}
 use Rattle.borsh_schema.specs.Joined.{IsUnion}
@@ -42,7 +42,7 @@ EncodesJson sent s text out = (value : List ℕ) × IsJsonInOrder s.definitions 
 
 -- the container of containers: the name of its root, and its definitions and no others
 abbrev pub IsOwnSchema : Schema → Type 0
-IsOwnSchema s = (string_bytes s.root ≡ codes "BorshSchemaContainer") × IsUnion nothing_defined container_definitions (definitions_by_name s.definitions)
+IsOwnSchema s = (string_bytes s.root ≡ codes "BorshSchemaContainer") × IsUnion nothing_defined container_definitions (forms_in s.definitions)
 
 -- the JSON of a container's bytes by it, and a line feed
 abbrev pub IsSchemaJson : List ℕ → List ℕ → Type 0

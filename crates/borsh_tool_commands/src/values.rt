@@ -6,7 +6,7 @@ ghost use Rattle.borsh_tool_commands.specs.Colored.{IsShowFailure, Paints};
 ghost use Rattle.borsh_tool_commands.specs.Failures.{IsFailure, IsNoAnswer, IsNoContainer, IsNoContainerInFront, IsNoContainerJson, IsJsonFailure, IsNoMemory, IsNoValue};
 ghost use Rattle.borsh_tool_commands.specs.Plain.{digits, escaped};
 ghost use Rattle.borsh_tool_commands.specs.Printed.{printed};
-ghost use Rattle.borsh_tool_commands.specs.Json.{HasShortLine, IsJsonInOrder, IsJsonLine};
+ghost use Rattle.borsh_tool_commands.specs.Json.{HasQuotedLine, IsJsonInOrder, IsJsonLine};
 ghost use Rattle.borsh_tool_commands.specs.Sent.{EncodesJson, IsContainer, IsOwnSchema, IsSchemaJson, IsSent, ReadsSchema, schema_encoding};
 ghost use Rattle.borsh_io.specs.declared.error.ErrorKind.TheVariants.{OutOfMemory as NoRoom};
 ghost use Rattle.borsh_json.specs.declared.error.JsonError.TheVariants.{OutOfMemory as NoMemory};
@@ -146,7 +146,8 @@ pub fn json_text<'a>(
 ) -> Result<PlainText, Failure<'a>>
     ensures ok { IfOk result (λ t. IsJsonLine schema.now.definitions (string_bytes schema.now.root)
         style.layout bytes.now (printed t)) }
-    ensures short { style.long_numbers ≡ Quoted → IfOk result (λ t. HasShortLine (printed t)) }
+    ensures quoted { style.long_numbers ≡ Quoted → IfOk result (λ t. HasQuotedLine
+        schema.now.definitions (string_bytes schema.now.root) (printed t)) }
     ensures err { IfErr result (IsJsonFailure schema.now.definitions (string_bytes schema.now.root)
         path.now bytes.now) }
 {

@@ -1,7 +1,9 @@
 pub mod Laws
 pub mod Variants
 pub mod Names
+pub mod Forms
 pub mod Tables
+pub mod PlaceLaws
 pub mod Spots
 pub mod Measure
 pub mod SizeWalk

@@ -1,14 +1,12 @@
 -- The walk for a size: what its loop keeps, and each of its steps.
 use Rattle.std.proofs.Common.{◌≡◌, ◌≢◌, ℕ, suc, zero, ◌+◌, ◌*◌, ◌<◌, ◌≤◌, List, [], ◌∷◌, ◌++◌, length, replicate, take, drop, take-append-drop, Some, None, refl, sym, ◌∙◌, ap, subst, arith, inl, inr}
-use Rattle.std.specs.Prelude.{AllPairs, Option, max, slice_get, sum, ⊤}
+use Rattle.std.specs.Prelude.{AllPairs, Option, String, max, slice_get, sum, ⊤}
 use Rattle.borsh_walks.specs.Container.{Shape, primitive, sequence, product, choice, IsIn, IsDefined, first, later, size_references, greatest, size_from_parts, MaxSize, sized, MaxSizes, no_sizes, more_sizes, PartialSize, left_out, taken, PartialSizes, no_partial, more_partial, Reaches, stays, onward, SizeReaches, IsRecursive}
 use Rattle.borsh_walks.specs.Definitions.{spot_shape}
 use Rattle.borsh_walks.specs.SizeParts.{partial_size, add_part, size_of_parts}
 use Rattle.borsh_walks.specs.SizeAnswer.{AreSizeReached}
-use Rattle.borsh_walks.specs.Tables.{NameTable, mark_at, name_number, Visited}
-use Rattle.std.specs.Map.{lookup}
-use Rattle.std.specs.Cmp.Lexicographic.{slice_cmp}
-use Rattle.std.specs.Ordering.{nat_cmp, is_eq, ordering_then}
+use Rattle.borsh_walks.specs.Tables.{Visited}
+use Rattle.borsh_walks.specs.Places.{place_in}
 use Rattle.borsh_walks.specs.declared.sizes.Frame.{Frame}
 use Rattle.borsh_walks.specs.declared.sizes.Mark.{Mark}
 use Rattle.borsh_walks.specs.declared.sizes.Mark.TheVariants.{Open, Finished}
@@ -34,9 +32,14 @@ abbrev pub AllSmall : List Frame → Type 0
 AllSmall [] = ⊤
 AllSmall (f ∷ fs) = (f.spot.next < 18446744073709551615) × AllSmall fs
 
+-- each has the place of its name
+abbrev pub AllPlaced : {A X : Type 0} → List (String A × X) → List Frame → Type 0
+AllPlaced es [] = ⊤
+AllPlaced es (f ∷ fs) = (place_in es f.spot.name.now ≡ Some f.place) × AllPlaced es fs
+
 -- the frame with one more part, where the parts make n
 abbrev pub gathered_more : Frame → ℕ → Frame
-gathered_more f n = record { spot = moved f.spot; gathered = n }
+gathered_more f n = record f { spot = moved f.spot; gathered = n }
 
 -- ---- sizes one after another
 pub total_is : (d : Shape) (ns : List ℕ) → size_from_parts d ns ≡ size_of_parts d (partial_size d ns)
@@ -172,10 +175,6 @@ module _ (C : List ℕ → Option Shape) where
     pub size_is : (x : List ℕ) (n : ℕ) → T x ≡ Some (Finished n) → MaxSize C x n
     pub closed : (x : List ℕ) (n : ℕ) (d : Shape) → T x ≡ Some (Finished n) → C x ≡ Some d → (y : List ℕ) → IsIn y (size_references d) → IsFinished T y
     pub marks : Visited (λ x. SizeReaches C root x × IsDefined C x) T L
-
-  -- the same entries make the same marks
-  pub state_stays : {root : List ℕ} (t u : NameTable Mark) {fs : List Frame} {f : Frame} {L : List (List ℕ)} → State root (mark_at t) fs f L → u.entries ≡ t.entries → State root (mark_at u) fs f L
-  state_stays {root} t u {fs} {f} {L} s e = subst (λ es. State root (λ x. lookup (λ k. is_eq (ordering_then (nat_cmp (name_number x) k.0) (slice_cmp nat_cmp x k.1.now))) es) fs f L) (sym e) s
 
   -- the next part is finished
   pub step_add : {root : List ℕ} {T : List ℕ → Option Mark} {fs : List Frame} {f : Frame} {L : List (List ℕ)} (p : List ℕ) (n m : ℕ) → State root T fs f L → slice_get (size_references (shape f)) f.spot.next ≡ Some p → T p ≡ Some (Finished n) → m ≡ add_part (shape f) f.gathered n → State root T fs (gathered_more f m) L

@@ -1,9 +1,11 @@
 pub mod Container
 pub mod Definitions
+pub mod Forms
 pub mod Counts
 pub mod Codecs
 pub mod Errors
 pub mod Tables
+pub mod Places
 pub mod TupleNames
 pub mod SizeParts
 pub mod SizeAnswer

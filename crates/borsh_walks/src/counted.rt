@@ -1,8 +1,10 @@
 // How many definitions a walk visits. Left open of each call: none.
-ghost use Rattle.borsh_walks.specs.Counts.{CountsLook, definition_at, IsCounting, LooksOn};
+ghost use Rattle.borsh_walks.specs.Counts.{CountsLook, add_to, counts_of, definition_at, IsCounting, LooksOn};
+ghost use Rattle.borsh_walks.specs.Places.{AreListed};
 ghost use Rattle.std.specs.Prelude.{◌≡◌, option_map};
 
 use crate::definition::Definition;
+use crate::places::Places;
 use std::collections::BTreeMap;
 
 /// How many definitions were visited, for each kind of question. A count at its greatest value
@@ -34,10 +36,10 @@ pub enum Question {
     Rules,
 }
 
-/// A map of definitions that counts how many of them are visited: [`Counted::look`] is the only way to one.
+/// A map of definitions that counts how many of them are visited, by [`Counted::look`] or by the places of all names.
 #[derive(Drop)]
 pub struct Counted<'a, 'b> {
-    map: &'a BTreeMap<String, Definition>,
+    pub(crate) map: &'a BTreeMap<String, Definition>,
     counts: &'b mut Expansions,
 }
 
@@ -66,12 +68,37 @@ impl<'a, 'b> Counted<'a, 'b> {
     {
         let found = self.map.get(name);
         if found.is_some() {
-            match question {
-                Question::Size => self.counts.size = self.counts.size.saturating_add(1),
-                Question::Zero => self.counts.zero = self.counts.zero.saturating_add(1),
-                Question::Rules => self.counts.rules = self.counts.rules.saturating_add(1),
-            }
+            self.visit(question);
         }
         found
+    }
+
+    // The definition of the name, as `look` finds it, by the places of all names.
+    pub(crate) fn look_by(
+        &mut self,
+        places: &Places<'a>,
+        question: Question,
+        name: &str,
+    ) -> Option<&'a Definition>
+        requires { (places.now.map ≡ self.old.map) × AreListed places.now }
+        ensures same { LooksOn self.old self.new }
+        ensures found { option_map (λ d. d.now) result ≡ definition_at self.old name.now }
+        ensures counts { CountsLook question self.old self.new result }
+    {
+        let (_, definition) = places.find(name)?;
+        self.visit(question);
+        Some(definition)
+    }
+
+    // The count of the question is raised by one.
+    pub(crate) fn visit(&mut self, question: Question)
+        ensures same { LooksOn self.old self.new }
+        ensures counts { counts_of self.new ≡ add_to question 1 (counts_of self.old) }
+    {
+        match question {
+            Question::Size => self.counts.size = self.counts.size.saturating_add(1),
+            Question::Zero => self.counts.zero = self.counts.zero.saturating_add(1),
+            Question::Rules => self.counts.rules = self.counts.rules.saturating_add(1),
+        }
     }
 }

@@ -11,6 +11,7 @@ pub mod counted;
 pub mod definition;
 pub mod error;
 pub mod parts;
+mod places;
 pub mod rules;
 pub mod sizes;
 mod stack;

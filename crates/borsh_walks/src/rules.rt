@@ -2,6 +2,7 @@
 ghost use Rattle.borsh_walks.specs.Counts.{counts_of, definition_count, definitions_of, LooksOn};
 ghost use Rattle.borsh_walks.specs.RulesAnswer.{AcceptsIfValid, AnswersShape, ElementReaches, IsRulesError, JudgesRules, IsWidth, BreaksWidth, MarksElement, RuleAnswer, rule_of, checked_element};
 ghost use Rattle.borsh_walks.specs.Definitions.{shape_of};
+ghost use Rattle.borsh_walks.specs.Places.{AreListed};
 ghost use Rattle.borsh_walks.specs.ZeroAnswer.{ZeroCounted, ZeroTable};
 ghost use Rattle.borsh_walks.specs.RulesState.{CountsVisit, JudgedCounts, RulesWork, StaysIfSeen, Visits};
 ghost use Rattle.std.specs.Prelude.{◌≡◌, IfOk, MatchOption, OnOk, option_map, reverse};
@@ -10,6 +11,7 @@ use crate::counted::{Counted, Question};
 use crate::definition::Definition;
 use crate::error::SchemaContainerValidateError;
 use crate::parts::referenced_part;
+use crate::places::Places;
 use crate::stack::{Spot, key_of};
 use crate::zero::is_zero;
 use std::alloc::{AllocError, Global};
@@ -31,27 +33,11 @@ fn broken_width(width: u8, end: u64) -> Option<Broken>
     ensures { MatchOption result (IsWidth width end) (λ k. BreaksWidth (rule_of k) width end) }
 {
     match width {
-        0 => None,
-        1 => if end < 256 {
-            None
-        } else {
-            Some(Broken::Narrow)
-        },
-        2 => if end < 65536 {
-            None
-        } else {
-            Some(Broken::Narrow)
-        },
-        3 => Some(Broken::NotPowerOfTwo),
-        4 => if end < 4294967296 {
-            None
-        } else {
-            Some(Broken::Narrow)
-        },
-        5 => Some(Broken::NotPowerOfTwo),
-        6 => Some(Broken::NotPowerOfTwo),
-        7 => Some(Broken::NotPowerOfTwo),
-        8 => None,
+        1 if end >= 256 => Some(Broken::Narrow),
+        2 if end >= 65536 => Some(Broken::Narrow),
+        4 if end >= 4294967296 => Some(Broken::Narrow),
+        0 | 1 | 2 | 4 | 8 => None,
+        3 | 5 | 6 | 7 => Some(Broken::NotPowerOfTwo),
         _ => Some(Broken::Wide),
     }
 }
@@ -61,24 +47,15 @@ fn broken_shape(definition: &Definition) -> Option<Broken>
     ensures { AnswersShape (shape_of definition.now) result }
 {
     match definition {
+        Definition::Sequence { length_range, .. } if length_range.end < length_range.start => {
+            Some(Broken::EmptyRange)
+        }
         Definition::Sequence {
             length_width,
             length_range,
             ..
-        } => {
-            if length_range.end < length_range.start {
-                Some(Broken::EmptyRange)
-            } else {
-                broken_width(*length_width, length_range.end)
-            }
-        }
-        Definition::Enum { tag_width, .. } => {
-            if *tag_width > 8 {
-                Some(Broken::Wide)
-            } else {
-                None
-            }
-        }
+        } => broken_width(*length_width, length_range.end),
+        Definition::Enum { tag_width, .. } if *tag_width > 8 => Some(Broken::Wide),
         _ => None,
     }
 }
@@ -92,12 +69,8 @@ fn element_to_check(definition: &Definition) -> Option<&str>
             length_width,
             length_range,
             elements,
-        } => {
-            if *length_width == 0 && length_range.start == length_range.end {
-                None
-            } else {
-                Some(elements.as_str())
-            }
+        } if *length_width != 0 || length_range.start != length_range.end => {
+            Some(elements.as_str())
         }
         _ => None,
     }
@@ -152,12 +125,14 @@ fn error_of(alloc: Global, broken: Broken, name: &str) -> SchemaContainerValidat
 fn visit<'a, 'm: 'a>(
     alloc: Global,
     name: &'a str,
+    places: &Places<'m>,
     seen: &mut BTreeMap<(u64, &'a str), bool>,
     stack: &mut Vec<Spot<'a>>,
     table: &mut BTreeMap<&'a str, bool>,
     counted: &mut Counted<'m, '_>,
 ) -> Result<(), SchemaContainerValidateError>
-    requires { ZeroTable (definitions_of counted.old) table.old }
+    requires table { ZeroTable (definitions_of counted.old) table.old }
+    requires places { (places.now.map ≡ counted.old.map) × AreListed places.now }
     ensures same { LooksOn counted.old counted.new }
     ensures visited { Visits counted.old counted.new name.now seen.old seen.new
         (reverse stack.old.items) (reverse stack.new.items) table.old table.new result }
@@ -169,7 +144,7 @@ fn visit<'a, 'm: 'a>(
     if seen.insert(key_of(name), true)?.is_some() {
         return Ok(());
     }
-    let Some(definition) = counted.look(Question::Rules, name) else {
+    let Some(definition) = counted.look_by(places, Question::Rules, name) else {
         return Err(error_of(alloc, Broken::Missing, name));
     };
     if let Some(broken) = broken_rule(alloc, definition, table, counted)? {
@@ -223,17 +198,22 @@ fn walk_rules<'a, 'm: 'a>(
     ensures work { RulesWork (definitions_of counted.old) root.now (definition_count counted.old)
         (counts_of counted.old) (counts_of counted.new) }
 {
+    let places = Places::new(alloc, counted.map)?;
     let mut table: BTreeMap<&'a str, bool> = BTreeMap::new(alloc);
     let mut seen: BTreeMap<(u64, &'a str), bool> = BTreeMap::new(alloc);
     let mut stack: Vec<Spot<'a>> = Vec::new(alloc);
-    visit(alloc, root, &mut seen, &mut stack, &mut table, counted)?;
+    visit(
+        alloc, root, &places, &mut seen, &mut stack, &mut table, counted,
+    )?;
     while let Some(mut spot) = stack.pop() {
         let Some(part) = referenced_part(spot.definition, spot.next) else {
             continue;
         };
         spot.next += 1;
         stack.push(spot)?;
-        visit(alloc, part, &mut seen, &mut stack, &mut table, counted)?;
+        visit(
+            alloc, part, &places, &mut seen, &mut stack, &mut table, counted,
+        )?;
     }
     Ok(())
 }

@@ -4,17 +4,15 @@ ghost use Rattle.borsh_walks.specs.Definitions.{shape_of};
 ghost use Rattle.borsh_walks.specs.SizeAnswer.{CountsNeeded, IsMissing, IsSizeAnswer};
 ghost use Rattle.borsh_walks.specs.SizeOutcome.{AnswersSize};
 ghost use Rattle.borsh_walks.specs.SizeParts.{IsIfFits, add_part, size_of_parts};
-ghost use Rattle.borsh_walks.specs.Tables.{MarksNew};
-ghost use Rattle.borsh_walks.specs.declared.sizes.Mark.TheVariants.{Open};
-ghost use Rattle.std.specs.Prelude.{◌^◌, ◌<◌, IfOk};
+ghost use Rattle.std.specs.Prelude.{◌^◌, ◌<◌, ◌≡◌, IfOk, None, Some, length, replicate, slice_get, slice_set};
 
 use crate::counted::{Counted, Question};
 use crate::definition::Definition;
 use crate::error::SchemaMaxSerializedSizeError;
 use crate::parts::needed_part;
-use crate::stack::{Spot, key_of};
+use crate::places::Places;
+use crate::stack::Spot;
 use std::alloc::{AllocError, Global};
-use std::collections::BTreeMap;
 
 // How far a name's size has come.
 #[derive(Clone, Copy)]
@@ -23,11 +21,12 @@ pub enum Mark {
     Finished(usize),
 }
 
-// A spot, with what the sizes of its settled parts make.
+// A spot, with what the sizes of its settled parts make, and the place of its name.
 #[derive(Clone, Copy)]
 pub struct Frame<'a> {
     spot: Spot<'a>,
     gathered: usize,
+    place: usize,
 }
 
 // What the sizes of the parts so far make, and the next part's.
@@ -92,21 +91,27 @@ pub fn root_size(
     walk_sizes(alloc, root, counted)
 }
 
-// The mark of the name; a name without one is `Open` from now on.
-fn open<'a>(
-    table: &mut BTreeMap<(u64, &'a str), Mark>,
-    name: &'a str,
-) -> Result<Option<Mark>, AllocError>
-    ensures { IfOk result (MarksNew name.now Open table.old table.new) }
+// No name of so many has a mark.
+fn no_marks(alloc: Global, count: usize) -> Result<Vec<Option<Mark>>, AllocError>
+    ensures { IfOk result (λ v. v.items ≡ replicate count None) }
 {
-    let key = key_of(name);
-    match table.get(&key) {
-        Some(mark) => Ok(Some(*mark)),
-        None => {
-            table.insert(key, Mark::Open)?;
-            Ok(None)
-        }
-    }
+    vec![in alloc; None; count]
+}
+
+// The mark at a place.
+fn mark_at(marks: &Vec<Option<Mark>>, place: usize) -> Option<Mark>
+    requires { place < length marks.now.items }
+    ensures { slice_get marks.now.items place ≡ Some result }
+{
+    marks.as_slice()[place]
+}
+
+// Marks the name at a place.
+fn set_mark(marks: &mut Vec<Option<Mark>>, place: usize, mark: Mark)
+    requires { place < length marks.old.items }
+    ensures { marks.new.items ≡ slice_set marks.old.items place (Some mark) }
+{
+    marks.as_mut_slice()[place] = Some(mark);
 }
 
 // The walk for the size of the root. A name on the stack is `Open`, and one with a size is `Finished`.
@@ -121,43 +126,52 @@ fn walk_sizes<'a, 'm: 'a>(
     ensures counts { CountsNeeded (definitions_of counted.old) root.now
         (counts_of counted.old) (counts_of counted.new) result }
 {
-    let Some(definition) = counted.look(Question::Size, root) else {
+    let places = Places::new(alloc, counted.map)?;
+    let Some((place, definition)) = places.find(root) else {
         return Err(missing(alloc, root));
     };
-    let mut table: BTreeMap<(u64, &'a str), Mark> = BTreeMap::new(alloc);
+    let mut marks = no_marks(alloc, counted.map.len())?;
     let mut stack: Vec<Frame<'a>> = Vec::new(alloc);
-    table.insert(key_of(root), Mark::Open)?;
+    counted.visit(Question::Size);
+    set_mark(&mut marks, place, Mark::Open);
     let mut frame = Frame {
         spot: Spot::at(root, definition),
         gathered: 0,
+        place,
     };
     loop {
         match needed_part(frame.spot.definition, frame.spot.next) {
-            Some(part) => match open(&mut table, part)? {
-                Some(Mark::Finished(size)) => {
-                    let Some(gathered) = gather(frame.spot.definition, frame.gathered, size) else {
-                        return Err(SchemaMaxSerializedSizeError::Overflow);
-                    };
-                    frame.gathered = gathered;
-                    frame.spot.next += 1;
+            Some(part) => {
+                let Some((place, definition)) = places.find(part) else {
+                    return Err(missing(alloc, part));
+                };
+                match mark_at(&marks, place) {
+                    Some(Mark::Finished(size)) => {
+                        let Some(gathered) = gather(frame.spot.definition, frame.gathered, size)
+                        else {
+                            return Err(SchemaMaxSerializedSizeError::Overflow);
+                        };
+                        frame.gathered = gathered;
+                        frame.spot.next += 1;
+                    }
+                    Some(Mark::Open) => return Err(SchemaMaxSerializedSizeError::Recursive),
+                    None => {
+                        counted.visit(Question::Size);
+                        set_mark(&mut marks, place, Mark::Open);
+                        stack.push(frame)?;
+                        frame = Frame {
+                            spot: Spot::at(part, definition),
+                            gathered: 0,
+                            place,
+                        };
+                    }
                 }
-                Some(Mark::Open) => return Err(SchemaMaxSerializedSizeError::Recursive),
-                None => {
-                    let Some(definition) = counted.look(Question::Size, part) else {
-                        return Err(missing(alloc, part));
-                    };
-                    stack.push(frame)?;
-                    frame = Frame {
-                        spot: Spot::at(part, definition),
-                        gathered: 0,
-                    };
-                }
-            },
+            }
             None => {
                 let Some(size) = finish(frame.spot.definition, frame.gathered) else {
                     return Err(SchemaMaxSerializedSizeError::Overflow);
                 };
-                table.insert(key_of(frame.spot.name), Mark::Finished(size))?;
+                set_mark(&mut marks, frame.place, Mark::Finished(size));
                 match stack.pop() {
                     Some(above) => {
                         frame = above;

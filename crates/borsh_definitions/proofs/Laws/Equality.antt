@@ -10,7 +10,7 @@ use Rattle.borsh_walks.specs.declared.definition.Definition.TheVariants.{Primiti
 use Rattle.borsh_walks.specs.declared.definition.Fields.{Fields}
 use Rattle.borsh_walks.specs.declared.definition.Fields.TheVariants.{NamedFields, UnnamedFields, Empty}
 use Rattle.borsh_walks.specs.contracts.definition.DefinitionPartialEq.TheImpl as of_definitions
-use Rattle.borsh_definitions.specs.Described.{NamedDefinition, field_bytes, variant_bytes, bytes, list, tuple, variants, named, unnamed, no_fields, named_fields, named_definition}
+use Rattle.borsh_definitions.specs.Described.{Form, field_bytes, variant_bytes, primitive, sequence, tuple, choice, named, unnamed, no_fields, form_of_struct, form_of}
 
 -- `==` of definitions
 abbrev pub same : Definition → Definition → Bool
@@ -36,27 +36,27 @@ variant-Decides a b =
     Decides-like _ (λ p. let h = p.0 in let t = p.1 in cc) (λ e. ((ap (λ q. q.0) e, ap (λ q. q.1) e), ap (λ q. q.2) e)) (Decides-and _ _ (Decides-and _ _ (Decides-int_eq a.0 b.0) (text-Decides a.1 b.1)) (text-Decides a.2 b.2))
 
 -- fields, or something else
-is_fields : NamedDefinition → Bool
-is_fields (bytes n) = false
-is_fields (list w lo hi e) = false
+is_fields : Form → Bool
+is_fields (primitive n) = false
+is_fields (sequence w lo hi e) = false
 is_fields (tuple ns) = false
-is_fields (variants w vs) = false
+is_fields (choice w vs) = false
 is_fields (named fs) = true
 is_fields (unnamed ns) = true
 is_fields no_fields = true
 
-are_fields : (fs : Fields) → is_fields (named_fields fs) ≡ true
+are_fields : (fs : Fields) → is_fields (form_of_struct fs) ≡ true
 unfolding is_fields
 are_fields (NamedFields fs) = refl
 are_fields (UnnamedFields fs) = refl
 are_fields Empty = refl
 
-no_same : {a b : NamedDefinition} → is_fields a ≡ false → is_fields b ≡ true → a ≡ b → ⊥
+no_same : {a b : Form} → is_fields a ≡ false → is_fields b ≡ true → a ≡ b → ⊥
 no_same e f p = true≢false (sym f ∙ ap is_fields (sym p) ∙ e)
 
-pub definition-Decides : (a b : Definition) → Decides (same a b) (named_definition a ≡ named_definition b)
+pub definition-Decides : (a b : Definition) → Decides (same a b) (form_of a ≡ form_of b)
 unfolding is_fields
-definition-Decides (Primitive m) (Primitive n) = Decides-like (nat_eq m n) (λ e. ap bytes e) (λ e. cc) (Decides-eqb m n)
+definition-Decides (Primitive m) (Primitive n) = Decides-like (nat_eq m n) (λ e. ap primitive e) (λ e. cc) (Decides-eqb m n)
 definition-Decides (Primitive m) (Sequence w s e) = (λ t. absurd (true≢false (sym t)), λ p. absurd (cc))
 definition-Decides (Primitive m) (Tuple b) = (λ t. absurd (true≢false (sym t)), λ p. absurd (cc))
 definition-Decides (Primitive m) (Enum w b) = (λ t. absurd (true≢false (sym t)), λ p. absurd (cc))

@@ -9,7 +9,7 @@ use Rattle.borsh_codec.specs.Types.Floats.{float32, float64}
 use Rattle.borsh_codec.specs.Types.Texts.{text}
 use lib.Ieee.{Float, binary32, binary64}
 use Rattle.borsh_walks.specs.Container.{product, first_variant, later_variant}
-use Rattle.borsh_definitions.specs.Described.{NamedDefinition, shape, list as list_definition, named, unnamed, DefinitionTree, none, defined, both}
+use Rattle.borsh_definitions.specs.Described.{Form, shape_of_form, sequence, named, unnamed, DefinitionTree, none, defined, both}
 use Rattle.borsh_definitions.specs.Language.{DescribedCodec, DescribedFields}
 use Rattle.borsh_definitions.specs.Names.{applied, applied_to_two, array_name, beside}
 use Rattle.borsh_definitions.specs.Types.{primitive_definitions, list_definitions, text_definitions, unit_definitions, option_of, range_of, result_of as result_definition, map_definitions, named_struct, unnamed_struct, tuple_definitions}
@@ -57,7 +57,7 @@ module _ {A : Type 0} {n : List ℕ} {ps : DefinitionTree} where
   abbrev pub slice_described : (head : List ℕ) → DescribedCodec A n ps → DescribedCodec (List A) (applied head n) (list_definitions head n ps)
   slice_described head d = record { codec = length_prefixed d.codec; describes = λ C h. describes_counted h.0 (d.describes C h.1.0) }
 
-  abbrev pub array_described : (k : ℕ) → DescribedCodec A n ps → DescribedCodec (List A) (array_name n k) (defined (array_name n k) (list_definition 0 k k n) (both ps none))
+  abbrev pub array_described : (k : ℕ) → DescribedCodec A n ps → DescribedCodec (List A) (array_name n k) (defined (array_name n k) (sequence 0 k k n) (both ps none))
   array_described k d = record { codec = array k d.codec; describes = λ C h. describes_row k h.0 (d.describes C h.1.0) }
 
   abbrev pub option_described : DescribedCodec A n ps → DescribedCodec (Option A) (applied (codes "Option<") n) (defined (applied (codes "Option<") n) (option_of n) (both ps (both unit_definitions none)))
@@ -138,7 +138,7 @@ abbrev pub tuple_of : {A : Type 0} → DescribedFields A → DefinitionTree
 tuple_of d = tuple_definitions d.names d.parts
 
 -- a struct, or a tuple: a name, a definition that lists the fields' types, and the fields seen through a view
-abbrev pub struct_described : {S A : Type 0} {name : List ℕ} {d : NamedDefinition} → (S → A) → (fields : DescribedFields A) → shape d ≡ product fields.names → DescribedCodec S name (defined name d fields.parts)
+abbrev pub struct_described : {S A : Type 0} {name : List ℕ} {d : Form} → (S → A) → (fields : DescribedFields A) → shape_of_form d ≡ product fields.names → DescribedCodec S name (defined name d fields.parts)
 struct_described view fields e = record {
   codec = contramap view fields.codec;
   describes = λ C h. describes_contramap view (describes_parts (h.0 ∙ ap Some e) (fields.describes C h.1));
@@ -146,7 +146,7 @@ struct_described view fields e = record {
 
 -- the same with the definition given, so that the prover needn't find it: a struct whose fields have these names, as many
 -- as there are types, and one whose fields have none
-abbrev pub named_described : {S A : Type 0} {name : List ℕ} → (S → A) → (labels : List (List ℕ)) → (fields : DescribedFields A) → shape (named (beside labels fields.names)) ≡ product fields.names → DescribedCodec S name (struct_parts name labels fields)
+abbrev pub named_described : {S A : Type 0} {name : List ℕ} → (S → A) → (labels : List (List ℕ)) → (fields : DescribedFields A) → shape_of_form (named (beside labels fields.names)) ≡ product fields.names → DescribedCodec S name (struct_parts name labels fields)
 named_described view labels fields e = struct_described {d = named (beside labels fields.names)} view fields e
 
 abbrev pub unnamed_described : {S A : Type 0} {name : List ℕ} → (S → A) → (fields : DescribedFields A) → DescribedCodec S name (unnamed_struct name fields.names fields.parts)

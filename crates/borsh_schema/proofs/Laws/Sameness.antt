@@ -23,7 +23,7 @@ use Rattle.borsh_walks.specs.declared.definition.Definition.{Definition}
 use Rattle.borsh_walks.specs.declared.definition.Definition.TheVariants.{Primitive, Sequence, Tuple, Enum, Struct}
 use Rattle.borsh_walks.specs.declared.definition.Fields.{Fields}
 use Rattle.borsh_walks.specs.declared.definition.Fields.TheVariants.{NamedFields, UnnamedFields, Empty}
-use Rattle.borsh_definitions.specs.Described.{NamedDefinition, field_bytes, variant_bytes, bytes, tuple, named, unnamed, named_fields, named_definition, DefinitionMap, definitions_by_name, DefinitionTree}
+use Rattle.borsh_definitions.specs.Described.{Form, field_bytes, variant_bytes, primitive, tuple, named, unnamed, form_of_struct, form_of, DefinitionMap, forms_in, DefinitionTree}
 use Rattle.borsh_schema.specs.Joined.{IsDefinedIn, IsUnion}
 use Rattle.borsh_schema.specs.Codecs.{container, container_pair}
 use Rattle.borsh_schema.specs.Containers.{map_of, root_of, IsContainerOf}
@@ -49,7 +49,7 @@ name_same a b s = zip_equal (string_bytes a) (string_bytes b) s
 field_same : (v w : String Global × String Global) → name.equivalent v.0 w.0 × name.equivalent v.1 w.1 → field_bytes v ≡ field_bytes w
 field_same v w s = let h = name_same v.0 w.0 s.0 in let i = name_same v.1 w.1 s.1 in cc
 
-fields_same : (a b : Fields) → fields.equivalent a b → named_fields a ≡ named_fields b
+fields_same : (a b : Fields) → fields.equivalent a b → form_of_struct a ≡ form_of_struct b
 fields_same (NamedFields a) (NamedFields b) s = ap named (zip_mapped field_bytes field_same a.items b.items s)
 fields_same (NamedFields a) (UnnamedFields b) s = absurd s
 fields_same (NamedFields a) Empty s = absurd s
@@ -63,8 +63,8 @@ fields_same Empty Empty s = refl
 variant_same : (v w : ℤ × String Global × String Global) → (v.0 ≡ w.0) × (name.equivalent v.1 w.1 × name.equivalent v.2 w.2) → variant_bytes v ≡ variant_bytes w
 variant_same v w s = let i = s.0 in let j = name_same v.1 w.1 s.1.0 in let k = name_same v.2 w.2 s.1.1 in cc
 
-definition_same : (d e : Definition) → definition.equivalent d e → named_definition d ≡ named_definition e
-definition_same (Primitive m) (Primitive n) s = ap bytes s
+definition_same : (d e : Definition) → definition.equivalent d e → form_of d ≡ form_of e
+definition_same (Primitive m) (Primitive n) s = ap primitive s
 definition_same (Primitive m) (Sequence w r e) s = absurd s
 definition_same (Primitive m) (Tuple b) s = absurd s
 definition_same (Primitive m) (Enum w b) s = absurd s
@@ -96,10 +96,10 @@ abbrev pub Entry : Type 0
 Entry = String Global × Definition
 
 -- the bytes of a name, and what its definition says
-abbrev pub said_entry : Entry → List ℕ × NamedDefinition
-said_entry e = (string_bytes e.0, named_definition e.1)
+abbrev pub said_entry : Entry → List ℕ × Form
+said_entry e = (string_bytes e.0, form_of e.1)
 
-abbrev pub said : List Entry → List (List ℕ × NamedDefinition)
+abbrev pub said : List Entry → List (List ℕ × Form)
 said es = map said_entry es
 
 said_same : (es fs : List Entry) → AllZip (pair name definition).equivalent es fs → said es ≡ said fs
@@ -109,16 +109,16 @@ abbrev texts_cmp : List ℕ → List ℕ → Ordering
 texts_cmp = slice_cmp nat_cmp
 
 -- a look-up by name finds the same in what a map says
-found_said : (q : List ℕ) (es : List Entry) → option_map named_definition (lookup (is_at (λ k. texts_cmp q (string_bytes k))) es) ≡ find texts_cmp q (said es)
+found_said : (q : List ℕ) (es : List Entry) → option_map form_of (lookup (is_at (λ k. texts_cmp q (string_bytes k))) es) ≡ find texts_cmp q (said es)
 found_said q [] = refl
 found_said q (e ∷ es) =
-    elim (is_eq (texts_cmp q (string_bytes e.0))) as (λ b. option_map named_definition (cond b (Some e.1) (lookup (is_at (λ k. texts_cmp q (string_bytes k))) es)) ≡ cond b (Some (named_definition e.1)) (find texts_cmp q (said es))) [
+    elim (is_eq (texts_cmp q (string_bytes e.0))) as (λ b. option_map form_of (cond b (Some e.1) (lookup (is_at (λ k. texts_cmp q (string_bytes k))) es)) ≡ cond b (Some (form_of e.1)) (find texts_cmp q (said es))) [
       | true ↦ refl
       | false ↦ found_said q es
     ]
 
 -- maps that say the same define the same
-same_contents : (m n : BTreeMap (String Global) Definition) → said m.entries ≡ said n.entries → (q : List ℕ) → definitions_by_name m q ≡ definitions_by_name n q
+same_contents : (m n : BTreeMap (String Global) Definition) → said m.entries ≡ said n.entries → (q : List ℕ) → forms_in m q ≡ forms_in n q
 same_contents m n e q = found_said q m.entries ∙ ap (find texts_cmp q) e ∙ sym (found_said q n.entries)
 
 both_true : (a b : Bool) → T a → T b → T (a && b)
@@ -136,18 +136,18 @@ sorted_said [] s = tt
 sorted_said (e ∷ es) s = both_true _ _ (below_said (string_bytes e.0) es s.0) (sorted_said es s.1)
 
 -- maps by ascending name that define the same say the same
-said_once : (m n : BTreeMap (String Global) Definition) → IsOrdered string_cmp m → IsOrdered string_cmp n → ((q : List ℕ) → definitions_by_name m q ≡ definitions_by_name n q) → said m.entries ≡ said n.entries
+said_once : (m n : BTreeMap (String Global) Definition) → IsOrdered string_cmp m → IsOrdered string_cmp n → ((q : List ℕ) → forms_in m q ≡ forms_in n q) → said m.entries ≡ said n.entries
 said_once m n s t e =
     same_entries texts_cmp nat_list_cmp_total exact_bytes (said m.entries) (said n.entries) (sorted_said m.entries s) (sorted_said n.entries t)
     (λ q. sym (found_said q m.entries) ∙ e q ∙ found_said q n.entries)
 
 -- ---- containers
 
-pub given_in : {old new : DefinitionMap} {ps : DefinitionTree} {n : List ℕ} {d : NamedDefinition} → IsUnion old ps new → IsDefinedIn old ps n d → new n ≡ Some d
+pub given_in : {old new : DefinitionMap} {ps : DefinitionTree} {n : List ℕ} {d : Form} → IsUnion old ps new → IsDefinedIn old ps n d → new n ≡ Some d
 given_in j (inl k) = j.keeps _ _ k
 given_in j (inr p) = j.has _ _ p
 
-same_found : (a b : Option NamedDefinition) → ((d : NamedDefinition) → a ≡ Some d → b ≡ Some d) → ((d : NamedDefinition) → b ≡ Some d → a ≡ Some d) → a ≡ b
+same_found : (a b : Option Form) → ((d : Form) → a ≡ Some d → b ≡ Some d) → ((d : Form) → b ≡ Some d → a ≡ Some d) → a ≡ b
 same_found None None f g = refl
 same_found None (Some d) f g = g d refl
 same_found (Some d) b f g = sym (f d refl)
@@ -195,7 +195,7 @@ said_variant v w e = (ap (λ t. t.0) e, (zip_from (ap (λ t. t.1) e), zip_from (
 said_field : (v w : String Global × String Global) → field_bytes v ≡ field_bytes w → name.equivalent v.0 w.0 × name.equivalent v.1 w.1
 said_field v w e = (zip_from (ap (λ t. t.0) e), zip_from (ap (λ t. t.1) e))
 
-said_definition : (d e : Definition) → named_definition d ≡ named_definition e → definition.equivalent d e
+said_definition : (d e : Definition) → form_of d ≡ form_of e → definition.equivalent d e
 said_definition (Primitive a) (Primitive b) p = cc
 said_definition (Primitive a) (Sequence wb rb b) p = absurd (cc)
 said_definition (Primitive a) (Tuple b) p = absurd (cc)

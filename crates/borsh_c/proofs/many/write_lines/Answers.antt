@@ -16,7 +16,7 @@ loop-count-preserved c =
     let items = c.in_ok-push-in-Ok.ensures.items ∙ ap (λ (bytes : List ℕ). bytes ++ (10 ∷ [])) (c.in_ok-extend_from_slice-in-Ok.ensures.items ∙ line) in
     let json = c.in-Ok.ensures in
     let printed = subst (λ (layout : Layout). IsPrinted layout (string_bytes c.in-Ok.line)) c.requires.0 (json.printed c.requires.1) in
-    let says = subst (λ (bytes : List ℕ). IsLineOf c.args.style.long_numbers m root bytes (string_bytes c.in-Ok.line)) c.first.ensures ((json.says, printed, json.short), json.line c.requires.0) in
+    let says = subst (λ (bytes : List ℕ). IsLineOf c.args.style.long_numbers m root bytes (string_bytes c.in-Ok.line)) c.first.ensures ((json.says, printed, json.quoted), json.line c.requires.0) in
     record {
       within = omega arith;
       lines = subst (HaveLines c.args.style.long_numbers m root (take (c.loop-count.count + 1) lengths) c.args.values.now) (sym items)

@@ -28,16 +28,9 @@ returns-clause-kind c = λ w lo hi e q i b x h full.
     )
 
 pub returns-then-is_text-clause-orders : goal.returns-then-is_text-clause-orders
-returns-then-is_text-clause-orders c = λ s h x f. ((h, λ k z. z), tt)
+returns-then-is_text-clause-orders c = λ s x f. (tt, tt)
 
 pub returns-clause-orders : goal.returns-clause-orders
-returns-clause-orders c = λ s h x f.
-    let o = c.in_ok-order.ensures.orders h x s.3 s.0 s.1 s.2 (c.collection_of-collection.ensures x f) s.5 (f.1 ∙ ap (λ f. Some f) s.4) in
-    (o.0, (refl, o.1))
-
-pub returns-then-is_text-clause-tells : goal.returns-then-is_text-clause-tells
-returns-then-is_text-clause-tells c = λ s h n x f. (n, tt)
-
-pub returns-clause-tells : goal.returns-clause-tells
-returns-clause-tells c = λ s h n x f.
-    c.in_ok-order.ensures.none h n x s.3 s.0 s.1 s.2 (c.collection_of-collection.ensures x f) s.5 (f.1 ∙ ap (λ f. Some f) s.4)
+returns-clause-orders c = λ s x f.
+    let o = c.order_in-order.ensures x s.3 s.0 s.1 s.2 (c.collection_of-collection.ensures x f) s.5 (f.1 ∙ ap (λ f. Some f) s.4) in
+    ((refl, o.0), o.1)

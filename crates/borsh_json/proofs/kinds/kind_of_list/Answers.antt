@@ -7,8 +7,7 @@ use Rattle.borsh_json.specs.Table.{HasKind, list, entries}
 use Rattle.borsh_json.specs.Places.{lengths_of}
 use Rattle.borsh_json.specs.Found.{forms_of, names_of}
 use Rattle.borsh_json.proofs.FoundLaws.{on_true, on_false, not_true}
-use Rattle.borsh_json.proofs.KindOrders.{refused_order, key_found}
-use Rattle.borsh_json.proofs.KindTells.{refused_tells}
+use Rattle.borsh_json.proofs.KindOrders.{refused_order, refused_tells, key_found}
 use Rattle.borsh_json.proofs.NameLaws.{elements_found, numbers_found, refused, refused_is, entries_kind, list_kind}
 use Rattle.borsh_json.proofs.kinds.kind_of_list.Goals as goal
 
@@ -52,7 +51,7 @@ returns-then-size-eq0-clause-kind c = λ w lo hi e q i b x h full.
     let k = on_false _ c.has_empty_keys.result c.if-has_empty_keys.false (c.has_empty_keys.ensures x l) in
     let kind = subst (λ f. HasKind F x (list (lengths_of f) e)) (sym q) (list_kind F x full w lo hi e f b (c.in_default.ensures x l) z k) in
     let size = c.size_of_primitive-size.ensures ∙ ap (λ o. packed_size (option_map shape_of_form o)) (c.get.ensures e i) in
-    let es : Elements = record { at = c.args.element; size = c.size_of_primitive-size.result; order = c.in_ok-order.order; is_refused = false } in
+    let es : Elements = record { at = c.args.element; size = c.size_of_primitive-size.result; order = c.order_in-order.result; is_refused = false } in
     elements_found F (plan_names d.plan.now) x (form_of c.args.definition.now) e es i kind refl (sym size ∙ c.if-size-eq0.true)
 
 pub returns-else-size-eq0-clause-kind : goal.returns-else-size-eq0-clause-kind
@@ -66,50 +65,35 @@ returns-else-size-eq0-clause-kind c = λ w lo hi e q i b x h full.
     let kind = subst (λ f. HasKind F x (list (lengths_of f) e)) (sym q) (list_kind F x full w lo hi e f b (c.in_default.ensures x l) z k) in
     let size = c.size_of_primitive-size.ensures ∙ ap (λ o. packed_size (option_map shape_of_form o)) (c.get.ensures e i) in
     let some = c.if-size-eq0.false in
-    let es : Elements = record { at = c.args.element; size = c.size_of_primitive-size.result; order = c.in_ok-order.order; is_refused = false } in
+    let es : Elements = record { at = c.args.element; size = c.size_of_primitive-size.result; order = c.order_in-order.result; is_refused = false } in
     numbers_found F (plan_names d.plan.now) x (form_of c.args.definition.now) e es i kind refl (c.size_of_primitive-size.result - 1) (omega arith) size
 
 pub returns-then-is_zero_size-clause-orders : goal.returns-then-is_zero_size-clause-orders
-returns-then-is_zero_size-clause-orders c = λ s h x f.
+returns-then-is_zero_size-clause-orders c = λ s x f.
     let d = c.args.definitions.now in
-    ((h, λ k z. z), refused_order (forms_of d) (names_of d) d.orders.items x c.refused_list.result c.refused_list.ensures)
+    (refused_order (forms_of d) (names_of d) x c.refused_list.result c.refused_list.ensures, refused_tells (forms_of d) x c.refused_list.result c.refused_list.ensures)
 
 pub returns-then-has_empty_keys-clause-orders : goal.returns-then-has_empty_keys-clause-orders
-returns-then-has_empty_keys-clause-orders c = λ s h x f.
+returns-then-has_empty_keys-clause-orders c = λ s x f.
     let d = c.args.definitions.now in
-    ((h, λ k z. z), refused_order (forms_of d) (names_of d) d.orders.items x c.refused_list-then-has_empty_keys.result c.refused_list-then-has_empty_keys.ensures)
+    let r = c.refused_list-then-has_empty_keys.result in
+    let e = c.refused_list-then-has_empty_keys.ensures in
+    (refused_order (forms_of d) (names_of d) x r e, refused_tells (forms_of d) x r e)
 
 pub returns-in-Some-clause-orders : goal.returns-in-Some-clause-orders
-returns-in-Some-clause-orders c = λ s h x f.
+returns-in-Some-clause-orders c = λ s x f.
     let d = c.args.definitions.now in
     let F = forms_of d in
     let ns = names_of d in
     let m = c.in-Some.ensures x (c.collection_of-collection.ensures x f) in
-    let t = c.order_of_keys.ensures F ns d.orders.items m.0 (form_of c.in-Some.entries.key_definition.now) m.5.0 m.5.2 m.5.3 in
-    ((h, λ k z. z), (m.0, m.2, key_found F ns x m.0 m.1 d.orders.items c.order_of_keys.result m.4 t.0 t.1))
+    let t = c.order_of_keys.ensures F ns m.0 (form_of c.in-Some.entries.key_definition.now) m.5.0 m.5.2 m.5.3 in
+    ((m.0, m.2, key_found F ns x m.0 m.1 c.order_of_keys.result m.4 t), tt)
 
 pub returns-then-size-eq0-clause-orders : goal.returns-then-size-eq0-clause-orders
-returns-then-size-eq0-clause-orders c = λ s h x f.
-    c.in_ok-order.ensures.orders h x s.3 s.0 s.1 s.2 (c.collection_of-collection.ensures x f) s.5 (f.1 ∙ ap (λ f. Some f) s.4)
-
-pub returns-else-size-eq0-clause-orders : goal.returns-else-size-eq0-clause-orders
-returns-else-size-eq0-clause-orders c = λ s h x f.
-    c.in_ok-order.ensures.orders h x s.3 s.0 s.1 s.2 (c.collection_of-collection.ensures x f) s.5 (f.1 ∙ ap (λ f. Some f) s.4)
-
-pub returns-then-is_zero_size-clause-tells : goal.returns-then-is_zero_size-clause-tells
-returns-then-is_zero_size-clause-tells c = λ s h n x f. (n, refused_tells (forms_of c.args.definitions.now) x c.refused_list.result c.refused_list.ensures)
-
-pub returns-then-has_empty_keys-clause-tells : goal.returns-then-has_empty_keys-clause-tells
-returns-then-has_empty_keys-clause-tells c = λ s h n x f. (n, refused_tells (forms_of c.args.definitions.now) x c.refused_list-then-has_empty_keys.result c.refused_list-then-has_empty_keys.ensures)
-
-pub returns-in-Some-clause-tells : goal.returns-in-Some-clause-tells
-returns-in-Some-clause-tells c = λ s h n x f. (n, tt)
-
-pub returns-then-size-eq0-clause-tells : goal.returns-then-size-eq0-clause-tells
-returns-then-size-eq0-clause-tells c = λ s h n x f.
-    let o = c.in_ok-order.ensures.none h n x s.3 s.0 s.1 s.2 (c.collection_of-collection.ensures x f) s.5 (f.1 ∙ ap (λ f. Some f) s.4) in
+returns-then-size-eq0-clause-orders c = λ s x f.
+    let o = c.order_in-order.ensures x s.3 s.0 s.1 s.2 (c.collection_of-collection.ensures x f) s.5 (f.1 ∙ ap (λ f. Some f) s.4) in
     (o.0, λ r. o.1)
 
-pub returns-else-size-eq0-clause-tells : goal.returns-else-size-eq0-clause-tells
-returns-else-size-eq0-clause-tells c = λ s h n x f.
-    c.in_ok-order.ensures.none h n x s.3 s.0 s.1 s.2 (c.collection_of-collection.ensures x f) s.5 (f.1 ∙ ap (λ f. Some f) s.4)
+pub returns-else-size-eq0-clause-orders : goal.returns-else-size-eq0-clause-orders
+returns-else-size-eq0-clause-orders c = λ s x f.
+    c.order_in-order.ensures x s.3 s.0 s.1 s.2 (c.collection_of-collection.ensures x f) s.5 (f.1 ∙ ap (λ f. Some f) s.4)

@@ -1,5 +1,5 @@
-use Rattle.std.proofs.Common.{◌≡◌, ◌∙◌, ◌-◌, ◌+◌, ◌<◌, suc, ℕ, Some, refl, sym, ap, subst, arith}
-use Rattle.borsh_json.specs.Forms.{form_of, newtype}
+use Rattle.std.proofs.Common.{◌≡◌, ◌∙◌, ◌-◌, ◌+◌, ◌<◌, ◌∷◌, [], suc, ℕ, Some, refl, sym, ap, subst, arith}
+use Rattle.borsh_json.specs.Forms.{form_of, unnamed}
 use Rattle.borsh_json.specs.Table.{MayBeNull, too_far, without_bytes, an_option, in_newtype}
 use Rattle.borsh_json.specs.Found.{forms_of}
 use Rattle.borsh_json.proofs.FoundLaws.{on_true, on_false, not_true}
@@ -47,8 +47,8 @@ loop-preserved c = λ x0 h.
     let e = c.in-Some.ensures v.0 v.1 in
     let full = not_true c.is_zero_size.result (c.is_zero_size.ensures v.0 v.1) c.if-is_zero_size.false in
     let t = on_true _ c.is_newtype.result c.if-not-is_newtype.false c.is_newtype.ensures in
-    let f : F v.0 ≡ Some (newtype t.0) = sym e ∙ ap (λ f. Some f) t.1 in
-    let i = c.part-at.ensures v.0 t.0 (newtype t.0) v.1 f refl in (
+    let f : F v.0 ≡ Some (unnamed (t.0 ∷ [])) = sym e ∙ ap (λ f. Some f) t.1 in
+    let i = c.part-at.ensures v.0 t.0 (unnamed (t.0 ∷ [])) v.1 f refl in (
       t.0,
       i,
       (λ m. v.2 (subst (λ n. MayBeNull F n v.0) (sym (left c.loop.counter c.loop-test.true)) (in_newtype t.0 f m))),

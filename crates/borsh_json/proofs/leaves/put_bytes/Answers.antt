@@ -11,5 +11,5 @@ pub returns-then-is_nothing : goal.returns-then-is_nothing
 returns-then-is_nothing c =
     let own = c.args.own.now in
     let text = 48 ∷ 120 ∷ encode_lower own in
-    let kept = subst (λ (o : Output). Adds (string text ∷ []) o o) (sym (c.is_nothing.ensures c.if-is_nothing.true)) (λ before h. tt) in
+    let kept = subst (λ (o : Output). Adds (string text ∷ []) o o) (sym (c.is_nothing.ensures c.if-is_nothing.true)) (refl, λ before h. tt) in
     (text, kept, (encode_lower own, refl, decode_of-encode_lower own (λ i. let b = c.type_inv.own i in omega (arith, b))))

@@ -1,17 +1,28 @@
-use Rattle.borsh_json.proofs.TellingLaws.{unordered_bytes, unordered_list}
+use Rattle.std.proofs.Common.{refl, subst, true, false}
+use Rattle.std.specs.Prelude.{MatchBool}
+use Rattle.borsh_json.specs.Names.{HasOtherKeys, HasToldKeys}
+use Rattle.borsh_json.proofs.TellingLaws.{bytes_word}
 use Rattle.borsh_json.proofs.names.word_of.Goals as goal
 
-pub returns-in-None : goal.returns-in-None
-returns-in-None c F ns orders x f k h t =
-    unordered_bytes F ns x f c.in-ByteList.elements c.in-None.is (rw c.in-ByteList.is at k) (rw c.in-ByteList.is at t)
+pub returns-then-is_sorted : goal.returns-then-is_sorted
+returns-then-is_sorted c F ns x f k h t =
+    let o = rw c.in-ByteList.is at h in
+    let n = rw c.in-ByteList.is at t in
+    bytes_word F ns x f c.in-ByteList.elements true _ (subst (λ b. MatchBool b (HasToldKeys F x) (HasOtherKeys F x)) c.if-is_sorted.true (c.is_sorted.ensures F ns x o.1 n)) refl (rw c.in-ByteList.is at k)
 
-pub returns-in-None-order : goal.returns-in-None-order
-returns-in-None-order c F ns orders x f k h t =
+pub returns-else-is_sorted : goal.returns-else-is_sorted
+returns-else-is_sorted c F ns x f k h t =
+    let o = rw c.in-ByteList.is at h in
+    let n = rw c.in-ByteList.is at t in
+    bytes_word F ns x f c.in-ByteList.elements false _ (subst (λ b. MatchBool b (HasToldKeys F x) (HasOtherKeys F x)) c.if-is_sorted.false (c.is_sorted.ensures F ns x o.1 n)) refl (rw c.in-ByteList.is at k)
+
+pub returns-in-Numbers : goal.returns-in-Numbers
+returns-in-Numbers c F ns x f k h t =
     let l = rw c.in-Numbers.is at k in
-    let told = rw c.in-Numbers.is at t in
-    unordered_list F ns x f c.in-Numbers.elements c.in-None-order.is l.1 l.0 (told c.in-None-order.is)
+    c.word_of_list.ensures F ns x f l.0 l.1 (rw c.in-Numbers.is at h) (rw c.in-Numbers.is at t)
 
-pub returns-in-None-order-2 : goal.returns-in-None-order-2
-returns-in-None-order-2 c F ns orders x f k h t =
-    let told = rw c.in-List.is at t in
-    unordered_list F ns x f c.in-List.elements c.in-None-order-2.is c.if-elements.false (rw c.in-List.is at k).0 (told c.if-elements.false c.in-None-order-2.is)
+pub returns-else-elements : goal.returns-else-elements
+returns-else-elements c F ns x f k h t =
+    let l = rw c.in-List.is at k in
+    let n = rw c.in-List.is at t in
+    c.word_of_list-else-elements.ensures F ns x f l.0 c.if-elements.false (rw c.in-List.is at h) (n c.if-elements.false)

@@ -1,12 +1,13 @@
 use Rattle.std.proofs.Common.{◌≤◌, ◌-◌, ℕ, List, map, drop, length, string_bytes}
 use Rattle.std.specs.Prelude.{ℤ}
+use Rattle.borsh_json.specs.Forms.{variant_bytes}
 use Rattle.borsh_json.specs.Table.{IsVariant}
 use Rattle.borsh_json.proofs.opening.first_named.Given as goal
 
 abbrev pub invariant-loop-tag : goal.invariant-loop-tag
 invariant-loop-tag l = record {
   within : l.index ≤ length l.fn.variants.items;
-  later : (k : ℤ) (p : List ℕ) → IsVariant k l.fn.name p (map (λ v. (v.0, string_bytes v.1, string_bytes v.2)) l.fn.variants.items) → IsVariant k l.fn.name p (drop l.index (map (λ v. (v.0, string_bytes v.1, string_bytes v.2)) l.fn.variants.items));
+  later : (k : ℤ) (p : List ℕ) → IsVariant k l.fn.name p (map variant_bytes l.fn.variants.items) → IsVariant k l.fn.name p (drop l.index (map variant_bytes l.fn.variants.items));
 }
 
 abbrev pub decreases-loop-tag : goal.decreases-loop-tag

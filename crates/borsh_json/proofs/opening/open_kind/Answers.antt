@@ -14,106 +14,93 @@ pub returns-in-Number : goal.returns-in-Number
 returns-in-Number c x j at e h order tells b =
     let F = forms_in (map_of c.args.json.now.plan.now) in
     let ns = plan_names c.args.json.now.plan.now in
-    let orders = c.args.json.now.orders.items in
-    opened F ns orders x j c.args.out.now.items c.open_number.new.out.items c.open_number.result (c.open_number.ensures F ns orders x j (subst (λ (k : Kind). IsKindOf F ns x (form_of c.args.definition.now) k) c.in-Number.is h) b)
+    opened F ns x j c.args.out.now.items c.open_number.new.out.items c.open_number.result (c.open_number.ensures F ns x j (subst (λ (k : Kind). IsKindOf F ns x (form_of c.args.definition.now) k) c.in-Number.is h) b)
 
 pub returns-in-Bool : goal.returns-in-Bool
 returns-in-Bool c x j at e h order tells b =
     let F = forms_in (map_of c.args.json.now.plan.now) in
     let ns = plan_names c.args.json.now.plan.now in
-    let orders = c.args.json.now.orders.items in
-    opened F ns orders x j c.args.out.now.items c.open_bool.new.out.items c.open_bool.result (c.open_bool.ensures F ns orders x j (subst (λ (k : Kind). IsKindOf F ns x (form_of c.args.definition.now) k) c.in-Bool.is h) b)
+    opened F ns x j c.args.out.now.items c.open_bool.new.out.items c.open_bool.result (c.open_bool.ensures F ns x j (subst (λ (k : Kind). IsKindOf F ns x (form_of c.args.definition.now) k) c.in-Bool.is h) b)
 
 pub returns-in-Bytes : goal.returns-in-Bytes
 returns-in-Bytes c x j at e h order tells b =
     let F = forms_in (map_of c.args.json.now.plan.now) in
     let ns = plan_names c.args.json.now.plan.now in
-    let orders = c.args.json.now.orders.items in
-    opened F ns orders x j c.args.out.now.items c.open_bytes.new.out.items c.open_bytes.result (c.open_bytes.ensures F ns orders x j (subst (λ (k : Kind). IsKindOf F ns x (form_of c.args.definition.now) k) c.in-Bytes.is h) b)
+    opened F ns x j c.args.out.now.items c.open_bytes.new.out.items c.open_bytes.result (c.open_bytes.ensures F ns x j (subst (λ (k : Kind). IsKindOf F ns x (form_of c.args.definition.now) k) c.in-Bytes.is h) b)
 
 pub returns-in-Float : goal.returns-in-Float
 returns-in-Float c x j at e h order tells b =
     let F = forms_in (map_of c.args.json.now.plan.now) in
     let ns = plan_names c.args.json.now.plan.now in
-    let orders = c.args.json.now.orders.items in
-    opened F ns orders x j c.args.out.now.items c.open_float.new.out.items c.open_float.result (c.open_float.ensures F ns orders x j (subst (λ (k : Kind). IsKindOf F ns x (form_of c.args.definition.now) k) c.in-Float.is h) b)
+    opened F ns x j c.args.out.now.items c.open_float.new.out.items c.open_float.result (c.open_float.ensures F ns x j (subst (λ (k : Kind). IsKindOf F ns x (form_of c.args.definition.now) k) c.in-Float.is h) b)
 
 pub returns-in-Text : goal.returns-in-Text
 returns-in-Text c x j at e h order tells b =
     let F = forms_in (map_of c.args.json.now.plan.now) in
     let ns = plan_names c.args.json.now.plan.now in
-    let orders = c.args.json.now.orders.items in
-    opened F ns orders x j c.args.out.now.items c.open_text.new.out.items c.open_text.result (c.open_text.ensures F ns orders x j (subst (λ (k : Kind). IsKindOf F ns x (form_of c.args.definition.now) k) c.in-Text.is h) b)
+    opened F ns x j c.args.out.now.items c.open_text.new.out.items c.open_text.result (c.open_text.ensures F ns x j (subst (λ (k : Kind). IsKindOf F ns x (form_of c.args.definition.now) k) c.in-Text.is h) b)
 
 pub returns-in-ByteList : goal.returns-in-ByteList
 returns-in-ByteList c x j at e h order tells b =
     let F = forms_in (map_of c.args.json.now.plan.now) in
     let ns = plan_names c.args.json.now.plan.now in
     let i = subst (λ (k : Kind). IsKindOf F ns x (form_of c.args.definition.now) k) c.in-ByteList.is h in
-    let o = subst (λ (k : Kind). KindHasOrder F ns c.args.json.now.orders.items x k) c.in-ByteList.is order in
-    c.open_byte_list.ensures F ns c.args.json.now.orders.items x j i.0 i.1 i.2 o.0 o.1 (subst (λ (k : Kind). KindTellsOrder F x k) c.in-ByteList.is tells) b
+    let o = subst (λ (k : Kind). KindHasOrder F ns x k) c.in-ByteList.is order in
+    c.open_byte_list.ensures F ns x j i.0 i.1 i.2 o.0 o.1 (subst (λ (k : Kind). KindTellsOrder F x k) c.in-ByteList.is tells) b
 
 pub returns-in-Numbers : goal.returns-in-Numbers
 returns-in-Numbers c x j at e h order tells b =
     let F = forms_in (map_of c.args.json.now.plan.now) in
     let ns = plan_names c.args.json.now.plan.now in
-    let orders = c.args.json.now.orders.items in
     let i = subst (λ (k : Kind). IsKindOf F ns x (form_of c.args.definition.now) k) c.in-Numbers.is h in
-    let o = subst (λ (k : Kind). KindHasOrder F ns c.args.json.now.orders.items x k) c.in-Numbers.is order in
-    opened F ns orders x j c.args.out.now.items c.open_list.new.out.items c.open_list.result (c.open_list.ensures F ns orders x j o (λ z. subst (λ (k : Kind). KindTellsOrder F x k) c.in-Numbers.is tells) i.0 b)
+    let o = subst (λ (k : Kind). KindHasOrder F ns x k) c.in-Numbers.is order in
+    opened F ns x j c.args.out.now.items c.open_list.new.out.items c.open_list.result (c.open_list.ensures F ns x j o (λ z. subst (λ (k : Kind). KindTellsOrder F x k) c.in-Numbers.is tells) i.0 b)
 
 pub returns-in-List : goal.returns-in-List
 returns-in-List c x j at e h order tells b =
     let F = forms_in (map_of c.args.json.now.plan.now) in
     let ns = plan_names c.args.json.now.plan.now in
-    let orders = c.args.json.now.orders.items in
     let i = subst (λ (k : Kind). IsKindOf F ns x (form_of c.args.definition.now) k) c.in-List.is h in
-    let o = subst (λ (k : Kind). KindHasOrder F ns c.args.json.now.orders.items x k) c.in-List.is order in
-    opened F ns orders x j c.args.out.now.items c.open_list-in-List.new.out.items c.open_list-in-List.result (c.open_list-in-List.ensures F ns orders x j o (subst (λ (k : Kind). KindTellsOrder F x k) c.in-List.is tells) i.0 b)
+    let o = subst (λ (k : Kind). KindHasOrder F ns x k) c.in-List.is order in
+    opened F ns x j c.args.out.now.items c.open_list-in-List.new.out.items c.open_list-in-List.result (c.open_list-in-List.ensures F ns x j o (subst (λ (k : Kind). KindTellsOrder F x k) c.in-List.is tells) i.0 b)
 
 pub returns-in-Row : goal.returns-in-Row
 returns-in-Row c x j at e h order tells b =
     let F = forms_in (map_of c.args.json.now.plan.now) in
     let ns = plan_names c.args.json.now.plan.now in
-    let orders = c.args.json.now.orders.items in
-    opened F ns orders x j c.args.out.now.items c.args.out.now.items c.open_row.result (unmoved F ns orders x j c.args.out.now.items c.open_row.result (c.open_row.ensures F ns orders x j (form_of c.args.definition.now, at, e, subst (λ (k : Kind). IsKindOf F ns x (form_of c.args.definition.now) k) c.in-Row.is h) b))
+    opened F ns x j c.args.out.now.items c.args.out.now.items c.open_row.result (unmoved F ns x j c.args.out.now.items c.open_row.result (c.open_row.ensures F ns x j (form_of c.args.definition.now, at, e, subst (λ (k : Kind). IsKindOf F ns x (form_of c.args.definition.now) k) c.in-Row.is h) b))
 
 pub returns-in-Object : goal.returns-in-Object
 returns-in-Object c x j at e h order tells b =
     let F = forms_in (map_of c.args.json.now.plan.now) in
     let ns = plan_names c.args.json.now.plan.now in
-    let orders = c.args.json.now.orders.items in
-    opened F ns orders x j c.args.out.now.items c.args.out.now.items c.open_object.result (unmoved F ns orders x j c.args.out.now.items c.open_object.result (c.open_object.ensures F ns orders x j (form_of c.args.definition.now, at, e, subst (λ (k : Kind). IsKindOf F ns x (form_of c.args.definition.now) k) c.in-Object.is h) b))
+    opened F ns x j c.args.out.now.items c.args.out.now.items c.open_object.result (unmoved F ns x j c.args.out.now.items c.open_object.result (c.open_object.ensures F ns x j (form_of c.args.definition.now, at, e, subst (λ (k : Kind). IsKindOf F ns x (form_of c.args.definition.now) k) c.in-Object.is h) b))
 
 pub returns-in-Map : goal.returns-in-Map
 returns-in-Map c x j at e h order tells b =
     let F = forms_in (map_of c.args.json.now.plan.now) in
     let ns = plan_names c.args.json.now.plan.now in
-    let orders = c.args.json.now.orders.items in
-    opened F ns orders x j c.args.out.now.items c.open_map.new.out.items c.open_map.result (c.open_map.ensures F ns orders x j (c.in-Map.field-1, subst (λ (k : Kind). IsKindOf F ns x (form_of c.args.definition.now) k) c.in-Map.is h) b)
+    opened F ns x j c.args.out.now.items c.open_map.new.out.items c.open_map.result (c.open_map.ensures F ns x j (c.in-Map.field-1, subst (λ (k : Kind). IsKindOf F ns x (form_of c.args.definition.now) k) c.in-Map.is h) b)
 
 pub returns-in-Newtype : goal.returns-in-Newtype
 returns-in-Newtype c x j at e h order tells b =
     let F = forms_in (map_of c.args.json.now.plan.now) in
     let ns = plan_names c.args.json.now.plan.now in
-    let orders = c.args.json.now.orders.items in
     let d = subst (λ (k : Kind). IsKindOf F ns x (form_of c.args.definition.now) k) c.in-Newtype.is h in
-    ([], sym (append-nil c.args.out.now.items), only_found F ns orders x j (inner d.0) [] (Newtype c.in-Newtype.part) d.0 j c.args.element c.only.result c.only.ensures (λ i. (d.0, refl, λ ws e. (d.0, d.1, e))) (λ q. q) (λ z. absurd (let q = z.2 in cc)) (d.0, refl, refl) d.2 b (refl, refl))
+    ([], sym (append-nil c.args.out.now.items), only_found F ns x j (inner d.0) [] (Newtype c.in-Newtype.part) d.0 j c.args.element c.only.result c.only.ensures (λ i. (d.0, refl, λ ws e. (d.0, d.1, e))) (λ q. q) (λ z. absurd (let q = z.2 in cc)) (d.0, refl, refl) d.2 b (refl, refl))
 
 pub returns-in-Optional : goal.returns-in-Optional
 returns-in-Optional c x j at e h order tells b =
     let F = forms_in (map_of c.args.json.now.plan.now) in
     let ns = plan_names c.args.json.now.plan.now in
-    let orders = c.args.json.now.orders.items in
-    opened F ns orders x j c.args.out.now.items c.open_option.new.out.items c.open_option.result (c.open_option.ensures F ns orders x j (subst (λ (k : Kind). IsKindOf F ns x (form_of c.args.definition.now) k) c.in-Optional.is h) b)
+    opened F ns x j c.args.out.now.items c.open_option.new.out.items c.open_option.result (c.open_option.ensures F ns x j (subst (λ (k : Kind). IsKindOf F ns x (form_of c.args.definition.now) k) c.in-Optional.is h) b)
 
 pub returns-in-Choice : goal.returns-in-Choice
 returns-in-Choice c x j at e h order tells b =
     let F = forms_in (map_of c.args.json.now.plan.now) in
     let ns = plan_names c.args.json.now.plan.now in
-    let orders = c.args.json.now.orders.items in
     let d = subst (λ (k : Kind). IsKindOf F ns x (form_of c.args.definition.now) k) c.in-Choice.is h in
-    opened F ns orders x j c.args.out.now.items c.open_variant.new.out.items c.open_variant.result (c.open_variant.ensures x j at d.1 d.0 b)
+    opened F ns x j c.args.out.now.items c.open_variant.new.out.items c.open_variant.result (c.open_variant.ensures x j at d.1 d.0 b)
 
 pub returns-in_ok-name-in-Repeated : goal.returns-in_ok-name-in-Repeated
 returns-in_ok-name-in-Repeated c x j at e h order tells b =

@@ -17,8 +17,7 @@ pub returns-then-is_zero_size : goal.returns-then-is_zero_size
 returns-then-is_zero_size c x j at b =
     let F = forms_in (map_of c.args.json.now.plan.now) in
     let ns = plan_names c.args.json.now.plan.now in
-    let orders = c.args.json.now.orders.items in
-    opened F ns orders x j c.args.out.now.items c.args.out.now.items c.open_null.result (unmoved F ns orders x j c.args.out.now.items c.open_null.result (c.open_null.ensures F ns orders x j (inl ((c.is_zero_size.ensures x at).0 c.if-is_zero_size.true, refl)) b))
+    opened F ns x j c.args.out.now.items c.args.out.now.items c.open_null.result (unmoved F ns x j c.args.out.now.items c.open_null.result (c.open_null.ensures F ns x j (inl ((c.is_zero_size.ensures x at).0 c.if-is_zero_size.true, refl)) b))
 
 pub returns-in_default : goal.returns-in_default
 returns-in_default c x j at b =

@@ -1,9 +1,13 @@
 use Rattle.std.proofs.Common.{◌≡◌, ◌-◌, ◌*◌, ◌<◌, ◌≤◌, ◌++◌, ℕ, List, length}
-use Rattle.borsh_json.specs.Descents.{NumbersDescend}
+use Rattle.std.specs.Prelude.{Option}
+use Rattle.borsh_plan.specs.declared.named.Named.{Named}
+use Rattle.borsh_json.specs.Descents.{PrimitivesDescend}
+use Rattle.borsh_json.specs.Forms.{Form}
+use Rattle.borsh_json.specs.Orders.{ArePrimitives}
 use Rattle.borsh_json.proofs.order.first_descent.Given as goal
 
 abbrev pub invariant-loop-index : goal.invariant-loop-index
 invariant-loop-index l =
     (1 ≤ l.index)
     × ((c : ℕ) → 0 < l.size → length l.bytes ≡ c * l.size → (before : List ℕ) × (m : ℕ) × (l.bytes ≡ before ++ l.rest) × (length before ≡ (l.index - 1) * l.size) × (length l.rest ≡ m * l.size))
-    × ((c : ℕ) → 0 < l.size → length l.bytes ≡ c * l.size → (i : ℕ) → i < l.index → NumbersDescend l.size l.is_signed l.bytes i → ⊥)
+    × ((F : List ℕ → Option Form) (ns : List Named) (e : List ℕ) → ArePrimitives F ns e l.order l.size l.bytes → (i : ℕ) → i < l.index → PrimitivesDescend F e l.size l.bytes i → ⊥)

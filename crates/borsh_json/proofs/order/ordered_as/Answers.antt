@@ -1,5 +1,5 @@
 use Rattle.std.proofs.Common.{◌≡◌, ◌∙◌, inr, Some, map, length, string_bytes, refl, sym, ap, subst, arith}
-use Rattle.borsh_json.specs.Forms.{form_of}
+use Rattle.borsh_json.specs.Forms.{form_of, variant_bytes}
 use Rattle.borsh_json.specs.Found.{forms_of, names_of}
 use Rattle.borsh_walks.specs.TupleNames.{tuple_name}
 use Rattle.borsh_json.specs.Ordered.{list, parts, AreNumbers}
@@ -41,7 +41,7 @@ returns-else-is_tuple_name-clause-none c x h r =
 
 pub returns-in_err-part-in-Enum-clause-none : goal.returns-in_err-part-in-Enum-clause-none
 returns-in_err-part-in-Enum-clause-none c x h r =
-    no_option (forms_of c.args.definitions.now) x c.in-Enum.tag_width (map (λ v. (v.0, string_bytes v.1, string_bytes v.2)) c.in-Enum.variants.items) (h.1 ∙ ap (λ d. Some (form_of d)) c.in-Enum.is) (c.in_err-part-in-Enum.ensures x h)
+    no_option (forms_of c.args.definitions.now) x c.in-Enum.tag_width (map variant_bytes c.in-Enum.variants.items) (h.1 ∙ ap (λ d. Some (form_of d)) c.in-Enum.is) (c.in_err-part-in-Enum.ensures x h)
 
 pub returns-in-Struct-clause-none : goal.returns-in-Struct-clause-none
 returns-in-Struct-clause-none c x h r = no_struct (forms_of c.args.definitions.now) x (form_of c.args.definition.now) h.1 (subst (λ d. IsOfStruct (form_of d)) (sym c.in-Struct.is) (struct_form c.in-Struct.fields))

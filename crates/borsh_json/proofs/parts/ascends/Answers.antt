@@ -1,20 +1,18 @@
 use Rattle.std.proofs.Common.{◌≡◌, ℕ, List, drop, Bool, true, false, Option, Some, None, refl, sym, subst}
-use Rattle.std.specs.Prelude.{Decides, MatchBool}
-use Rattle.std.specs.declared.cmp.Ordering.{Ordering}
-use Rattle.std.specs.declared.cmp.Ordering.TheVariants.{Less}
+use Rattle.std.specs.Prelude.{MatchBool}
 use Rattle.borsh_json.specs.declared.definitions.Definitions.{Definitions}
 use Rattle.borsh_json.specs.declared.order.Ascent.{Ascent}
 use Rattle.borsh_json.specs.Frames.{AscentFalls, AscentRises}
-use Rattle.borsh_json.specs.Orders.{OrderedBy, ValuesCompare}
+use Rattle.borsh_json.specs.Orders.{IsNotBelow, OrderedBy}
 use Rattle.borsh_json.proofs.parts.ascends.Goals as goal
 
-tells : (d : Definitions) (a : Ascent) (bytes : List ℕ) (b : Bool) → (a.earlier ≡ None → b ≡ true) → ((k : List ℕ) → OrderedBy d k a.order → (i j : ℕ) → a.earlier ≡ Some i → a.last ≡ Some j → (r : Ordering) → ValuesCompare d k (drop i bytes) (drop j bytes) r → Decides b (r ≡ Less)) → MatchBool b (AscentRises d (Some a) bytes) (AscentFalls d (Some a) bytes)
-tells d a bytes true first order = λ i j e l k o r v. (order k o i j e l r v).0 refl
+tells : (d : Definitions) (a : Ascent) (bytes : List ℕ) (b : Bool) → (a.earlier ≡ None → b ≡ true) → ((k : List ℕ) → OrderedBy d k a.order → (i j : ℕ) → a.earlier ≡ Some i → a.last ≡ Some j → MatchBool b (IsNotBelow d k (drop i bytes) (drop j bytes) → ⊥) (IsNotBelow d k (drop i bytes) (drop j bytes))) → MatchBool b (AscentRises d (Some a) bytes) (AscentFalls d (Some a) bytes)
+tells d a bytes true first order = λ i j e l k o. order k o i j e l
 tells d a bytes false first order = go a.earlier refl
   where
     go : (o : Option ℕ) → a.earlier ≡ o → AscentFalls d (Some a) bytes
     go None q = let z : false ≡ true = first q in cc
-    go (Some i) q = (i, q, λ k o j l r v less. let z : false ≡ true = (order k o i j q l r v).1 less in cc)
+    go (Some i) q = (i, q, λ k o j l. order k o i j q l)
 
 pub returns-clause-tells : goal.returns-clause-tells
 returns-clause-tells c =

@@ -5,7 +5,7 @@ use Rattle.borsh_values.specs.Nodes.{IsVariantOf}
 use Rattle.borsh_json.specs.Forms.{form_of}
 use Rattle.borsh_json.specs.Found.{forms_of, names_of}
 use Rattle.borsh_json.proofs.ChoiceLaws.{there, is_chosen, its_part, name_said, name_written, variant_begun}
-use Rattle.borsh_json.proofs.FormsLaws.{shape_is}
+use Rattle.borsh_walks.proofs.Forms.{shape_is}
 use Rattle.borsh_json.proofs.values.begin_variant.Goals as goal
 
 pub returns-in_default : goal.returns-in_default

@@ -1,13 +1,14 @@
-use Rattle.std.proofs.Common.{◌≡◌, ◌∙◌, length, sym, subst}
+use Rattle.std.proofs.Common.{◌≡◌, ◌∙◌, ◌++◌, length, sym, subst}
 use Rattle.borsh_walks.specs.Container.{Shape}
 use Rattle.borsh_values.specs.Nodes.{AreElementsOf}
 use Rattle.borsh_json.specs.declared.kinds.Kind.{Kind as Found}
 use Rattle.borsh_json.specs.declared.kinds.Kind.TheVariants.{ByteList, Numbers}
 use Rattle.borsh_json.specs.Forms.{form_of}
+use Rattle.borsh_json.specs.Frames.{steps_at, steps_through}
 use Rattle.borsh_json.specs.Orders.{KindHasOrder}
 use Rattle.borsh_json.specs.Places.{IsKindOf}
 use Rattle.borsh_json.proofs.FallLaws.{both_known, bytes_falls, numbers_falls, rises_in}
-use Rattle.borsh_json.proofs.FormsLaws.{shape_is}
+use Rattle.borsh_walks.proofs.Forms.{shape_is}
 use Rattle.borsh_json.proofs.writing.check_elements.Goals as goal
 
 pub returns-in-ByteList-clause-full : goal.returns-in-ByteList-clause-full
@@ -15,9 +16,10 @@ returns-in-ByteList-clause-full c =
     let n = c.args.node.now in
     let d = n.definition.now in
     let bytes = c.elements_of.result.now in
-    both_known c.check_ascent.result c.check_ascent.ensures.descends c.check_ascent.ensures.falls (λ e i g F ns orders x parts after o k h.
-    bytes_falls F ns orders x n.bytes.now after bytes (form_of d) parts c.in-ByteList.elements o (subst (λ (s : Shape). AreElementsOf s n.bytes.now bytes) (sym (shape_is d)) c.elements_of.ensures) (length c.args.position.now.outer.items) e
-    (subst (λ (q : Found). IsKindOf F ns x (form_of d) q) c.in-ByteList.is k) (subst (λ (q : Found). KindHasOrder F ns orders x q) c.in-ByteList.is h) i g)
+    let q = c.args.position.now in
+    both_known c.check_ascent.result c.check_ascent.ensures.descends c.check_ascent.ensures.falls (λ e i g F ns x parts after o k h.
+    bytes_falls F ns x n.bytes.now after bytes (form_of d) parts c.in-ByteList.elements o (subst (λ (s : Shape). AreElementsOf s n.bytes.now bytes) (sym (shape_is d)) c.elements_of.ensures) q.root.now (steps_through q.outer.items ++ steps_at q.place) (length q.outer.items) e
+    (subst (λ (q : Found). IsKindOf F ns x (form_of d) q) c.in-ByteList.is k) (subst (λ (q : Found). KindHasOrder F ns x q) c.in-ByteList.is h) i g)
 
 pub returns-in_ok-check_room-in-Numbers-clause-full :
     goal.returns-in_ok-check_room-in-Numbers-clause-full
@@ -25,9 +27,10 @@ returns-in_ok-check_room-in-Numbers-clause-full c =
     let n = c.args.node.now in
     let d = n.definition.now in
     let bytes = c.elements_of-in-Numbers.result.now in
-    both_known c.check_ascent-in-Numbers.result c.check_ascent-in-Numbers.ensures.descends c.check_ascent-in-Numbers.ensures.falls (λ e i g F ns orders x parts after o k h.
-    numbers_falls F ns orders x n.bytes.now after bytes (form_of d) parts c.in-Numbers.elements o (subst (λ (s : Shape). AreElementsOf s n.bytes.now bytes) (sym (shape_is d)) c.elements_of-in-Numbers.ensures) (length c.args.position.now.outer.items) e
-    (subst (λ (q : Found). IsKindOf F ns x (form_of d) q) c.in-Numbers.is k) (subst (λ (q : Found). KindHasOrder F ns orders x q) c.in-Numbers.is h) i g)
+    let q = c.args.position.now in
+    both_known c.check_ascent-in-Numbers.result c.check_ascent-in-Numbers.ensures.descends c.check_ascent-in-Numbers.ensures.falls (λ e i g F ns x parts after o k h.
+    numbers_falls F ns x n.bytes.now after bytes (form_of d) parts c.in-Numbers.elements o (subst (λ (s : Shape). AreElementsOf s n.bytes.now bytes) (sym (shape_is d)) c.elements_of-in-Numbers.ensures) q.root.now (steps_through q.outer.items ++ steps_at q.place) (length q.outer.items) e
+    (subst (λ (q : Found). IsKindOf F ns x (form_of d) q) c.in-Numbers.is k) (subst (λ (q : Found). KindHasOrder F ns x q) c.in-Numbers.is h) i g)
 
 pub returns-in-ByteList-clause-bytes : goal.returns-in-ByteList-clause-bytes
 returns-in-ByteList-clause-bytes c =

@@ -4,6 +4,7 @@ use Rattle.borsh_walks.specs.Definitions.{definitions_in}
 use Rattle.borsh_json.specs.Errors.{IsNoJsonReason}
 use Rattle.borsh_json.specs.Forms.{forms_in}
 use Rattle.borsh_json.specs.InOrder.{TextRepresents}
+use Rattle.borsh_json.specs.Printed.{HasQuotedNumbers}
 use Rattle.borsh_json.proofs.PlanLaws.{by_plan}
 use Rattle.borsh_json.proofs.writing.to_json.Goals as goal
 
@@ -14,3 +15,7 @@ returns-clause-says c =
 pub returns-clause-reason : goal.returns-clause-reason
 returns-clause-reason c =
     by_plan (λ root map. IfErr c.to_json.result (λ e. IsNoJsonReason (definitions_in map) root c.args.bytes.now e)) c.in_ok-json.json c.in_ok-plan.plan c.in_ok-json.ensures c.in_ok-plan.ensures c.to_json.ensures.reason
+
+pub returns-clause-quoted : goal.returns-clause-quoted
+returns-clause-quoted c = λ e.
+    by_plan (λ root map. IfOk c.to_json.result (λ text. HasQuotedNumbers (forms_in map) root (string_bytes text))) c.in_ok-json.json c.in_ok-plan.plan c.in_ok-json.ensures c.in_ok-plan.ensures (c.to_json.ensures.quoted e)

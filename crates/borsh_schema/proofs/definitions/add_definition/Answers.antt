@@ -1,7 +1,7 @@
 use Rattle.std.proofs.Common.{Some, refl, sym, ◌∙◌, ap}
 use Rattle.std.specs.Prelude.{string_bytes, option_map}
 use Rattle.std.proofs.lemmas.Bool.Decides.{not_from_Decides}
-use Rattle.borsh_definitions.specs.Described.{named_definition}
+use Rattle.borsh_definitions.specs.Described.{form_of}
 use Rattle.borsh_definitions.proofs.Laws.Adding.{found_at, absent_at}
 use Rattle.borsh_schema.proofs.Adding.{joined_known, not_joined_known, found_once, joined_new}
 use Rattle.borsh_schema.proofs.definitions.add_definition.Goals as goal
@@ -34,5 +34,5 @@ returns-clause-outcome c =
 pub returns-clause-known : goal.returns-clause-known
 returns-clause-known c = λ d h.
     let f = absent_at c.args.definitions.now c.as_str.result.now (string_bytes c.args.declaration) c.in_default.ensures.value c.as_str.ensures.value in
-    let g = ap (option_map named_definition) f in
+    let g = ap (option_map form_of) f in
     absurd (cc)

@@ -6,7 +6,7 @@ use Rattle.borsh_json.specs.Errors.{IsNoJsonReason}
 use Rattle.borsh_json.specs.Forms.{forms_in}
 use Rattle.borsh_json.specs.InOrder.{TextRepresents}
 use Rattle.borsh_json.specs.NoJson.{ShowsNoJson}
-use Rattle.borsh_json.specs.Printed.{HasShortNumbers}
+use Rattle.borsh_json.specs.Printed.{HasQuotedNumbers}
 use Rattle.borsh_walks.specs.Definitions.{definitions_in}
 use Rattle.borsh_tool_commands.proofs.Failing.{led, reasoned}
 use Rattle.borsh_tool_commands.proofs.values.json_text.Goals as goal
@@ -26,9 +26,11 @@ returns-in_ok-end_line-in-Ok-clause-ok c =
     let line = c.in_ok-end_line-in-Ok.ensures {u = tt} ∙ ap (λ (l : List ℕ). l ++ 10 ∷ []) text in
     (json, says, c.in-Ok.ensures.ascii refl, c.in-Ok.ensures.line, line)
 
-pub returns-in_ok-end_line-in-Ok-clause-short : goal.returns-in_ok-end_line-in-Ok-clause-short
-returns-in_ok-end_line-in-Ok-clause-short c = λ quoted text line.
+pub returns-in_ok-end_line-in-Ok-clause-quoted : goal.returns-in_ok-end_line-in-Ok-clause-quoted
+returns-in_ok-end_line-in-Ok-clause-quoted c = λ quoted text line.
     let json = string_bytes c.in-Ok.json in
     let bytes = c.of-out.ensures ∙ ap (λ (v : Vec ℕ Global). v.items) c.into_bytes.ensures.value in
     let printed = c.in_ok-end_line-in-Ok.ensures {u = tt} ∙ ap (λ (l : List ℕ). l ++ 10 ∷ []) bytes in
-    subst HasShortNumbers (append_cancel_right json text (10 ∷ []) (sym printed ∙ line)) (c.in-Ok.ensures.short quoted)
+    let F = forms_in c.args.schema.now.definitions in
+    let quotes = subst (λ (r : List ℕ). HasQuotedNumbers F r json) c.as_str.ensures.value (c.in-Ok.ensures.quoted quoted) in
+    subst (HasQuotedNumbers F (string_bytes c.args.schema.now.root)) (append_cancel_right json text (10 ∷ []) (sym printed ∙ line)) quotes

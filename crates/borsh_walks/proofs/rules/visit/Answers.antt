@@ -27,7 +27,7 @@ returns-in_default-clause-counts c = λ root s r n base h.
     (s.names, s.zero.names, (s.marks.distinct, λ x a. (let k = (s.marks.looked x a).1 in (k.0, k.2))), (s.zero.marks.distinct, λ x a. (let k = s.zero.marks.looked x a in (s.zeros_reached x k.0, k.1))), c.in_default.ensures.counts ∙ h ∙ same, tt)
 
 pub broken_rule-requires : goal.broken_rule-requires
-broken_rule-requires c = subst (λ m. ZeroTable (definitions_in m.now) c.args.table.now) (sym c.in-Some.ensures.same.0) c.requires
+broken_rule-requires c = subst (λ m. ZeroTable (definitions_in m.now) c.args.table.now) (sym c.in-Some.ensures.same.0) c.requires.table
 
 pub returns-in_err-broken-clause-counts : goal.returns-in_err-broken-clause-counts
 returns-in_err-broken-clause-counts c = λ root s r n base h.
@@ -37,7 +37,7 @@ returns-in_err-broken-clause-counts c = λ root s r n base h.
     let known = also_known (r, (_, e)) (λ x a. (let k = (s.marks.looked x a).1 in (k.0, k.2))) in
     let z = c.in_err-broken.ensures.counts in
     let zeros = zeros_known C root c.args.table.now c.args.name.now (shape_of c.in-Some.definition.now) r e s.zeros_reached (subst (λ m. (x : List ℕ) → IsIn x z.names → IsDefined (definitions_in m.now) x × (IsMarked c.args.table.now x ⊎ ElementReaches (definitions_in m.now) (shape_of c.in-Some.definition.now) x)) c.in-Some.ensures.same.0 z.known) in
-    let k = z.counts (add_to Rules (suc (btree_map_len c.args.seen.now)) base) (both_more (btree_map_len c.args.seen.now) (btree_map_len c.args.table.now) (counts_of c.args.counted.now) (counts_of c.look.new.self) base h c.in-Some.ensures.counts) in
+    let k = z.counts (add_to Rules (suc (btree_map_len c.args.seen.now)) base) (both_more (btree_map_len c.args.seen.now) (btree_map_len c.args.table.now) (counts_of c.args.counted.now) (counts_of c.look_by.new.self) base h c.in-Some.ensures.counts) in
     let same = ap (λ i. add_to Rules (suc i) (add_to Zero (length z.names) base)) s.len in
     (c.args.name.now ∷ s.names, z.names, (more.0, known), (z.once, zeros), k ∙ same, on_err _ c.from_residual-in_err-broken.result c.from_residual-in_err-broken.ensures.0)
 
@@ -57,7 +57,7 @@ returns-in-Some-2-clause-counts c = λ root s r n base h.
     let known = also_known (r, (_, e)) (λ x a. (let k = (s.marks.looked x a).1 in (k.0, k.2))) in
     let z = c.in_ok-broken.ensures.counts in
     let zeros = zeros_known C root c.args.table.now c.args.name.now (shape_of c.in-Some.definition.now) r e s.zeros_reached (subst (λ m. (x : List ℕ) → IsIn x z.names → IsDefined (definitions_in m.now) x × (IsMarked c.args.table.now x ⊎ ElementReaches (definitions_in m.now) (shape_of c.in-Some.definition.now) x)) c.in-Some.ensures.same.0 z.known) in
-    let k = z.counts (add_to Rules (suc (btree_map_len c.args.seen.now)) base) (both_more (btree_map_len c.args.seen.now) (btree_map_len c.args.table.now) (counts_of c.args.counted.now) (counts_of c.look.new.self) base h c.in-Some.ensures.counts) in
+    let k = z.counts (add_to Rules (suc (btree_map_len c.args.seen.now)) base) (both_more (btree_map_len c.args.seen.now) (btree_map_len c.args.table.now) (counts_of c.args.counted.now) (counts_of c.look_by.new.self) base h c.in-Some.ensures.counts) in
     let same = ap (λ i. add_to Rules (suc i) (add_to Zero (length z.names) base)) s.len in
     (c.args.name.now ∷ s.names, z.names, (more.0, known), (z.once, zeros), k ∙ same, tt)
 
@@ -105,7 +105,7 @@ returns-in_err-push-clause-counts c = λ root s r n base h.
     let known = also_known (r, (_, e)) (λ x a. (let k = (s.marks.looked x a).1 in (k.0, k.2))) in
     let z = c.in_ok-broken.ensures.counts in
     let zeros = zeros_known C root c.args.table.now c.args.name.now (shape_of c.in-Some.definition.now) r e s.zeros_reached (subst (λ m. (x : List ℕ) → IsIn x z.names → IsDefined (definitions_in m.now) x × (IsMarked c.args.table.now x ⊎ ElementReaches (definitions_in m.now) (shape_of c.in-Some.definition.now) x)) c.in-Some.ensures.same.0 z.known) in
-    let k = z.counts (add_to Rules (suc (btree_map_len c.args.seen.now)) base) (both_more (btree_map_len c.args.seen.now) (btree_map_len c.args.table.now) (counts_of c.args.counted.now) (counts_of c.look.new.self) base h c.in-Some.ensures.counts) in
+    let k = z.counts (add_to Rules (suc (btree_map_len c.args.seen.now)) base) (both_more (btree_map_len c.args.seen.now) (btree_map_len c.args.table.now) (counts_of c.args.counted.now) (counts_of c.look_by.new.self) base h c.in-Some.ensures.counts) in
     let same = ap (λ i. add_to Rules (suc i) (add_to Zero (length z.names) base)) s.len in
     (c.args.name.now ∷ s.names, z.names, (more.0, known), (z.once, zeros), k ∙ same, on_err _ c.from_residual-in_err-push.result c.from_residual-in_err-push.ensures.0)
 
@@ -143,7 +143,7 @@ returns-clause-counts c = λ root s r n base h.
     let known = also_known (r, (_, e)) (λ x a. (let k = (s.marks.looked x a).1 in (k.0, k.2))) in
     let z = c.in_ok-broken.ensures.counts in
     let zeros = zeros_known C root c.args.table.now c.args.name.now (shape_of c.in-Some.definition.now) r e s.zeros_reached (subst (λ m. (x : List ℕ) → IsIn x z.names → IsDefined (definitions_in m.now) x × (IsMarked c.args.table.now x ⊎ ElementReaches (definitions_in m.now) (shape_of c.in-Some.definition.now) x)) c.in-Some.ensures.same.0 z.known) in
-    let k = z.counts (add_to Rules (suc (btree_map_len c.args.seen.now)) base) (both_more (btree_map_len c.args.seen.now) (btree_map_len c.args.table.now) (counts_of c.args.counted.now) (counts_of c.look.new.self) base h c.in-Some.ensures.counts) in
+    let k = z.counts (add_to Rules (suc (btree_map_len c.args.seen.now)) base) (both_more (btree_map_len c.args.seen.now) (btree_map_len c.args.table.now) (counts_of c.args.counted.now) (counts_of c.look_by.new.self) base h c.in-Some.ensures.counts) in
     let len = grown c.in_ok-insert.field-0 c.in_ok-insert.ensures.len (found_at c.args.name c.key_of.result c.args.seen.now c.key_of.ensures c.in_ok-insert.ensures.old ∙ n) in
     let same = ap (λ i. add_to Rules (suc i) (add_to Zero (length z.names) base)) s.len in
     (c.args.name.now ∷ s.names, z.names, (more.0, known), (z.once, zeros), k ∙ same, (ap suc (sym s.len) ∙ sym len, z.all.0))

@@ -11,7 +11,7 @@ use Rattle.borsh_walks.specs.RulesState.{RulesState, AreReached, AreZeroSizeReac
 use Rattle.borsh_walks.specs.declared.counted.Question.TheVariants.{Rules, Zero}
 use Rattle.borsh_walks.specs.declared.counted.Expansions.{Expansions}
 use Rattle.borsh_walks.proofs.RulesLaws.{checked_referenced}
-use Rattle.borsh_walks.proofs.Names.{names_within}
+use Rattle.borsh_walks.proofs.Names.{distinct_none, names_within}
 use Rattle.borsh_walks.proofs.Tables.{marks_none_at, has_mark, mark_cases, few_names, few_more}
 use Rattle.borsh_walks.proofs.Spots.{moved, last_first}
 use Rattle.borsh_walks.proofs.Measure.{rests, rests_moved, left_moved, left_popped, left_pushed}
@@ -28,8 +28,11 @@ both_none j k e p q = subst (λ i. e ≡ add_to Rules i (add_to Zero k e)) (sym 
 both_at : (j k a b : ℕ) (c e : Expansions) → c ≡ add_to Rules j (add_to Zero k e) → j ≡ a → k ≡ b → c ≡ add_to Rules a (add_to Zero b e)
 both_at j k a b c e h p q = h ∙ ap (λ i. add_to Rules i (add_to Zero k e)) p ∙ ap (λ i. add_to Rules a (add_to Zero i e)) q
 
+pub returns-in_err-places-clause-work : goal.returns-in_err-places-clause-work
+returns-in_err-places-clause-work c = record { names = []; zeros = []; reached = (distinct_none, λ x a. elim a [ ]); zeros_reached = (distinct_none, λ x a. elim a [ ]); few = omega arith; few_zeros = omega arith; counts = refl }
+
 pub visit-requires : goal.visit-requires
-visit-requires c = empty_table (definitions_of c.args.counted.now) c.new-table.result c.new-table.ensures.empty
+visit-requires c = record { table = empty_table (definitions_of c.args.counted.now) c.new-table.result c.new-table.ensures.empty; places = c.in_ok-places.ensures }
 
 pub loop-spot-init : goal.loop-spot-init
 loop-spot-init c =
@@ -47,7 +50,7 @@ returns-in_err-visit-clause-answer c =
     let root = c.args.root.now in
     let s = rules_start C root c.new-seen.result c.new-table.result (reverse c.new-stack.result.items) c.new-seen.ensures.empty c.new-table.ensures.empty (ap (λ l. reverse l) c.new-stack.ensures.items) in
     let n = marks_none_at c.new-seen.result c.new-seen.ensures.empty root in
-    err_is (λ x. IsValid C root) (RulesFault C root) c.from_residual.result c.in_err-visit.field-0.0 c.from_residual.ensures.0 c.from_residual.ensures.1 (c.in_err-visit.ensures.visited root s stays n)
+    err_is (λ x. IsValid C root) (RulesFault C root) c.from_residual-in_err-visit.result c.in_err-visit.field-0.0 c.from_residual-in_err-visit.ensures.0 c.from_residual-in_err-visit.ensures.1 (c.in_err-visit.ensures.visited root s stays n)
 
 pub returns-in_err-visit-clause-work : goal.returns-in_err-visit-clause-work
 returns-in_err-visit-clause-work c =

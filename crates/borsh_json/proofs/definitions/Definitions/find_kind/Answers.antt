@@ -10,13 +10,4 @@ pub returns-in-None-clause-kind : goal.returns-in-None-clause-kind
 returns-in-None-clause-kind c = λ x i full. sym (c.in-None.ensures x i)
 
 pub returns-in_ok-kind-in-Some-clause-orders : goal.returns-in_ok-kind-in-Some-clause-orders
-returns-in_ok-kind-in-Some-clause-orders c = λ h x i. c.in_ok-kind-in-Some.ensures.orders h x (i, sym (c.in-Some.ensures x i))
-
-pub returns-in-None-clause-orders : goal.returns-in-None-clause-orders
-returns-in-None-clause-orders c = λ h x i. ((h, λ k z. z), tt)
-
-pub returns-in_ok-kind-in-Some-clause-tells : goal.returns-in_ok-kind-in-Some-clause-tells
-returns-in_ok-kind-in-Some-clause-tells c = λ h n x i. c.in_ok-kind-in-Some.ensures.tells h n x (i, sym (c.in-Some.ensures x i))
-
-pub returns-in-None-clause-tells : goal.returns-in-None-clause-tells
-returns-in-None-clause-tells c = λ h n x i. (n, tt)
+returns-in_ok-kind-in-Some-clause-orders c = λ x i. c.in_ok-kind-in-Some.ensures.orders x (i, sym (c.in-Some.ensures x i))

@@ -3,7 +3,7 @@ use Rattle.borsh_json.specs.Found.{forms_of, names_of}
 use Rattle.borsh_json.specs.Ordered.{single}
 use Rattle.borsh_json.proofs.FoundLaws.{not_true}
 use Rattle.borsh_json.proofs.OrderedLaws.{finds_order}
-use Rattle.borsh_json.proofs.UnorderedLaws.{finds_none, no_definition}
+use Rattle.borsh_json.proofs.UnorderedLaws.{no_definition}
 use Rattle.borsh_json.proofs.definitions.Definitions.order_by_parts.Goals as goal
 
 pub returns-then-is_zero_size-clause-order : goal.returns-then-is_zero_size-clause-order
@@ -19,10 +19,8 @@ returns-then-is_zero_size-clause-none c x h e = cc
 
 pub returns-clause-none : goal.returns-clause-none
 returns-clause-none c x h e =
-    let d = c.args.self.now in
-    finds_none (forms_of d) x (not_true c.is_zero_size.result (c.is_zero_size.ensures x h) c.if-is_zero_size.false) (c.ordered_as.ensures.none x (h, sym (c.in_ok-get.ensures x h)) e)
+    (not_true c.is_zero_size.result (c.is_zero_size.ensures x h) c.if-is_zero_size.false, c.ordered_as.ensures.none x (h, sym (c.in_ok-get.ensures x h)) e)
 
 pub returns-in_err-get-clause-none : goal.returns-in_err-get-clause-none
 returns-in_err-get-clause-none c x h e =
-    let d = c.args.self.now in
-    finds_none (forms_of d) x (not_true c.is_zero_size.result (c.is_zero_size.ensures x h) c.if-is_zero_size.false) (no_definition (forms_of d) x (sym (c.in_err-get.ensures x h)))
+    (not_true c.is_zero_size.result (c.is_zero_size.ensures x h) c.if-is_zero_size.false, no_definition (forms_of c.args.self.now) x (sym (c.in_err-get.ensures x h)))

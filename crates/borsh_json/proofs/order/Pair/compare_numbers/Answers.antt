@@ -1,11 +1,10 @@
-use Rattle.std.proofs.Common.{◌∙◌, sym}
-use Rattle.borsh_walks.specs.Container.{tag}
-use Rattle.borsh_json.proofs.OrderNumbers.{long_tag}
+use Rattle.std.proofs.Common.{◌≤◌, ◌∙◌, inl, inr, length, refl, subst}
 use Rattle.borsh_json.proofs.order.Pair.compare_numbers.Goals as goal
 
+pub returns-in_default : goal.returns-in_default
+returns-in_default c = inl (refl, subst (λ n. n ≤ length c.args.self.now.left.now → n ≤ length c.args.self.now.right.now → ⊥) c.from-size.ensures c.in_default.ensures)
+
 pub returns : goal.returns
-returns c y z bs cs h i j e f =
-    let n = c.args.size in
-    let l = c.take.ensures.left (tag n y) bs e (long_tag n y ∙ sym c.from-size.ensures) in
-    let r = c.take.ensures.right (tag n z) cs f (long_tag n z ∙ sym c.from-size.ensures) in
-    (c.compare_numbers.ensures n y z h i j l.0 r.0, l.1, r.1)
+returns c =
+    let t = c.in-Some.ensures in
+    inr (c.in-Some.left.now, c.in-Some.right.now, t.0 ∙ c.from-size.ensures, t.1 ∙ c.from-size.ensures, t.2, t.3, t.4, t.5, λ y z h i j e f. c.compare_numbers.ensures c.args.size y z h i j e f)

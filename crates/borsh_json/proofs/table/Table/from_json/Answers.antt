@@ -7,7 +7,7 @@ use Rattle.borsh_values.specs.Membership.{IsAnswer}
 use Rattle.borsh_json.specs.Forms.{forms_in, shapes}
 use Rattle.borsh_json.specs.InOrder.{InOrder}
 use Rattle.borsh_json.specs.Represents.{HaveBytes}
-use Rattle.borsh_json.proofs.FormsLaws.{shapes_are}
+use Rattle.borsh_walks.proofs.Forms.{shapes_are}
 use Rattle.borsh_json.proofs.InOrderLaws.{given_up}
 use Rattle.borsh_json.proofs.PlanLaws.{said_by}
 use Rattle.borsh_json.proofs.RepresentsLaws.{bytes_one, text_one}

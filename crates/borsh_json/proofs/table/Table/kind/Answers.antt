@@ -22,12 +22,12 @@ pub returns-in-Some-clause-order : goal.returns-in-Some-clause-order
 returns-in-Some-clause-order c =
     let d = c.self.inside.definitions in
     let s = sym (got c.self.inside.kinds.items c.as_slice.result.now c.args.at c.get.result c.as_slice.ensures.value c.get.ensures.lookup.3) ∙ sym c.copied.ensures ∙ c.in-Some.is in
-    subst (λ (d : Definitions). (x : List ℕ) → IsAt (names_of d) c.args.at x → IfSome c.in-Some.found (λ r. KindHasOrder (forms_of d) (names_of d) d.orders.items x r.1)) c.self.view_is
-    (λ x i. first_some (λ r. KindHasOrder (forms_of d) (names_of d) d.orders.items x r.1) (λ r. KindTellsOrder (forms_of d) x r.1) c.in-Some.found ((c.self.invariant.right c.args.at c.in-Some.found s).1 x i))
+    subst (λ (d : Definitions). (x : List ℕ) → IsAt (names_of d) c.args.at x → IfSome c.in-Some.found (λ r. KindHasOrder (forms_of d) (names_of d) x r.1)) c.self.view_is
+    (λ x i. first_some (λ r. KindHasOrder (forms_of d) (names_of d) x r.1) (λ r. KindTellsOrder (forms_of d) x r.1) c.in-Some.found ((c.self.invariant.right c.args.at c.in-Some.found s).1 x i))
 
 pub returns-in-Some-clause-telling : goal.returns-in-Some-clause-telling
 returns-in-Some-clause-telling c =
     let d = c.self.inside.definitions in
     let s = sym (got c.self.inside.kinds.items c.as_slice.result.now c.args.at c.get.result c.as_slice.ensures.value c.get.ensures.lookup.3) ∙ sym c.copied.ensures ∙ c.in-Some.is in
     subst (λ (d : Definitions). (x : List ℕ) → IsAt (names_of d) c.args.at x → IfSome c.in-Some.found (λ r. KindTellsOrder (forms_of d) x r.1)) c.self.view_is
-    (λ x i. second_some (λ r. KindHasOrder (forms_of d) (names_of d) d.orders.items x r.1) (λ r. KindTellsOrder (forms_of d) x r.1) c.in-Some.found ((c.self.invariant.right c.args.at c.in-Some.found s).1 x i))
+    (λ x i. second_some (λ r. KindHasOrder (forms_of d) (names_of d) x r.1) (λ r. KindTellsOrder (forms_of d) x r.1) c.in-Some.found ((c.self.invariant.right c.args.at c.in-Some.found s).1 x i))

@@ -1,15 +1,15 @@
-use Rattle.std.proofs.Common.{◌∙◌, ℕ, List, ap, sym, subst}
-use Rattle.std.specs.Prelude.{unwrap_or}
+use Rattle.std.proofs.Common.{◌∙◌, ℕ, List, sym, subst}
 use Rattle.borsh_json.specs.declared.definitions.Definitions.{Definitions}
-use Rattle.borsh_json.specs.declared.order.Ordered.{Ordered}
-use Rattle.borsh_json.specs.declared.order.Ordered.TheVariants.{Single}
 use Rattle.borsh_json.specs.Found.{names_of}
-use Rattle.borsh_json.specs.Orders.{HasFound, OrderedBy}
+use Rattle.borsh_json.specs.Orders.{OrderedBy}
 use Rattle.borsh_json.specs.Places.{IsAt}
+use Rattle.borsh_json.proofs.FoundLaws.{got}
 use Rattle.borsh_json.proofs.table.Table.known_order.Goals as goal
 
-pub returns : goal.returns
-returns c =
-    subst (λ (d : Definitions). HasFound d.orders.items c.args.at → (x : List ℕ) → IsAt (names_of d) c.args.at x → OrderedBy d x c.unwrap_or.result) c.self.view_is (λ f x i.
-    let e = c.unwrap_or.ensures ∙ ap (λ o. unwrap_or o Single) (c.known_order.ensures.0 f.0 f.1) in
-    subst (λ (found : Ordered). OrderedBy c.self.inside.definitions x found) (sym e) (c.self.invariant.orders c.args.at x f.0 f.1 i).0)
+pub returns-in-Some : goal.returns-in-Some
+returns-in-Some c =
+    let s = sym (got c.self.inside.orders.items c.as_slice.result.now c.args.at c.get.result c.as_slice.ensures.value c.get.ensures.lookup.3) ∙ sym c.copied.ensures ∙ c.in-Some.is in
+    subst (λ (d : Definitions). (x : List ℕ) → IsAt (names_of d) c.args.at x → OrderedBy d x c.in-Some.order) c.self.view_is (λ x i. c.self.invariant.ordered c.args.at x c.in-Some.order s i)
+
+pub returns-in-None : goal.returns-in-None
+returns-in-None c = subst (λ (d : Definitions). (x : List ℕ) → IsAt (names_of d) c.args.at x → OrderedBy d x c.order_of.result) c.self.view_is c.order_of.ensures

@@ -6,7 +6,7 @@ use Rattle.borsh_plan.specs.Plan.{map_of, root_of}
 use Rattle.borsh_json.specs.Ascii.{IsInLine}
 use Rattle.borsh_json.specs.Printed.{laid_out}
 use Rattle.borsh_json.proofs.LineLaws.{compact_line}
-use Rattle.borsh_json.proofs.WritingLaws.{json_read, short_numbers, text_represents}
+use Rattle.borsh_json.proofs.WritingLaws.{json_read, quoted_numbers, text_represents}
 use Rattle.borsh_json.proofs.table.Table.to_json.Goals as goal
 
 pub text_of-requires : goal.text_of-requires
@@ -32,9 +32,10 @@ returns-clause-printed c = λ e.
     let p = c.in-Some.ensures.layout (json_tokens w.0) w.1 ∙ ap (λ ts. laid_out c.args.style.layout ts) (sym (c.in-Some.ensures.tokens (json_tokens w.0) w.1)) in
     same ∙ p ∙ ap (λ b. laid_out c.args.style.layout (tokens b)) (sym same)
 
-pub returns-clause-short : goal.returns-clause-short
-returns-clause-short c = λ e.
+pub returns-clause-quoted : goal.returns-clause-quoted
+returns-clause-quoted c = λ e.
+    let l = c.args.self.now.plan.now in
     let w = c.in_ok-out.ensures.written in
     let read = json_read c.in-Some.text.items w.0 (c.in-Some.ensures.tokens (json_tokens w.0) w.1) w.2 w.3 in
     let same = c.in_ok-in_characters.ensures.same w.0 (subst (λ s. document s ≡ Some w.0) (sym c.text_of.ensures) read) in
-    short_numbers c.args.style.long_numbers w.0 (string_bytes c.in_ok-in_characters.field-0) same (c.in-Some.ensures.long (json_tokens w.0) w.1) e
+    quoted_numbers (map_of l) (root_of l) c.args.bytes.now c.in_ok-out.out w c.in_ok-out.ensures.member c.args.style.long_numbers (string_bytes c.in_ok-in_characters.field-0) c.in-Some.ensures.long e same

@@ -12,4 +12,4 @@ pub returns-in-Some : goal.returns-in-Some
 returns-in-Some c x i =
     let d = c.args.self.now in
     let full = not_empty (forms_of d) (names_of d) x c.is_zero_size.result c.if-is_zero_size.false (c.is_zero_size.ensures x i) in
-    c.word_of.ensures (forms_of d) (names_of d) d.orders.items x (form_of c.in-Some.field-0-0.now) (c.in-Some.ensures.kind x i full).1 (c.in-Some.ensures.order x i) (c.in-Some.ensures.telling x i)
+    c.word_of.ensures (forms_of d) (names_of d) x (form_of c.in-Some.field-0-0.now) (c.in-Some.ensures.kind x i full).1 (c.in-Some.ensures.order x i) (c.in-Some.ensures.telling x i)

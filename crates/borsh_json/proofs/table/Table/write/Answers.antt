@@ -4,7 +4,7 @@ use Rattle.borsh_walks.specs.Container.{Member}
 use Rattle.borsh_plan.specs.Plan.{definitions_of, map_of, root_of}
 use Rattle.borsh_values.specs.Membership.{IsAnswer}
 use Rattle.borsh_values.specs.declared.members.Membership.{Membership}
-use Rattle.borsh_json.proofs.FormsLaws.{shapes_are}
+use Rattle.borsh_walks.proofs.Forms.{shapes_are}
 use Rattle.borsh_json.proofs.StopLaws.{stop_reason}
 use Rattle.borsh_json.proofs.table.Table.write.Goals as goal
 

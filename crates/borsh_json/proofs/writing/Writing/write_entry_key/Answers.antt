@@ -1,4 +1,4 @@
-use Rattle.std.proofs.Common.{◌∷◌, ◌++◌, replicate, Option, Some, refl, sym, ◌∙◌, ap, subst}
+use Rattle.std.proofs.Common.{◌∷◌, ◌++◌, List, replicate, Option, Some, refl, sym, ◌∙◌, ap, subst}
 use Rattle.borsh_plan.specs.Plan.{root_of}
 use Rattle.borsh_values.specs.declared.nodes.Node.{Node}
 use Rattle.borsh_values.specs.Walks.{FindsAt}
@@ -7,8 +7,11 @@ use Rattle.borsh_json.specs.declared.sources.EntryKey.{EntryKey}
 use Rattle.borsh_json.specs.declared.writing.Writing.{Writing}
 use Rattle.borsh_json.specs.Forms.{form_of}
 use Rattle.borsh_json.specs.Found.{forms_of, names_of}
+use Rattle.borsh_json.specs.Frames.{first_steps, steps_through}
+use Rattle.borsh_json.specs.InOrder.{Step}
+use Rattle.borsh_json.specs.NoJson.{IsOutOfOrder}
 use Rattle.borsh_json.specs.Writes.{names_of_all, IsLast, Stops}
-use Rattle.borsh_json.proofs.WriterLaws.{undecided, entry_of, entry_next, entry_opened, entry_keys, entry_awaits, entry_stops, node_is, stops_descends}
+use Rattle.borsh_json.proofs.WriterLaws.{undecided, entry_of, entry_next, entry_opened, entry_keys, entry_awaits, entry_stops, next_is, node_is, stops_descends}
 use Rattle.borsh_json.proofs.FallLaws.{key_falls}
 use Rattle.borsh_json.proofs.writing.Writing.write_entry_key.Goals as goal
 
@@ -38,9 +41,9 @@ returns-then-not-is_next-clause-key c p part a r e b =
     let op = entry_opened d w new p part es a b.1 t o n c.in-Some.is f in
     let ks = entry_keys d w new p part es a b.1 t o n c.in-Some.is f in
     let v = (c.in-Ok.ensures F ns t.key t.keys h.parts op ks).1 in
-    subst (λ (e : JsonError). Stops F (root_of d.plan.now) w.bytes.now e) (sym c.into.ensures) (stops_descends F (root_of d.plan.now) w.bytes.now c.refused_element.result c.refused_element.ensures.same
-    (key_falls d w p a es q.begun part t v.0 n.bytes.now c.open.new.self.left.now h.bytes v.3 c.is_next.result
-    (λ last l. c.is_next.ensures F ns t.key (form_of n.definition.now) es.key_kind t.keys last v.0 ks (subst (λ (k : Option EntryKey). IsLast es.key_kind k last) (sym b.2) l) v.1) c.if-not-is_next.true))
+    subst (λ (e : JsonError). Stops F (root_of d.plan.now) w.bytes.now e) (sym c.into.ensures) (stops_descends F (root_of d.plan.now) w.bytes.now w.position.root.now a.writer.root (steps_through w.position.outer.items ++ first_steps q.parts q.begun) c.refused_element.result c.refused_element.ensures.same c.refused_element.ensures.path
+    (subst (λ (l : List Step). IsOutOfOrder F (root_of d.plan.now) w.bytes.now l) (next_is d w p w.walk.offset q part a b) (key_falls d w p a es q.begun part t v.0 n.bytes.now c.open.new.self.left.now h.bytes v.3 c.is_next.result
+    (λ last l. c.is_next.ensures F ns t.key (form_of n.definition.now) es.key_kind t.keys last v.0 ks (subst (λ (k : Option EntryKey). IsLast es.key_kind k last) (sym b.2) l) v.1) c.if-not-is_next.true)))
 
 pub returns-else-not-is_next-clause-key : goal.returns-else-not-is_next-clause-key
 returns-else-not-is_next-clause-key c p part a r e b =
@@ -59,7 +62,7 @@ returns-else-not-is_next-clause-key c p part a r e b =
     let u = c.in-Ok.ensures (forms_of d) (names_of d) t.key t.keys h.parts op ks in
     let v = u.1 in
     let above = (c.is_next.ensures (forms_of d) (names_of d) t.key (form_of n.definition.now) es.key_kind t.keys t.before v.0 ks (subst (λ (l : Option EntryKey). IsLast es.key_kind l t.before) (sym b.2) t.is_last) v.1).0 c.if-not-is_next.false in
-    entry_awaits d w new p part es a b.1 t o n c.in-Some.is f c.in-Ok.key h.parts v.0 b r e refl (ap (λ l. l.now) c.in_ok-node.ensures.plan ∙ a.writer.plan) refl refl refl op.1 u.0 v.1 v.2 v.3 above
+    entry_awaits d w new p part es a b.1 t o n c.in-Some.is f c.in-Ok.key h.parts v.0 b r e refl (ap (λ l. l.now) c.in_ok-node.ensures.plan ∙ a.writer.plan) refl refl refl refl refl refl op.1 u.0 v.1 v.2 v.3 above
 
 pub returns-in-Err-clause-key : goal.returns-in-Err-clause-key
 returns-in-Err-clause-key c p part a r e b =
@@ -75,4 +78,4 @@ returns-in-Err-clause-key c p part a r e b =
     let op = entry_opened d w new p part es a b.1 t o n c.in-Some.is f in
     let ks = entry_keys d w new p part es a b.1 t o n c.in-Some.is f in
     let v = c.in-Err.ensures (forms_of d) (names_of d) t.key t.keys h.parts op ks in
-    subst (λ (e : JsonError). Stops (forms_of d) (root_of d.plan.now) w.bytes.now e) (sym c.into-in-Err.ensures) (entry_stops d w new p part es a b.1 t o n c.in-Some.is f c.in-Err.error c.refused_key.result c.refused_key.ensures v.1)
+    subst (λ (e : JsonError). Stops (forms_of d) (root_of d.plan.now) w.bytes.now e) (sym c.into-in-Err.ensures) (entry_stops d w new p part es a b.1 t o n c.in-Some.is f c.in-Err.error c.refused_key.result b c.refused_key.ensures.same c.refused_key.ensures.path v.1)

@@ -1,17 +1,19 @@
-use Rattle.std.proofs.Common.{◌∷◌, Option, None, refl, sym, ◌∙◌, ap, subst, length}
+use Rattle.std.proofs.Common.{◌∷◌, ◌++◌, Option, None, refl, sym, ◌∙◌, ap, subst, length}
 use Rattle.std.proofs.lemmas.Result.{err_from_is_err_and}
 use Rattle.borsh_plan.specs.Plan.{root_of}
 use Rattle.borsh_values.specs.declared.nodes.Node.{Node}
 use Rattle.borsh_values.specs.Walks.{FindsAt}
 use Rattle.borsh_json.specs.declared.error.JsonError.{JsonError}
+use Rattle.borsh_json.specs.declared.position.Parts.{Parts}
 use Rattle.borsh_json.specs.declared.position.Place.{Place}
 use Rattle.borsh_json.specs.declared.writing.Writing.{Writing}
 use Rattle.borsh_json.specs.Forms.{Form, form_of}
 use Rattle.borsh_json.specs.Found.{forms_of, names_of}
+use Rattle.borsh_json.specs.Frames.{steps_at, steps_through}
 use Rattle.borsh_json.specs.Places.{IsKindOf}
-use Rattle.borsh_json.specs.Writes.{names_of_all, names_of_rest, IsWrittenAs, Stops}
+use Rattle.borsh_json.specs.Writes.{names_of_all, names_of_rest, AreCalled, IsWrittenAs, Stops}
 use Rattle.borsh_json.proofs.CheckedLaws.{plain_due, same_only, value_due}
-use Rattle.borsh_json.proofs.WriterLaws.{undecided, stops_value, stops_full, stops_either, leaf_room, leaf_begun, place_begun, new_marked, in_order, in_turn, still_rest, node_is, node_only, node_opened, node_form, node_shape, node_on, is_deep, room_awaiting}
+use Rattle.borsh_json.proofs.WriterLaws.{undecided, stops_value, stops_full, stops_either, leaf_room, leaf_begun, place_begun, new_marked, in_order, in_turn, still_rest, node_is, node_only, node_opened, node_form, node_on, is_deep, room_awaiting}
 use Rattle.borsh_json.proofs.writing.Writing.write_node.Goals as goal
 
 pub returns-in_default-clause-part : goal.returns-in_default-clause-part
@@ -37,7 +39,7 @@ returns-in_err-check_elements-clause-part c x f i e kind order tells full has a 
     let kd = subst (λ (f : Form). IsKindOf F ns x f c.args.kind) (node_form d w walk c.args.at x l i o n c.in-Some.is t f e) kind in
     let q = c.from_residual-in_err-check_elements in
     let p = err_from_is_err_and q.result q.ensures.1 in
-    rw (p.1, p.2) (stops_either (forms_of d) (root_of d.plan.now) w.bytes.now (length w.position.outer.items) a.state.done n.bytes.now walk.left.now w.walk.left.now x h.bytes c.in_err-check_elements.field-0.0 (is_deep d w x a) (c.in_err-check_elements.ensures.full (forms_of d) (names_of d) d.orders.items x h.parts walk.left.now op kd order))
+    rw (p.1, p.2) (stops_either (forms_of d) (root_of d.plan.now) w.bytes.now w.position.root.now a.writer.root (length w.position.outer.items) (steps_through w.position.outer.items ++ steps_at w.position.place) a.state.done n.bytes.now walk.left.now w.walk.left.now x h.bytes c.in_err-check_elements.field-0.0 (is_deep d w x a) (c.in_err-check_elements.ensures.full (forms_of d) (names_of d) x h.parts walk.left.now op kd order))
 
 pub returns-in_err-enter-in-Ok-Some-clause-part : goal.returns-in_err-enter-in-Ok-Some-clause-part
 returns-in_err-enter-in-Ok-Some-clause-part c x f i e kind order tells full has a =
@@ -45,7 +47,7 @@ returns-in_err-enter-in-Ok-Some-clause-part c x f i e kind order tells full has 
     let w = c.args.self.now in
     let q = c.from_residual-in_err-enter-in-Ok-Some in
     let p = err_from_is_err_and q.result q.ensures.1 in
-    rw (p.1, p.2) (stops_full (forms_of d) (root_of d.plan.now) w.bytes.now (length w.position.outer.items) a.state.done w.walk.left.now x c.in_err-enter-in-Ok-Some.field-0.0 (is_deep d w x a) c.in_err-enter-in-Ok-Some.ensures.full)
+    rw (p.1, p.2) (stops_full (forms_of d) (root_of d.plan.now) w.bytes.now w.position.root.now a.writer.root (length w.position.outer.items) (steps_through w.position.outer.items ++ steps_at w.position.place) a.state.done w.walk.left.now x c.in_err-enter-in-Ok-Some.field-0.0 (is_deep d w x a) c.in_err-enter-in-Ok-Some.ensures.full c.in_err-enter-in-Ok-Some.ensures.path)
 
 pub returns-in_ok-enter-in-Ok-Some-clause-part : goal.returns-in_ok-enter-in-Ok-Some-clause-part
 returns-in_ok-enter-in-Ok-Some-clause-part c x f i e kind order tells full has a =
@@ -69,8 +71,8 @@ returns-in_ok-enter-in-Ok-Some-clause-part c x f i e kind order tells full has a
     let rises = c.in_ok-check_elements.ensures in
     let only = same_only F (form_of n.definition.now) (names_of_rest written.0) op.0 written.3 (node_only d w walk c.args.at x l i o n c.in-Some.is t) in
     let due = value_due d x (form_of n.definition.now) n.bytes.now (names_of_rest written.0) op.0 written.3 only full c.args.kind c.order_of.result has kd order tells rises.bytes rises.numbers (λ es q. (written.4.3 es q, c.order_of.ensures.all es q)) in
-    place_begun d w new x (form_of n.definition.now) n.bytes.now a refl (ap (λ l. l.now) c.in_ok-node.ensures.plan ∙ l) h.bytes h.next (node_on d w walk c.args.at x l i o n c.in-Some.is t) q (node_shape d w walk c.args.at x l i o n c.in-Some.is t) z.room (written.0, still_rest F ns c.in-Ok-Some.place q written.0 s.0 s.1 s.2 written.1, written.2, written.3) due.0 due.1
-    (new_marked d w.bytes.now x due.0 (form_of n.definition.now) c.args.kind c.in-Ok-Some.place q written.4 kd order s.0 s.2 (in_order d w.bytes.now x due.0 c.args.kind c.order_of.result q.ascent order c.order_of.ensures.list c.in_order.ensures.ascent) (in_turn d w.bytes.now due.0 c.order_of.result q.ascent c.in_order.ensures.ascent due.2)) z.place z.outer
+    place_begun d w new x (form_of n.definition.now) n.bytes.now a refl (ap (λ l. l.now) c.in_ok-node.ensures.plan ∙ l) z.root h.bytes h.next (node_on d w walk c.args.at x l i o n c.in-Some.is t) q op.0 z.room (written.0, still_rest F ns c.in-Ok-Some.place q written.0 s.0 s.1 s.2 written.1, written.2, written.3, subst (λ (k : Parts). AreCalled (form_of n.definition.now) n.bytes.now k (names_of_rest written.0)) (sym s.0) written.5) due.0 due.1
+    (new_marked d w.bytes.now x due.0 (form_of n.definition.now) c.args.kind c.in-Ok-Some.place q written.4 kd order s.0 s.1 s.2 (in_order d w.bytes.now x q.parts due.0 c.args.kind c.order_of.result q.ascent order c.order_of.ensures.list c.in_order.ensures.ascent) (in_turn d w.bytes.now due.0 c.order_of.result q.ascent c.in_order.ensures.ascent due.2)) z.place z.outer
 
 pub returns-in-Ok-None-clause-part : goal.returns-in-Ok-None-clause-part
 returns-in-Ok-None-clause-part c x f i e kind order tells full has a =
@@ -91,7 +93,7 @@ returns-in-Ok-None-clause-part c x f i e kind order tells full has a =
     let rises = c.in_ok-check_elements.ensures in
     let only = same_only F (form_of n.definition.now) written.1 op.0 written.2 (node_only d w walk c.args.at x l i o n c.in-Some.is t) in
     let due = value_due d x (form_of n.definition.now) n.bytes.now written.1 op.0 written.2 only full c.args.kind None has kd order tells rises.bytes rises.numbers (λ es q. absurd (written.4 es q)) in
-    leaf_begun d w new x (form_of n.definition.now) n.bytes.now a refl (ap (λ l. l.now) c.in_ok-node.ensures.plan ∙ l) h.bytes h.next (node_on d w walk c.args.at x l i o n c.in-Some.is t) c.args.kind (node_shape d w walk c.args.at x l i o n c.in-Some.is t) (leaf_room c.args.kind a.room (length w.position.outer.items) (room_awaiting d w x a) c.in_ok-check_elements.ensures.room) written (plain_due F x n.bytes.now written.1 due.0 due.1 due.2) refl refl
+    leaf_begun d w new x (form_of n.definition.now) n.bytes.now a refl (ap (λ l. l.now) c.in_ok-node.ensures.plan ∙ l) refl h.bytes h.next (node_on d w walk c.args.at x l i o n c.in-Some.is t) c.args.kind op.0 (leaf_room c.args.kind a.room (length w.position.outer.items) (room_awaiting d w x a) c.in_ok-check_elements.ensures.room) written (plain_due F x n.bytes.now written.1 due.0 due.1 due.2) refl refl
 
 pub returns-in-Err-clause-part : goal.returns-in-Err-clause-part
 returns-in-Err-clause-part c x f i e kind order tells full has a =
@@ -109,4 +111,4 @@ returns-in-Err-clause-part c x f i e kind order tells full has a =
     let h = node_is d w walk c.args.at x l i o n c.in-Some.is t in
     let op = node_opened d w walk c.args.at x l i o n c.in-Some.is t in
     let kd = subst (λ (f : Form). IsKindOf F ns x f c.args.kind) (node_form d w walk c.args.at x l i o n c.in-Some.is t f e) kind in
-    subst (λ (e : JsonError). Stops F root w.bytes.now e) (sym c.into.ensures) (stops_value F root w.bytes.now (length w.position.outer.items) s.done n.bytes.now walk.left.now w.walk.left.now x h.bytes (is_deep d w x a) c.in-Err.error c.refused_value.result c.refused_value.ensures (c.in-Err.ensures has x h.parts i op kd))
+    subst (λ (e : JsonError). Stops F root w.bytes.now e) (sym c.into.ensures) (stops_value F root w.bytes.now w.position.root.now a.writer.root (length w.position.outer.items) (steps_through w.position.outer.items ++ steps_at w.position.place) s.done n.bytes.now walk.left.now w.walk.left.now x h.bytes (is_deep d w x a) c.in-Err.error c.refused_value.result c.refused_value.ensures.same c.refused_value.ensures.path (c.in-Err.ensures has x h.parts i op kd))
