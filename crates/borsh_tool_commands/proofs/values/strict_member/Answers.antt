@@ -4,6 +4,7 @@ use Rattle.borsh_walks.specs.Container.{Member}
 use Rattle.borsh_walks.specs.Definitions.{definitions_in}
 use Rattle.borsh_json.specs.Forms.{forms_in}
 use Rattle.borsh_json.specs.NoJson.{RefusesBytes}
+use Rattle.borsh_json.specs.NoValue.{path_steps}
 use Rattle.borsh_tool_commands.proofs.Told.{no_told, refusal_told, yes_told}
 use Rattle.borsh_tool_commands.proofs.values.strict_member.Goals as goal
 
@@ -22,5 +23,6 @@ pub returns-in_ok-no-in-Err-Refused-clause-ok : goal.returns-in_ok-no-in-Err-Ref
 returns-in_ok-no-in-Err-Refused-clause-ok c =
     let m = c.args.schema.now.definitions in
     let is : Member (definitions_in m) c.as_str.result.now c.args.bytes.now = search rules in
-    let why : RefusesBytes (forms_in m) c.as_str.result.now c.args.bytes.now c.in-Err-Refused.refusal = search rules in
-    refusal_told m _ c.in-Err-Refused.refusal c.as_str.ensures.value is why c.in_ok-no-in-Err-Refused.ensures
+    let steps = path_steps c.in-Err-Refused.path in
+    let why : RefusesBytes (forms_in m) c.as_str.result.now c.args.bytes.now steps c.in-Err-Refused.refusal = search rules in
+    refusal_told m _ steps c.in-Err-Refused.refusal c.as_str.ensures.value is why c.in_ok-no-in-Err-Refused.ensures
