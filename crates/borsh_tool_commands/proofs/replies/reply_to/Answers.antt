@@ -12,5 +12,6 @@ returns-in_ok-text-in-Decode-clause-ok c =
     let r = c.args.request.now in
     let out = c.yes.result.output.items in
     let line : IsJsonLine s.definitions (string_bytes s.root) (layout_if r.is_compact) c.args.value.now out = search rules in
-    let quoted : r.has_quoted_numbers ≡ true → HasQuotedLine s.definitions (string_bytes s.root) out = λ q. search rules in
+    let same : printed c.in_ok-text-in-Decode.text ≡ out = search rules in
+    let quoted : r.has_quoted_numbers ≡ true → HasQuotedLine s.definitions (string_bytes s.root) out = λ q. subst (λ l. HasQuotedLine s.definitions (string_bytes s.root) l) same (c.in_ok-text-in-Decode.ensures.quoted (c.style_of.ensures.1 ∙ ap numbers_if q)) in
     subst (λ a. Replies a r s c.args.value.now c.yes.result.is_yes out) (sym c.in-Decode.is) (c.yes.ensures.0, line, quoted)

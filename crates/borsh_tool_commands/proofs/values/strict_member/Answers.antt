@@ -23,6 +23,6 @@ pub returns-in_ok-no-in-Err-Refused-clause-ok : goal.returns-in_ok-no-in-Err-Ref
 returns-in_ok-no-in-Err-Refused-clause-ok c =
     let m = c.args.schema.now.definitions in
     let is : Member (definitions_in m) c.as_str.result.now c.args.bytes.now = search rules in
-    let steps = path_steps c.in-Err-Refused.path in
+    let steps = path_steps c.in-Err-Refused.part in
     let why : RefusesBytes (forms_in m) c.as_str.result.now c.args.bytes.now steps c.in-Err-Refused.refusal = search rules in
     refusal_told m _ steps c.in-Err-Refused.refusal c.as_str.ensures.value is why c.in_ok-no-in-Err-Refused.ensures
