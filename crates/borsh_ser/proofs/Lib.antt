@@ -1,3 +1,4 @@
+pub mod ArrayLaws
 pub mod Halves
 pub mod ItemLengths
 pub mod Items
