@@ -29,8 +29,8 @@ pub trait BorshSerialize: BorshType + Sized {
     /// Whether [`u8_slice`](BorshSerialize::u8_slice) may return bytes: not unless a type says so.
     ghost lies_encoded: { Bool } = { false };
 
-    /// The encodings of the values, one after another, if that is how they lie in memory: only `u8`
-    /// returns them, and types of one's own need not override it. Left open: `None`, of any type but `u8`.
+    /// The encodings of the values, one after another, if that is how they lie in memory: only `u8` and
+    /// arrays of it return them, and types of one's own need not override it. Left open: `None`, of any type but `u8`.
     fn u8_slice(_slice: &[Self]) -> Option<&[u8]>
         ensures bytes { IfSome result (λ bytes.
             concat_encodings Self.codec.encoding _slice.now ≡ Some bytes.now) }
