@@ -12,7 +12,7 @@ use super::lengths::{counted_length, list_length};
 use super::numbers::bytes_of_u32;
 use super::puts::put_counted;
 use super::raw_bytes::write_bytes;
-use super::rooms::{LARGE, SHARED, SMALL, write_by_room};
+use super::rooms::{FEW, LARGE, SHARED, SMALL, write_by_room};
 use super::serialize::BorshSerialize;
 use borsh_io::{Error, ErrorKind, Result, Write};
 use borsh_types::refuse_empty;
@@ -23,7 +23,7 @@ use std::rc::RcSlice;
 use std::sync::ArcSlice;
 
 /// Writes the elements one after another: at once if that is how their encodings lie in memory, and
-/// otherwise through a room, if there are two or more.
+/// otherwise through a room, if they are not too few for it.
 ///
 /// Returns the error of the element that could not be written. Then a beginning of the encoding was
 /// written.
@@ -39,7 +39,7 @@ pub(crate) fn write_elements<T: BorshSerialize, W: Write>(
     if let Some(bytes) = T::u8_slice(items) {
         return write_bytes(bytes, writer);
     }
-    if items.len() < 2 {
+    if items.len() < FEW {
         return write_one_by_one(items, alloc, writer);
     }
     if items.len() < SHARED {

@@ -14,6 +14,9 @@ use super::serialize::BorshSerialize;
 use borsh_io::{Result, Write};
 use std::alloc::Global;
 
+/// How many elements share a room at all: to clear one takes as long as to write a few.
+pub(crate) const FEW: usize = 8;
+
 /// How many elements share a large room; fewer share a small one.
 pub(crate) const SHARED: usize = 32;
 
