@@ -176,7 +176,7 @@ pub record IsCursor (c : Cursor) : Type 0 where
   pub suffix : c.left.now ≡ drop (length c.bytes.now - length c.left.now) c.bytes.now
   pub tables : AreTagTables (definitions_of c.plan.now) c.tables
 
--- all bytes are a member of the root
+-- all bytes are a member of the root; a type can keep only that there is a proof of it, ∥ IsInValue c ∥₁
 pub record IsInValue (c : Cursor) : Type 0 where
   pub cursor : IsCursor c
   pub member : Member (definitions_of c.plan.now) (root_of c.plan.now) c.bytes.now

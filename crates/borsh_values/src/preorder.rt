@@ -45,6 +45,7 @@ impl<'a> From<AllocError> for PreorderError<'a> {
 pub struct Preorder<'a, 'p, 'b> {
     cursor: Cursor<'a, 'p, 'b>,
     path: Path<'a>,
+    // The bytes are a member of the root, some of which are read; also after an error.
     ghost inside: { ∥ IsInValue cursor ∥₁ },
 }
 
