@@ -9,7 +9,7 @@ import re
 
 top = pathlib.Path(__file__).resolve().parent.parent
 
-USE = re.compile(r"^(?:pub |ghost )?use Rattle\.(\w+)\.specs\.([\w.\-]+?)(?:\.\{([^}]*)\}| as ([\w\-]+));?$", re.M)
+USE = re.compile(r"^ *(?:pub |ghost )?use Rattle\.(\w+)\.specs\.([\w.\-]+?)(?:\.\{([^}]*)\}| as ([\w\-]+));?$", re.M)
 BEGINS = re.compile(r"^\s*(?:(?:abbrev|pub|data|record|unfoldable|opaque) )+([^\s(){},;:]+)")
 WORDS = re.compile(r"[^\s(){},;:\[\]]+")
 CALL = re.compile(r"^(\s*)pub (?:unsafe )?(?:extern \"C\" )?fn (\w+)")

@@ -25,7 +25,7 @@ use Rattle.borsh_json.specs.declared.error.Refusal.TheVariants.{TooDeep, Repeate
 use Rattle.borsh_json.specs.Errors.{IsNoJsonReason, IsNoRowsReason, IsTooDeep, IsUnwritable}
 use Rattle.borsh_json.specs.Forms.{Form, sequence, variant_bytes, form_of, form_of_struct}
 use Rattle.borsh_json.specs.Places.{lengths_of}
-use Rattle.borsh_json.specs.Rows.{AreRows, IsNextRow, IsPrimitiveText, IsQuoted, IsRowText, IsValueText, TakesNothing, nothing, passing, opening, counted, rows_plan}
+use Rattle.borsh_json.specs.Rows.{IsNextRow, IsPrimitiveText, IsQuoted, IsRowText, IsValueText, TakesNothing, nothing, passing, opening, counted, rows_plan}
 use Rattle.borsh_json.specs.Table.{Lengths, any_length, primitive_kind}
 use Rattle.borsh_json.specs.declared.rows.Rows.{Rows}
 use Rattle.std.proofs.lemmas.Simd.{map-map}
@@ -57,7 +57,6 @@ no_json C root bytes (Refused p r) h = (h.0, deep_reason r h.1)
 
 -- so far no row is given
 pub record NoneYet (old now : Rows) : Type 0 where
-  pub rows : AreRows now
   pub plan : rows_plan now ≡ rows_plan old
   pub bytes : bytes_left now.nodes ≡ bytes_left old.nodes
   pub offset : next_offset now.nodes ≡ next_offset old.nodes
@@ -86,10 +85,10 @@ no_bytes [] h = refl
 no_bytes (b ∷ bs) h = absurd (omega arith)
 
 -- a node without bytes is passed
-pub passed : (old now new : Rows) (n : Node) → NoneYet old now → AreRows new → rows_plan new ≡ rows_plan now → GivesNode now.nodes new.nodes n → length n.bytes.now ≡ 0 → NoneYet old new
-passed old now new n h rows same g none =
+pub passed : (old now new : Rows) (n : Node) → NoneYet old now → rows_plan new ≡ rows_plan now → GivesNode now.nodes new.nodes n → length n.bytes.now ≡ 0 → NoneYet old new
+passed old now new n h same g none =
     let e : bytes_left now.nodes ≡ bytes_left new.nodes = g.bytes ∙ ap (λ l. l ++ bytes_left new.nodes) (no_bytes n.bytes.now none) in
-    record { rows = rows; plan = same ∙ h.plan; bytes = sym e ∙ h.bytes; offset = g.next ∙ ap (λ k. next_offset now.nodes + k) none ∙ omega arith ∙ h.offset; names = names }
+    record { plan = same ∙ h.plan; bytes = sym e ∙ h.bytes; offset = g.next ∙ ap (λ k. next_offset now.nodes + k) none ∙ omega arith ∙ h.offset; names = names }
   where
     names : TakesNothing (rows_plan old).now (names_left old.nodes) (names_left new.nodes)
     names =

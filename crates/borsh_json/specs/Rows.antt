@@ -8,7 +8,7 @@ use Rattle.borsh_walks.specs.declared.definition.Definition.{Definition}
 use Rattle.borsh_walks.specs.Definitions.{shape_of}
 use Rattle.borsh_plan.specs.Plan.{definitions_of, map_of, root_of}
 use Rattle.borsh_values.specs.Nodes.{IsCountOf, Opens}
-use Rattle.borsh_values.specs.Preorder.{IsInValue, bytes_left, names_left, plan_of, next_offset}
+use Rattle.borsh_values.specs.Preorder.{bytes_left, names_left, plan_of, next_offset}
 use Rattle.borsh_values.specs.Tags.{IsVariantIndex}
 use Rattle.borsh_plan.specs.declared.plan.Plan.{Plan}
 use Rattle.borsh_values.specs.declared.nodes.Node.{Node}
@@ -24,13 +24,8 @@ use Rattle.borsh_json.specs.Table.{any_length, Kind, no_bytes, truth, whole, flo
 abbrev pub rows_plan : Rows → Bor Plan
 rows_plan r = plan_of r.nodes
 
--- the rows of a member, of which some are given
-abbrev pub AreRows : Rows → Type 0
-AreRows r = IsInValue r.nodes
-
 -- no row is given: all bytes are left
 pub record BeginsRows (l : Bor Plan) (all : List ℕ) (r : Rows) : Type 0 where
-  pub rows : AreRows r
   pub plan : rows_plan r ≡ l
   pub bytes : bytes_left r.nodes ≡ all
   pub offset : next_offset r.nodes ≡ 0

@@ -1,7 +1,7 @@
 // What each of the bytes of a value is.
 ghost use Rattle.borsh_json.specs.Words.{IsNoMemberReason, IsNoRowsReason, IsPrimitiveKind, IsWhole, Member, definitions_of, float, float_size, form_of, forms_in, primitive_kind, root_of};
-ghost use Rattle.borsh_json.specs.Rows.{AreRows, BeginsRows, GivesRow, IsNoRow, IsPrimitiveText, IsQuoted, IsTextOf, IsValueText, counted, rows_plan};
-ghost use Rattle.borsh_values.specs.Preorder.{GivesNext, IsInValue, plan_of};
+ghost use Rattle.borsh_json.specs.Rows.{BeginsRows, GivesRow, IsNoRow, IsPrimitiveText, IsQuoted, IsTextOf, IsValueText, counted, rows_plan};
+ghost use Rattle.borsh_values.specs.Preorder.{GivesNext, plan_of};
 ghost use Rattle.std.specs.Float.{Format};
 ghost use Rattle.std.specs.Prelude.{◌≡◌, ◌≤◌, [], false, ℕ, Decides, IfErr, IfOk, List, MatchOption, OnOk, string_bytes};
 
@@ -69,9 +69,7 @@ impl<'a, 'l, 'b> Rows<'a, 'l, 'b> {
     /// its name is the next to be read, whose definition in the map encodes them before its parts. The only refusal is
     /// `TooDeep`, of values that nest more than 128 deep. Left open: memory; `TooDeep` for any value; a row's depth: tested.
     pub fn next(&mut self) -> Result<Option<Node<'a, 'b>>, JsonError<'a>>
-        requires { AreRows self.old }
         ensures row { IfOk result (λ found. GivesRow self.old self.new found) }
-        ensures rows { OnOk result (AreRows self.new) }
         ensures plan { rows_plan self.new ≡ rows_plan self.old }
         ensures reason { IfErr result (IsNoRow (rows_plan self.old).now) }
     {
@@ -109,9 +107,7 @@ impl<'a, 'l, 'b> Rows<'a, 'l, 'b> {
 fn next_node<'a, 'b>(
     nodes: &mut Preorder<'a, '_, 'b>,
 ) -> Result<Option<Node<'a, 'b>>, JsonError<'a>>
-    requires { IsInValue nodes.old }
     ensures gives { IfOk result (λ found. GivesNext nodes.old nodes.new found) }
-    ensures inside { OnOk result (IsInValue nodes.new) }
     ensures plan { plan_of nodes.new ≡ plan_of nodes.old }
     ensures reason { IfErr result (IsNoRow (plan_of nodes.old).now) }
 {

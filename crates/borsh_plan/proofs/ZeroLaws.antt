@@ -1,13 +1,9 @@
 -- Which names are of zero size.
-use Rattle.std.proofs.Common.{◌≡◌, ℕ, ◌<◌, ◌≤◌, List, [], ◌∷◌, ◌++◌, length, length-append, get_or, inl, inr, Some, None, sym, ◌∙◌, ap, subst, arith}
-use Rattle.std.specs.Prelude.{Bool, false, Option}
-use Rattle.std.proofs.lemmas.Bool.{cases_lt}
-use Rattle.std.proofs.Math.ListN.{get_or-append}
-use Rattle.std.proofs.Math.Seq.{get_or-append_seam}
+use Rattle.std.proofs.Common.{◌≡◌, ℕ, List, [], Some, None, sym, ◌∙◌, ap, subst}
+use Rattle.std.specs.Prelude.{Option}
 use Rattle.borsh_walks.specs.Container.{Shape, primitive, sequence, product, choice, IsIn, IsZeroSize, zeroed, zero_size_references}
-use Rattle.borsh_plan.specs.declared.named.Named.{Named}
 use Rattle.borsh_plan.specs.Names.{parts_in}
-use Rattle.borsh_plan.specs.Zeros.{IsNeverZero, IsProduct, ZeroAt, AreZeros}
+use Rattle.borsh_plan.specs.Zeros.{IsNeverZero, IsProduct}
 
 module _ (C : List ℕ → Option Shape) where
   pub unit_zero : {x : List ℕ} (d : Shape) → C x ≡ Some d → zero_size_references d ≡ Some [] → IsZeroSize C x

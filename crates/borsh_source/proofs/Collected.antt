@@ -1,12 +1,7 @@
 -- The definitions of the items to which a type leads, as they are collected.
-use Rattle.std.proofs.Common.{◌≡◌, ℕ, suc, zero, ◌+◌, ◌<◌, List, [], ◌∷◌, Some, None, map, String, Global, refl, ap, subst, arith, ◌⊎◌, inl, inr}
-use Rattle.std.specs.Prelude.{slice_get, string_bytes, option_map}
-use Rattle.std.specs.Map.{lookup}
-use Rattle.std.specs.Cmp.Lexicographic.{slice_cmp}
-use Rattle.std.specs.Ordering.{nat_cmp, is_eq}
-use Rattle.borsh_definitions.specs.Described.{Form, DefinitionMap, forms_in, form_of}
-use Rattle.std.specs.BTreeMap.{BTreeMap}
-use Rattle.borsh_walks.specs.declared.definition.Definition.{Definition}
+use Rattle.std.proofs.Common.{◌≡◌, ℕ, suc, zero, ◌+◌, ◌<◌, List, [], ◌∷◌, Some, None, map, refl, ap, subst, arith, ◌⊎◌, inl, inr}
+use Rattle.std.specs.Prelude.{slice_get}
+use Rattle.borsh_definitions.specs.Described.{Form, DefinitionMap}
 use Rattle.borsh_source.specs.Lists.{IsListed, AreListed}
 use Rattle.borsh_source.specs.Views.{Stands, Used}
 use Rattle.borsh_source.specs.Forms.{Entry}
@@ -126,7 +121,3 @@ get_map_none f (y ∷ xs) (suc i) e = get_map_none f xs i e
 -- outside of an item there are no parameters
 pub means_outside : {S : Source} {root : ℕ} {name : List ℕ} {a b : DefinitionMap} {u v : List Used} (ps : List Parameter) (gs : List Stands) → ps ≡ [] → gs ≡ [] → Brought (Means S ps gs root name) a b u v → Brought (Means S [] [] root name) a b u v
 means_outside {S = S} {root = root} {name = name} {a = a} {b = b} {u = u} {v = v} ps gs p q h = subst (λ z. Brought (Means S [] z root name) a b u v) q (subst (λ z. Brought (Means S z gs root name) a b u v) p h)
-
--- an empty map
-pub nothing_in : (m : BTreeMap (String Global) Definition) → m.entries ≡ [] → (n : List ℕ) → forms_in m n ≡ None
-nothing_in m e n = ap (λ es. option_map form_of (lookup (λ k. is_eq (slice_cmp nat_cmp n (string_bytes k))) es)) e

@@ -1,19 +1,23 @@
 -- The steps of a cursor, and its folds.
 use Rattle.std.proofs.Common.{◌≡◌, ℕ, suc, ◌+◌, ◌-◌, ◌<◌, ◌≤◌, List, [], ◌∷◌, ◌++◌, length, take, drop, reverse, replicate, set, get_or, Some, None, refl, sym, ◌∙◌, ap, subst, take-append-drop, append-nil, append_assoc, Ok, zero, arith, length-append, ◌⊎◌, inl, inr}
-use Rattle.std.specs.Prelude.{Option, Vec, slice_get, Result}
-use Rattle.std.specs.{Borrow.Bor, Global.Global, BTreeMap.btree_map_len, BTreeMap.get_by_text}
+use Rattle.std.specs.Prelude.{Option, Vec, Result}
+use Rattle.std.proofs.Math.Logic.{∥∥₁_elim, ∥∥₁_map}
+use Rattle.std.specs.{Borrow.Bor, Global.Global, BTreeMap.btree_map_len, BTreeMap.get_by_text, Coded.Coded-set, Coded.le_prop}
 use Rattle.borsh_walks.specs.declared.definition.Definition.{Definition}
-use Rattle.borsh_walks.specs.Container.{IsZeroSize, Member, Members, Shape}
+use Rattle.borsh_walks.specs.Container.{IsZeroSize, Member, Members, Reached, Shape}
 use Rattle.borsh_walks.specs.Definitions.{shape_of}
 use Rattle.borsh_values.specs.declared.cursor.Event.TheVariants.{Open as AtOpen, Pass as AtPass, Close as AtClose, End as AtEnd, Fault as AtFault, Undecided as AtUndecided}
-use Rattle.borsh_values.specs.declared.{cursor.Cursor.Cursor, cursor.Event.Event, faults.Reason.Reason, faults.Reason.TheVariants.Recursive as IsRecursive, frames.Frame.Frame, frames.Rest.Rest, frames.Step.Step, frames.Mark.Mark, frames.Mark.TheVariants.Empty, frames.Mark.TheVariants.Open, runs.Passed.Passed, fronts.Front.Front, fronts.Front.TheVariants.Value, fronts.Front.TheVariants.Ambiguous, nodes.Node.Node, preorder.Preorder.Preorder}
+use Rattle.borsh_values.specs.declared.{cursor.Cursor.Cursor, cursor.Event.Event, faults.Reason.Reason, faults.Reason.TheVariants.Recursive as IsRecursive, frames.Frame.Frame, frames.Rest.Rest, frames.Rest.TheVariants.Copies, frames.Rest.TheVariants.Parts, frames.Step.Step, frames.Mark.Mark, frames.Mark.TheVariants.Empty, frames.Mark.TheVariants.Open, runs.Passed.Passed, fronts.Front.Front, fronts.Front.TheVariants.Value, fronts.Front.TheVariants.Ambiguous, nodes.Node.Node, preorder.Preorder.Preorder}
 use Rattle.borsh_plan.specs.Plan.{definitions_of, map_of, names_of, root_of}
-use Rattle.borsh_plan.specs.Names.{found_definition, name_at, name_of}
+use Rattle.borsh_plan.specs.Names.{name_at, name_of}
 use Rattle.borsh_plan.specs.declared.plan.Plan.{Plan}
 use Rattle.borsh_walks.proofs.Laws.{zero_member}
-use Rattle.borsh_values.specs.Cursor.{Going, Happens, IsBegun, IsCursor, IsOpenable, IsStopped, Moves, OpensFull, PassesCopies, before, name_in, pending_names, Begun, IsAnswerOf, Stays, StepsOn, KnownAs, NoneBegins, OnlyEmpty, past_copies, pending, remaining}
+use Rattle.borsh_walks.proofs.Propositions.{coded_name, zero_prop}
+use Rattle.borsh_values.specs.Cursor.{Fits, Going, Happens, IsBegun, IsCursor, IsInValue, IsOpenable, IsStopped, Moves, OpensFull, PassesCopies, before, name_in, pending_names, Begun, IsAnswerOf, Stays, StepsOn, KnownAs, NoneBegins, OnlyEmpty, Shows, past_copies, pending, remaining}
 use Rattle.borsh_values.specs.Free.{IsFreeFront}
-use Rattle.borsh_plan.proofs.Laws.{looked_up as named}
+use Rattle.borsh_values.specs.Tags.{AreTagTables, Tables, tables_prop}
+use Rattle.borsh_plan.specs.declared.named.Named.{Named}
+use Rattle.borsh_plan.proofs.Laws.{reached}
 use Rattle.borsh_plan.proofs.Places.{name_there}
 use Rattle.borsh_values.specs.Nodes.{Opens}
 use Rattle.borsh_values.proofs.Answers.{before_whole, suffix_on, answers_no, is_front}
@@ -23,6 +27,27 @@ use Rattle.borsh_values.specs.Membership.{IsFrontAnswer, StopsAt, IsUndecided, W
 use Rattle.borsh_values.specs.Preorder.{AreZero, GivesNode}
 
 -- ---- each step of a cursor
+fits_prop : (ns : List Named) (r : Rest) → IsProp (Fits ns r)
+fits_prop ns (Copies at k) = le_prop
+fits_prop ns (Parts at i) = le_prop
+
+-- what is known where only that there is a proof is
+module _ (c : Cursor) (h : ∥ IsCursor c ∥₁) where
+  pub next_fits : Fits (names_of c.plan.now) c.frame.rest
+  next_fits = ∥∥₁_elim h (fits_prop (names_of c.plan.now) c.frame.rest) λ i. i.going.fits.1
+
+  pub has_mark : (at : ℕ) → at < length (names_of c.plan.now) → at < length c.marks.items
+  has_mark at w = ∥∥₁_elim h le_prop λ i. subst (λ n. at < n) (sym i.going.long) w
+
+  pub frame_marked : c.frame.at < length c.marks.items
+  frame_marked = ∥∥₁_elim h le_prop λ i. subst (λ n. c.frame.at < n) (sym i.going.long) i.going.fits.0
+
+  pub has_tables : AreTagTables (definitions_of c.plan.now) c.tables
+  has_tables = ∥∥₁_elim h (tables_prop (definitions_of c.plan.now) c.tables) λ i. i.tables
+
+  pub other_tables : (ts : Tables) → AreTagTables (definitions_of c.plan.now) ts → ∥ IsCursor (record c { tables = ts }) ∥₁
+  other_tables ts t = ∥∥₁_map h λ i. record { going = i.going; within = i.within; suffix = i.suffix; tables = t }
+
 module _ (c : Cursor) (i : IsCursor c) where
   -- names are passed with their bytes
   pub cursor_pass : (p : Passed) → IsFreeFront (definitions_of c.plan.now) (names_of c.plan.now) c.frame.rest c.left.now p → (a : Bor (List ℕ)) → a.now ≡ drop p.taken c.left.now → IsCursor (record c { frame = with_rest c.frame p.rest; left = a; idle = 0 }) × Moves c (record c { frame = with_rest c.frame p.rest; left = a; idle = 0 })
@@ -44,6 +69,45 @@ module _ (c : Cursor) (i : IsCursor c) where
       let f = i.going.state.begun.forth c.bytes.now [] c.left.now m (append-nil c.bytes.now ∙ sym (before_whole c.bytes.now c.left.now i.suffix)) in
       subst (λ b. Members (definitions_of c.plan.now) (pending_names c) b) (sym (append-nil f.0) ∙ sym f.2) f.1
 
+-- the bytes of a member stay
+pub still_inside : (old new : Cursor) → Stays old new → IsInValue old → IsCursor new → IsInValue new
+still_inside old new s v i = record {
+  cursor = i;
+  member = subst (λ (l : Bor Plan). Member (definitions_of l.now) (root_of l.now) new.bytes.now) (sym s.0) (subst (λ b. Member (definitions_of old.plan.now) (root_of old.plan.now) b.now) (sym s.1) v.member);
+}
+
+module _ (c : Cursor) (s : Step) (g : StepsOn (names_of c.plan.now) c.frame.rest s) where
+  -- copies of a name are passed
+  pub skips : ∥ IsCursor c ∥₁ → (r : Rest) → r ≡ past_copies c.frame.rest s → PassesCopies c (record c { frame = with_rest c.frame r }) (name_in c s.at)
+  skips h r e =
+      let ns = (names_of c.plan.now) in
+      let p = passes ns c.frame.rest s g in
+      let copies : List (List ℕ) = replicate (suc p.0) (name_in c s.at) in
+      let names : pending_names c ≡ copies ++ (remaining ns (past_copies c.frame.rest s) ++ pending ns (reverse c.stack.items)) = ap (λ l. l ++ pending ns (reverse c.stack.items)) p.1 ∙ append_assoc copies (remaining ns (past_copies c.frame.rest s)) (pending ns (reverse c.stack.items)) in
+      record {
+        left = refl;
+        others = p.0;
+        names = names ∙ ap (λ t. copies ++ (remaining ns t ++ pending ns (reverse c.stack.items))) (sym e);
+        moves = subst (λ t. Moves c (record c { frame = with_rest c.frame t })) (sym e) (∥∥₁_elim h le_prop λ i. less_skip c.plan.now i.going s g);
+      }
+
+  pub next_reached : Reached (definitions_of c.plan.now) (root_of c.plan.now) (name_in c s.at)
+  next_reached = reached c.plan.now (name_in c s.at) s.at (name_there (names_of c.plan.now) s.at g.within)
+
+  -- the next name is opened
+  module _ (d : Definition) (n : ℕ) (r : Rest) (o : IsOpenable c s.at d n r) where
+    pub begun : (k : Cursor) (own : List ℕ) → own ≡ take n c.left.now → k.left.now ≡ drop n c.left.now → pending (names_of c.plan.now) (k.frame ∷ reverse k.stack.items) ≡ remaining (names_of c.plan.now) r ++ (remaining (names_of c.plan.now) s.others ++ pending (names_of c.plan.now) (reverse c.stack.items)) → IsBegun c k s.at d own
+    begun k own e l b = record {
+      within = g.within;
+      bytes = sym (take-append-drop n c.left.now) ∙ ap (λ z. z ++ drop n c.left.now) (sym e) ∙ ap (λ z. own ++ z) (sym l);
+      defined = o.defined;
+      parts = remaining (names_of c.plan.now) r;
+      others = remaining (names_of c.plan.now) s.others;
+      opened = subst (λ z. Opens (definitions_of c.plan.now) (shape_of d) z (remaining (names_of c.plan.now) r)) (sym e) o.opens.0.opens;
+      before = g.parts;
+      behind = b;
+    }
+
 module _ (c : Cursor) (i : IsCursor c) (s : Step) (g : StepsOn (names_of c.plan.now) c.frame.rest s) where
   -- copies of a name are passed that has the empty member alone
   pub cursor_skip : (r : Rest) → r ≡ past_copies c.frame.rest s → OnlyEmpty (definitions_of c.plan.now) (name_in c s.at) → IsCursor (record c { frame = with_rest c.frame r })
@@ -53,19 +117,6 @@ module _ (c : Cursor) (i : IsCursor c) (s : Step) (g : StepsOn (names_of c.plan.
     suffix = i.suffix;
     tables = i.tables;
   }
-
-  pub skips : (r : Rest) → r ≡ past_copies c.frame.rest s → PassesCopies c (record c { frame = with_rest c.frame r }) (name_in c s.at)
-  skips r e =
-      let ns = (names_of c.plan.now) in
-      let p = passes ns c.frame.rest s g in
-      let copies : List (List ℕ) = replicate (suc p.0) (name_in c s.at) in
-      let names : pending_names c ≡ copies ++ (remaining ns (past_copies c.frame.rest s) ++ pending ns (reverse c.stack.items)) = ap (λ l. l ++ pending ns (reverse c.stack.items)) p.1 ∙ append_assoc copies (remaining ns (past_copies c.frame.rest s)) (pending ns (reverse c.stack.items)) in
-      record {
-        left = refl;
-        others = p.0;
-        names = names ∙ ap (λ t. copies ++ (remaining ns t ++ pending ns (reverse c.stack.items))) (sym e);
-        moves = subst (λ t. Moves c (record c { frame = with_rest c.frame t })) (sym e) (less_skip c.plan.now i.going s g);
-      }
 
   pub marked_empty : get_or c.marks.items s.at None ≡ Some Empty → OnlyEmpty (definitions_of c.plan.now) (name_in c s.at)
   marked_empty k = known_empty c.plan.now i.going s g k
@@ -90,24 +141,8 @@ module _ (c : Cursor) (i : IsCursor c) (s : Step) (g : StepsOn (names_of c.plan.
   pub stopped_again : get_or c.marks.items s.at None ≡ Some (Open (length c.left.now)) → IsStopped (definitions_of c.plan.now) (root_of c.plan.now) (before c.bytes.now c.left.now) c.left.now (name_in c s.at) IsRecursive
   stopped_again k = cursor_stopped IsRecursive (going_leads c.plan.now i.going s g k) (going_back c.plan.now i.going s g k)
 
-  -- the definition that the name has in the map
-  pub looked_up : (d : Definition) → Some d ≡ found_definition (slice_get (names_of c.plan.now) s.at) → get_by_text (map_of c.plan.now) (name_in c s.at) ≡ Some d
-  looked_up d e = named c.plan.now (name_in c s.at) s.at (name_there (names_of c.plan.now) s.at g.within) ∙ sym e
-
   -- the next name is opened
   module _ (d : Definition) (n : ℕ) (r : Rest) (o : IsOpenable c s.at d n r) where
-    begun : (k : Cursor) (own : List ℕ) → own ≡ take n c.left.now → k.left.now ≡ drop n c.left.now → pending (names_of c.plan.now) (k.frame ∷ reverse k.stack.items) ≡ remaining (names_of c.plan.now) r ++ (remaining (names_of c.plan.now) s.others ++ pending (names_of c.plan.now) (reverse c.stack.items)) → IsBegun c k s.at d own
-    begun k own e l b = record {
-      within = g.within;
-      bytes = sym (take-append-drop n c.left.now) ∙ ap (λ z. z ++ drop n c.left.now) (sym e) ∙ ap (λ z. own ++ z) (sym l);
-      defined = o.defined;
-      parts = remaining (names_of c.plan.now) r;
-      others = remaining (names_of c.plan.now) s.others;
-      opened = subst (λ z. Opens (definitions_of c.plan.now) (shape_of d) z (remaining (names_of c.plan.now) r)) (sym e) o.opens.0.opens;
-      before = g.parts;
-      behind = b;
-    }
-
     -- without a byte
     module _ (z : n ≡ 0) (new : KnownAs (get_or c.marks.items s.at None) (length c.left.now) None) (ms : Vec (Option Mark) Global) (em : ms.items ≡ set c.marks.items s.at (Some (Open (length c.left.now)))) (st : Vec Frame Global) (es : reverse st.items ≡ with_rest c.frame s.others ∷ reverse c.stack.items) where
       pub few_idle : suc c.idle ≤ btree_map_len (map_of c.plan.now)
@@ -121,11 +156,8 @@ module _ (c : Cursor) (i : IsCursor c) (s : Step) (g : StepsOn (names_of c.plan.
         tables = i.tables;
       }
 
-      pub new_begun : (own : List ℕ) → own ≡ [] → IsBegun c (record c { marks = ms; stack = st; frame = record { at = s.at; start = length c.left.now; rest = r }; idle = c.idle + 1 }) s.at d own × Moves c (record c { marks = ms; stack = st; frame = record { at = s.at; start = length c.left.now; rest = r }; idle = c.idle + 1 })
-      new_begun own e = (
-        begun (record c { marks = ms; stack = st; frame = record { at = s.at; start = length c.left.now; rest = r }; idle = c.idle + 1 }) own (e ∙ ap (λ k. take k c.left.now) (sym z)) (ap (λ k. drop k c.left.now) (sym z)) (ap (λ q. remaining (names_of c.plan.now) r ++ pending (names_of c.plan.now) q) es),
-        subst (λ q. left (map_of c.plan.now) (names_of c.plan.now) (length c.left.now) (c.idle + 1) (record { at = s.at; start = length c.left.now; rest = r } ∷ q) < left (map_of c.plan.now) (names_of c.plan.now) (length c.left.now) c.idle (c.frame ∷ reverse c.stack.items)) (sym es) (less_new c.plan.now i.going s g (shape_of d) o.shape n r o.opens z new),
-      )
+      pub new_moves : Moves c (record c { marks = ms; stack = st; frame = record { at = s.at; start = length c.left.now; rest = r }; idle = c.idle + 1 })
+      new_moves = subst (λ q. left (map_of c.plan.now) (names_of c.plan.now) (length c.left.now) (c.idle + 1) (record { at = s.at; start = length c.left.now; rest = r } ∷ q) < left (map_of c.plan.now) (names_of c.plan.now) (length c.left.now) c.idle (c.frame ∷ reverse c.stack.items)) (sym es) (less_new c.plan.now i.going s g (shape_of d) o.shape n r o.opens z new)
 
     -- with some bytes
     module _ (more : 0 < n) (a : Bor (List ℕ)) (ea : a.now ≡ drop n c.left.now) where
@@ -136,29 +168,23 @@ module _ (c : Cursor) (i : IsCursor c) (s : Step) (g : StepsOn (names_of c.plan.
       placed st f w = subst (λ q. Going c.plan.now q c.marks.items st f a.now 0) ends.2 (subst (λ b. Going c.plan.now (before c.bytes.now c.left.now ++ take n c.left.now) c.marks.items st f b 0) (sym ea) w)
 
       -- and parts
-      pub cursor_on : (st : Vec Frame Global) → reverse st.items ≡ with_rest c.frame s.others ∷ reverse c.stack.items → (own : List ℕ) → own ≡ take n c.left.now → (k : Cursor) → k ≡ record c { left = a; stack = st; frame = record { at = s.at; start = length c.left.now; rest = r }; idle = 0 } → IsCursor k × (IsBegun c k s.at d own × Moves c k)
-      cursor_on st es own e k is =
+      pub cursor_on : (st : Vec Frame Global) → reverse st.items ≡ with_rest c.frame s.others ∷ reverse c.stack.items → (k : Cursor) → k ≡ record c { left = a; stack = st; frame = record { at = s.at; start = length c.left.now; rest = r }; idle = 0 } → IsCursor k × Moves c k
+      cursor_on st es k is =
           let f : Frame = record { at = s.at; start = length c.left.now; rest = r } in
           let now : Cursor = record c { left = a; stack = st; frame = f; idle = 0 } in
-          subst (λ q. IsCursor q × (IsBegun c q s.at d own × Moves c q)) (sym is) (
+          subst (λ q. IsCursor q × Moves c q) (sym is) (
             record { going = subst (λ v. Going c.plan.now (before c.bytes.now a.now) c.marks.items v f a.now 0) (sym es) (placed (with_rest c.frame s.others ∷ reverse c.stack.items) f (going_on c.plan.now i.going s g (shape_of d) o.shape n r o.opens more)); within = ends.0; suffix = ends.1; tables = i.tables },
-            (
-              begun now own e ea (ap (λ q. remaining (names_of c.plan.now) r ++ pending (names_of c.plan.now) q) es),
-              subst (λ b. left (map_of c.plan.now) (names_of c.plan.now) (length b) 0 (f ∷ reverse st.items) < left (map_of c.plan.now) (names_of c.plan.now) (length c.left.now) c.idle (c.frame ∷ reverse c.stack.items)) (sym ea)
-                  (subst (λ q. left (map_of c.plan.now) (names_of c.plan.now) (length (drop n c.left.now)) 0 (f ∷ q) < left (map_of c.plan.now) (names_of c.plan.now) (length c.left.now) c.idle (c.frame ∷ reverse c.stack.items)) (sym es) (less_on c.plan.now i.going s g (shape_of d) o.shape n r o.opens more)),
-            ),
+            subst (λ b. left (map_of c.plan.now) (names_of c.plan.now) (length b) 0 (f ∷ reverse st.items) < left (map_of c.plan.now) (names_of c.plan.now) (length c.left.now) c.idle (c.frame ∷ reverse c.stack.items)) (sym ea)
+                (subst (λ q. left (map_of c.plan.now) (names_of c.plan.now) (length (drop n c.left.now)) 0 (f ∷ q) < left (map_of c.plan.now) (names_of c.plan.now) (length c.left.now) c.idle (c.frame ∷ reverse c.stack.items)) (sym es) (less_on c.plan.now i.going s g (shape_of d) o.shape n r o.opens more)),
           )
 
       -- and no parts
-      pub cursor_past : remaining (names_of c.plan.now) r ≡ [] → (own : List ℕ) → own ≡ take n c.left.now → (k : Cursor) → k ≡ record c { left = a; frame = with_rest c.frame s.others; idle = 0 } → IsCursor k × (IsBegun c k s.at d own × Moves c k)
-      cursor_past none own e k is =
+      pub cursor_past : remaining (names_of c.plan.now) r ≡ [] → (k : Cursor) → k ≡ record c { left = a; frame = with_rest c.frame s.others; idle = 0 } → IsCursor k × Moves c k
+      cursor_past none k is =
           let now : Cursor = record c { left = a; frame = with_rest c.frame s.others; idle = 0 } in
-          subst (λ q. IsCursor q × (IsBegun c q s.at d own × Moves c q)) (sym is) (
+          subst (λ q. IsCursor q × Moves c q) (sym is) (
             record { going = placed (reverse c.stack.items) (with_rest c.frame s.others) (going_past c.plan.now i.going s g (shape_of d) o.shape n r o.opens more none); within = ends.0; suffix = ends.1; tables = i.tables },
-            (
-              begun now own e ea (ap (λ q. q ++ (remaining (names_of c.plan.now) s.others ++ pending (names_of c.plan.now) (reverse c.stack.items))) (sym none)),
-              subst (λ b. left (map_of c.plan.now) (names_of c.plan.now) (length b) 0 (with_rest c.frame s.others ∷ reverse c.stack.items) < left (map_of c.plan.now) (names_of c.plan.now) (length c.left.now) c.idle (c.frame ∷ reverse c.stack.items)) (sym ea) (less_past c.plan.now i.going s g (shape_of d) o.shape n r o.opens more),
-            ),
+            subst (λ b. left (map_of c.plan.now) (names_of c.plan.now) (length b) 0 (with_rest c.frame s.others ∷ reverse c.stack.items) < left (map_of c.plan.now) (names_of c.plan.now) (length c.left.now) c.idle (c.frame ∷ reverse c.stack.items)) (sym ea) (less_past c.plan.now i.going s g (shape_of d) o.shape n r o.opens more),
           )
 
 -- a value begins only where a name comes next, and is that name's
@@ -185,14 +211,11 @@ module _ (c : Cursor) (i : IsCursor c) (none : remaining (names_of c.plan.now) c
   pub cursor_up_empty : (ms : Vec (Option Mark) Global) → ms.items ≡ set c.marks.items c.frame.at (Some Empty) → c.frame.start ≡ length c.left.now → IsCursor (record c { marks = ms; stack = st; frame = above })
   cursor_up_empty ms em at = record { going = subst (λ v. Going c.plan.now (before c.bytes.now c.left.now) v (reverse st.items) above c.left.now c.idle) (sym em) (going_up_empty c.plan.now around none at); within = i.within; suffix = i.suffix; tables = i.tables }
 
-  pub up_names : pending (names_of c.plan.now) (above ∷ reverse st.items) ≡ pending_names c
-  up_names = ap (λ q. pending (names_of c.plan.now) q) (sym es) ∙ ap (λ q. q ++ pending (names_of c.plan.now) (reverse c.stack.items)) (sym none)
-
 -- ---- what the last step of a walk answers
 -- a step without an answer moves on
 pub moves_on : (old new : Cursor) (e : Event) → IsAnswerOf new e None → Happens old new e → Moves old new
 moves_on old new (AtOpen at d own) a h = h.1
-moves_on old new (AtPass at) a h = (let p : PassesCopies old new (name_in old at) = h.1 in p.moves)
+moves_on old new (AtPass at) a h = h.moves
 moves_on old new AtClose a h = h.2
 moves_on old new AtEnd a h = cc
 moves_on old new (AtFault at r) a h = absurd a
@@ -205,23 +228,22 @@ value_is : (a b : Front) → ◌≡◌ {A = Option Front} (Some a) (Some b) → 
 value_is a b e = cc
 
 -- the answer of the last step is right
-pub last_is : (old new : Cursor) (e : Event) (a : Front) → IsCursor old → Stays old new → Happens old new e → IsAnswerOf new e (Some a) → IsFrontAnswer (definitions_of old.plan.now) (root_of old.plan.now) old.bytes.now a
-last_is old new (AtOpen at d own) a i s h k = cc
-last_is old new (AtPass at) a i s h k = cc
-last_is old new AtClose a i s h k = cc
-last_is old new AtEnd a i s h k =
+pub last_is : (old new : Cursor) (e : Event) (a : Front) → IsCursor old → Stays old new → Happens old new e → Shows old e → IsAnswerOf new e (Some a) → IsFrontAnswer (definitions_of old.plan.now) (root_of old.plan.now) old.bytes.now a
+last_is old new (AtOpen at d own) a i s h w k = cc
+last_is old new (AtPass at) a i s h w k = cc
+last_is old new AtClose a i s h w k = cc
+last_is old new AtEnd a i s h w k =
     let n = length new.bytes.now - length new.left.now in
     let same : n ≡ length old.bytes.now - length old.left.now = ap (λ b. length b.now - length new.left.now) s.1 ∙ ap (λ b. length old.bytes.now - length b.now) h.0 in
     subst (λ z. IsFrontAnswer (definitions_of old.plan.now) (root_of old.plan.now) old.bytes.now z) (sym (value_is a (Value n) k)) (ended old n i same h.1)
-last_is old new (AtFault at r) a i s h k =
-    let t = h.1 in
+last_is old new (AtFault at r) a i s h w k =
     let o : Result Front (Unit {0}) = Ok a in
     let all = ap (λ b. length b.now) s.1 in
-    let left = ap (λ b. length b.now) h.0 in
+    let left = ap (λ b. length b.now) h in
     let name = ap (λ l. name_at (names_of l.now) at) s.0 in
-    answers_no (definitions_of old.plan.now) (root_of old.plan.now) old.bytes.now old.left.now (name_in old at) r i.within i.suffix t.reached t.others t.next t.why t.deny t.no o
+    answers_no (definitions_of old.plan.now) (root_of old.plan.now) old.bytes.now old.left.now (name_in old at) r i.within i.suffix w.reached w.others w.next w.why w.deny w.no o
     (subst (λ n. StopsAt n (length old.left.now) (name_in old at) r a) all (subst (λ n. StopsAt (length new.bytes.now) n (name_in old at) r a) left (subst (λ x. StopsAt (length new.bytes.now) (length new.left.now) x r a) name k)))
-last_is old new (AtUndecided at) a i s h k =
+last_is old new (AtUndecided at) a i s h w k =
     let q = value_is a (Ambiguous k.0) k.1 in
     let u = subst (λ x. IsUndecided (definitions_of old.plan.now) (root_of old.plan.now) x) (sym (k.2 ∙ ap (λ l. name_at (names_of l.now) at) s.0)) h.1 in
     subst (λ z. IsFrontAnswer (definitions_of old.plan.now) (root_of old.plan.now) old.bytes.now z) (sym q) u
@@ -245,24 +267,17 @@ module _ (C : List ℕ → Option Shape) where
 
 -- so far no node is given: names of zero size are passed
 pub record NoneYet (old now : Cursor) : Type 0 where
-  pub cursor : IsCursor now
-  pub member : Member (definitions_of now.plan.now) (root_of now.plan.now) now.bytes.now
   pub plan : now.plan ≡ old.plan
   pub bytes : now.bytes ≡ old.bytes
   pub left : now.left ≡ old.left
   pub passed : PassedTo (definitions_of old.plan.now) (pending_names old) (pending_names now)
 
-pub none_yet : (c : Cursor) → IsCursor c → Member (definitions_of c.plan.now) (root_of c.plan.now) c.bytes.now → NoneYet c c
-none_yet c i m = record { cursor = i; member = m; plan = refl; bytes = refl; left = refl; passed = ([], tt, refl) }
+pub none_yet : (c : Cursor) → NoneYet c c
+none_yet c = record { plan = refl; bytes = refl; left = refl; passed = ([], tt, refl) }
 
-module _ (old now : Cursor) (h : NoneYet old now) (new : Cursor) (i : IsCursor new) (s : Stays now new) where
-  pub still_member : Member (definitions_of new.plan.now) (root_of new.plan.now) new.bytes.now
-  still_member = subst (λ (l : Bor Plan). Member (definitions_of l.now) (root_of l.now) new.bytes.now) (sym s.0) (subst (λ b. Member (definitions_of now.plan.now) (root_of now.plan.now) b.now) (sym s.1) h.member)
-
+module _ (old now : Cursor) (h : NoneYet old now) (new : Cursor) (s : Stays now new) where
   onward : new.left ≡ now.left → PassedTo (definitions_of old.plan.now) (pending_names old) (pending (names_of now.plan.now) (new.frame ∷ reverse new.stack.items)) → NoneYet old new
   onward e p = record {
-    cursor = i;
-    member = still_member;
     plan = s.0 ∙ h.plan;
     bytes = s.1 ∙ h.bytes;
     left = e ∙ h.left;
@@ -270,39 +285,40 @@ module _ (old now : Cursor) (h : NoneYet old now) (new : Cursor) (i : IsCursor n
   }
 
   -- copies of one more are passed
-  pub passed_on : (x : List ℕ) → IsZeroSize (definitions_of now.plan.now) x → PassesCopies now new x → NoneYet old new
+  passed_on : (x : List ℕ) → IsZeroSize (definitions_of now.plan.now) x → PassesCopies now new x → NoneYet old new
   passed_on x z p =
       let zero : IsZeroSize (definitions_of old.plan.now) x = subst (λ (l : Bor Plan). IsZeroSize (definitions_of l.now) x) h.plan z in
       onward p.left (passed_copies (definitions_of old.plan.now) (pending_names old) (pending_names now) (pending (names_of now.plan.now) (new.frame ∷ reverse new.stack.items)) (suc p.others) x h.passed zero p.names)
 
   -- a value ends
-  pub closed : new.left ≡ now.left → pending (names_of now.plan.now) (new.frame ∷ reverse new.stack.items) ≡ pending_names now → NoneYet old new
+  closed : new.left ≡ now.left → pending (names_of now.plan.now) (new.frame ∷ reverse new.stack.items) ≡ pending_names now → NoneYet old new
   closed e p = onward e (subst (λ ps. PassedTo (definitions_of old.plan.now) (pending_names old) ps) (sym p) h.passed)
 
-module _ (old now : Cursor) (h : NoneYet old now) where
+module _ (old now : Cursor) (h : NoneYet old now) (i : ∥ IsInValue now ∥₁) where
   -- all values end
   pub none_left : pending_names now ≡ [] → old.left.now ≡ []
-  none_left e = ap (λ b. b.now) (sym h.left) ∙ no_more (subst (λ ps. Members (definitions_of now.plan.now) ps now.left.now) e (members_left now h.cursor h.member))
+  none_left e = ap (λ b. b.now) (sym h.left) ∙ ∥∥₁_elim i (Coded-set coded_name _ _) λ v. no_more (subst (λ ps. Members (definitions_of now.plan.now) ps now.left.now) e (members_left now v.cursor v.member))
 
   -- a value of the next name begins in a member
-  pub not_stopped : (x : List ℕ) (r : Reason) → IsStopped (definitions_of now.plan.now) (root_of now.plan.now) (before now.bytes.now now.left.now) now.left.now x r → ⊥
-  not_stopped x r t = t.no [] (λ _. refl) (now.bytes.now, [], h.member, append-nil (before now.bytes.now now.left.now ++ now.left.now) ∙ before_whole now.bytes.now now.left.now h.cursor.suffix ∙ sym (append-nil now.bytes.now))
+  not_stopped : (x : List ℕ) (r : Reason) → (IsInValue now → IsStopped (definitions_of now.plan.now) (root_of now.plan.now) (before now.bytes.now now.left.now) now.left.now x r) → ⊥
+  not_stopped x r t = ∥∥₁_elim i (λ a b. absurd a) λ v. (t v).no [] (λ _. refl) (now.bytes.now, [], v.member, append-nil (before now.bytes.now now.left.now ++ now.left.now) ∙ before_whole now.bytes.now now.left.now v.cursor.suffix ∙ sym (append-nil now.bytes.now))
 
--- an event of which no node comes
-module _ (old now : Cursor) (h : NoneYet old now) (new : Cursor) (s : Stays now new) (e : Event) (k : Happens now new e) where
-  pub goes_on : IsCursor new → ((x : ℕ) × (e ≡ AtPass x)) ⊎ (e ≡ AtClose) → NoneYet old new
-  goes_on i (inl p) = let q = subst (λ e. Happens now new e) p.1 k in passed_on old now h new i s (name_in now p.0) q.0.1 q.1
-  goes_on i (inr p) = let q = subst (λ e. Happens now new e) p k in closed old now h new i s q.0 q.1
+  -- an event of which no node comes
+  module _ (new : Cursor) (s : Stays now new) (e : Event) (k : Happens now new e) (w : IsInValue now → Shows now e) where
+    pub goes_on : ((x : ℕ) × (e ≡ AtPass x)) ⊎ (e ≡ AtClose) → NoneYet old new
+    goes_on (inl p) =
+        let zero = ∥∥₁_elim i (zero_prop (definitions_of now.plan.now)) λ v. (subst (λ e. Shows now e) p.1 (w v)).1 in
+        passed_on old now h new s (name_in now p.0) zero (subst (λ e. Happens now new e) p.1 k)
+    goes_on (inr p) = let q = subst (λ e. Happens now new e) p k in closed old now h new s q.0 q.1
 
-  pub undecided : (at : ℕ) → ((r : Reason) × (e ≡ AtFault at r)) ⊎ (e ≡ AtUndecided at) → (x : List ℕ) → x ≡ name_at (names_of new.plan.now) at → IsUndecided (definitions_of old.plan.now) (root_of old.plan.now) x
-  undecided at (inl p) x n = let q = subst (λ e. Happens now new e) p.1 k in absurd (not_stopped old now h (name_in now at) p.0 q.1)
-  undecided at (inr p) x n =
-      let q = subst (λ e. Happens now new e) p k in
-      let name : x ≡ name_in now at = n ∙ ap (λ l. name_at (names_of l.now) at) s.0 in
-      subst (λ (l : Bor Plan). IsUndecided (definitions_of l.now) (root_of l.now) x) h.plan (subst (λ y. IsUndecided (definitions_of now.plan.now) (root_of now.plan.now) y) (sym name) q.1)
+    pub undecided : (at : ℕ) → ((r : Reason) × (e ≡ AtFault at r)) ⊎ (e ≡ AtUndecided at) → (x : List ℕ) → x ≡ name_in now at → IsUndecided (definitions_of old.plan.now) (root_of old.plan.now) x
+    undecided at (inl p) x n = absurd (not_stopped (name_in now at) p.0 λ v. subst (λ e. Shows now e) p.1 (w v))
+    undecided at (inr p) x n =
+        let q = subst (λ e. Happens now new e) p k in
+        subst (λ (l : Bor Plan). IsUndecided (definitions_of l.now) (root_of l.now) x) h.plan (subst (λ y. IsUndecided (definitions_of now.plan.now) (root_of now.plan.now) y) (sym n) q.1)
 
 -- the next node
-module _ (old new : Preorder) (now : Cursor) (h : NoneYet old.cursor now) (s : Stays now new.cursor) where
+module _ (old new : Preorder) (now : Cursor) (h : NoneYet old.cursor now) (i : ∥ IsInValue now ∥₁) (s : Stays now new.cursor) where
   pub given : (n : Node) → IsBegun now new.cursor n.at n.definition.now n.bytes.now → n.name.now ≡ name_in now n.at → n.offset ≡ length now.bytes.now - length now.left.now → (IsZeroSize (definitions_of now.plan.now) (name_in now n.at) → ⊥) → GivesNode old new n
   given n b name offset some =
       let ns = names_of now.plan.now in
@@ -313,7 +329,7 @@ module _ (old new : Preorder) (now : Cursor) (h : NoneYet old.cursor now) (s : S
       let left = ap (λ b. length b.now) h.left in
       let all_new = ap (λ b. length b.now) s.1 in
       let split = ap length b.bytes ∙ length-append own new.cursor.left.now in
-      let within = h.cursor.within in
+      let within : length now.left.now ≤ length now.bytes.now = ∥∥₁_elim i le_prop λ v. v.cursor.within in
       let there = name_there ns n.at b.within in
       record {
         place = ap (λ (l : Bor Plan). name_of (names_of l.now) n.at) (sym h.plan) ∙ there ∙ ap (λ x. Some x) (sym name);

@@ -176,6 +176,11 @@ pub record IsCursor (c : Cursor) : Type 0 where
   pub suffix : c.left.now ≡ drop (length c.bytes.now - length c.left.now) c.bytes.now
   pub tables : AreTagTables (definitions_of c.plan.now) c.tables
 
+-- all bytes are a member of the root; a type can keep only that there is a proof of it, ∥ IsInValue c ∥₁
+pub record IsInValue (c : Cursor) : Type 0 where
+  pub cursor : IsCursor c
+  pub member : Member (definitions_of c.plan.now) (root_of c.plan.now) c.bytes.now
+
 -- ---- at most so many steps are left
 abbrev pub steps_of : List Named → List Frame → ℕ
 steps_of ns fs = sum_by (λ f. step_count ns f.rest) fs
@@ -235,14 +240,20 @@ pub record PassesCopies (old new : Cursor) (x : List ℕ) : Type 0 where
   pub names : pending_names old ≡ replicate (suc others) x ++ pending (names_of old.plan.now) (new.frame ∷ reverse new.stack.items)
   pub moves : Moves old new
 
--- what a step finds is true
+-- what a step finds, and where it leads
 abbrev pub Happens : Cursor → Cursor → Event → Type 0
 Happens old new (Open at d own) = IsBegun old new at d.now own.now × Moves old new
-Happens old new (Pass at) = OnlyEmpty (definitions_of old.plan.now) (name_in old at) × PassesCopies old new (name_in old at)
+Happens old new (Pass at) = PassesCopies old new (name_in old at)
 Happens old new Close = (new.left ≡ old.left) × (pending (names_of old.plan.now) (new.frame ∷ reverse new.stack.items) ≡ pending_names old) × Moves old new
 Happens old new End = (new.left ≡ old.left) × (pending_names old ≡ [])
-Happens old new (Fault at r) = (new.left ≡ old.left) × IsStopped (definitions_of old.plan.now) (root_of old.plan.now) (before old.bytes.now old.left.now) old.left.now (name_in old at) r
+Happens old new (Fault at r) = new.left ≡ old.left
 Happens old new (Undecided at) = (new.left ≡ old.left) × IsUndecided (definitions_of old.plan.now) (root_of old.plan.now) (name_in old at)
+
+-- what that shows of the bytes that are left: a name that is passed has the empty member alone, and a fault is true
+abbrev pub Shows : Cursor → Event → Type 0
+Shows c (Pass at) = OnlyEmpty (definitions_of c.plan.now) (name_in c at)
+Shows c (Fault at r) = IsStopped (definitions_of c.plan.now) (root_of c.plan.now) (before c.bytes.now c.left.now) c.left.now (name_in c at) r
+Shows c e = ⊤
 
 -- a value that begins isn't one of a name of zero size
 abbrev pub OpensFull : Cursor → Event → Type 0

@@ -1,12 +1,12 @@
 -- Values whose nodes are given one after another.
 use Rattle.std.specs.Prelude.{◌≡◌, ⊤, ℕ, ◌+◌, ◌-◌, List, [], ◌∷◌, ◌++◌, length, Option, Some, MatchOption}
 use Rattle.std.specs.{Borrow.Bor, BTreeMap.get_by_text}
-use Rattle.borsh_walks.specs.Container.{Shape, IsZeroSize, Member}
+use Rattle.borsh_walks.specs.Container.{Shape, IsZeroSize}
 use Rattle.borsh_walks.specs.Definitions.{shape_of}
-use Rattle.borsh_plan.specs.Plan.{definitions_of, map_of, names_of, root_of}
+use Rattle.borsh_plan.specs.Plan.{definitions_of, map_of, names_of}
 use Rattle.borsh_plan.specs.{declared.plan.Plan.Plan, Names.name_of}
 use Rattle.borsh_values.specs.declared.{nodes.Node.Node, preorder.Preorder.Preorder, preorder.PreorderError.TheVariants.OutOfMemory, preorder.PreorderError.TheVariants.Ambiguous, preorder.PreorderError.PreorderError}
-use Rattle.borsh_values.specs.{Cursor.IsCursor, Cursor.pending_names, Membership.IsUndecided, Nodes.Opens}
+use Rattle.borsh_values.specs.{Cursor.pending_names, Membership.IsUndecided, Nodes.Opens}
 
 -- the values of all of these names are without bytes
 abbrev pub AreZero : (List ℕ → Option Shape) → List (List ℕ) → Type 0
@@ -26,11 +26,6 @@ next_offset p = length p.cursor.bytes.now - length p.cursor.left.now
 -- the names whose values these bytes are
 abbrev pub names_left : Preorder → List (List ℕ)
 names_left p = pending_names p.cursor
-
--- some bytes of a member of the root are read
-pub record IsInValue (p : Preorder) : Type 0 where
-  pub cursor : IsCursor p.cursor
-  pub member : Member (definitions_of p.cursor.plan.now) (root_of p.cursor.plan.now) p.cursor.bytes.now
 
 -- the node is that of the first of these names that isn't of zero size, and has the first of the bytes; then the names of its parts come first
 pub record GivesNode (old new : Preorder) (n : Node) : Type 0 where

@@ -1,8 +1,7 @@
 // The one walk over the bytes of a value.
 ghost use Rattle.borsh_plan.specs.Plan.{definitions_of, names_of, root_of};
-ghost use Rattle.borsh_walks.specs.Container.{Member};
-ghost use Rattle.borsh_values.specs.Cursor.{Happens, IsCursor, IsOpenable, Moves, OpensFull, Stays, pending_names, StepsOn, KnownAs, remaining};
-ghost use Rattle.std.specs.Prelude.{IfOk, OnOk, None, Some, [], false, true, ◌∷◌, ◌-◌, ◌<◌, ◌≤◌, ◌≡◌, drop, get_or, length, replicate, slice_set, take};
+ghost use Rattle.borsh_values.specs.Cursor.{Happens, IsCursor, IsInValue, IsOpenable, Moves, OpensFull, Shows, Stays, pending_names, StepsOn, KnownAs, remaining};
+ghost use Rattle.std.specs.Prelude.{IfOk, None, Some, [], false, true, ◌∷◌, ◌-◌, ◌<◌, ◌≤◌, ◌≡◌, drop, get_or, length, replicate, slice_set, take};
 
 use crate::faults::{Path, Reason, path_to};
 use crate::frames::{Frame, Mark, Opened, Rest, Step, after_copies, next_part};
@@ -163,10 +162,11 @@ impl<'a, 'p, 'b> Cursor<'a, 'p, 'b> {
 
     /// The next step.
     pub fn step(&mut self) -> Result<Event<'a, 'b>, AllocError>
-        requires { IsCursor self.old }
-        ensures cursor { OnOk result (IsCursor self.new) }
+        requires { ∥ IsCursor self.old ∥₁ }
+        ensures cursor { IsCursor self.old → IsCursor self.new }
         ensures stays { Stays self.old self.new }
         ensures happens { IfOk result (λ e. Happens self.old self.new e) }
+        ensures shows { IsCursor self.old → IfOk result (λ e. Shows self.old e) }
     {
         match next_part(self.plan, self.frame.rest) {
             Some(step) => self.begin(step),
@@ -176,11 +176,11 @@ impl<'a, 'p, 'b> Cursor<'a, 'p, 'b> {
 
     /// The next step in a value: names of zero size are passed, and aren't opened.
     pub fn step_inside(&mut self) -> Result<Event<'a, 'b>, AllocError>
-        requires cursor { IsCursor self.old }
-        requires member { Member (definitions_of self.old.plan.now) (root_of self.old.plan.now) self.old.bytes.now }
-        ensures cursor { OnOk result (IsCursor self.new) }
+        requires { ∥ IsInValue self.old ∥₁ }
+        ensures inside { ∥ IsInValue self.new ∥₁ }
         ensures stays { Stays self.old self.new }
         ensures happens { IfOk result (λ e. Happens self.old self.new e) }
+        ensures shows { IsInValue self.old → IfOk result (λ e. Shows self.old e) }
         ensures full { IfOk result (λ e. OpensFull self.old e) }
     {
         let Some(step) = next_part(self.plan, self.frame.rest) else {
@@ -195,11 +195,12 @@ impl<'a, 'p, 'b> Cursor<'a, 'p, 'b> {
 
     // Goes back to the value around.
     fn close(&mut self) -> Event<'a, 'b>
-        requires cursor { IsCursor self.old }
+        requires cursor { ∥ IsCursor self.old ∥₁ }
         requires none { remaining (names_of self.old.plan.now) self.old.frame.rest ≡ [] }
-        ensures cursor { IsCursor self.new }
+        ensures cursor { IsCursor self.old → IsCursor self.new }
         ensures stays { Stays self.old self.new }
         ensures happens { Happens self.old self.new result }
+        ensures shows { Shows self.old result }
     {
         match self.stack.pop() {
             Some(above) => {
@@ -215,11 +216,12 @@ impl<'a, 'p, 'b> Cursor<'a, 'p, 'b> {
 
     // Begins a value of the next name.
     fn begin(&mut self, step: Step) -> Result<Event<'a, 'b>, AllocError>
-        requires cursor { IsCursor self.old }
+        requires cursor { ∥ IsCursor self.old ∥₁ }
         requires step { StepsOn (names_of self.old.plan.now) self.old.frame.rest step }
-        ensures cursor { OnOk result (IsCursor self.new) }
+        ensures cursor { IsCursor self.old → IsCursor self.new }
         ensures stays { Stays self.old self.new }
         ensures happens { IfOk result (λ e. Happens self.old self.new e) }
+        ensures shows { IsCursor self.old → IfOk result (λ e. Shows self.old e) }
     {
         let plan = self.plan;
         let Some(definition) = plan.definition(step.at) else {
@@ -254,12 +256,13 @@ impl<'a, 'p, 'b> Cursor<'a, 'p, 'b> {
         definition: &'a Definition,
         parts: Rest,
     ) -> Result<Event<'a, 'b>, AllocError>
-        requires cursor { IsCursor self.old }
+        requires cursor { ∥ IsCursor self.old ∥₁ }
         requires step { StepsOn (names_of self.old.plan.now) self.old.frame.rest step }
         requires opens { IsOpenable self.old step.at definition.now 0 parts }
-        ensures cursor { OnOk result (IsCursor self.new) }
+        ensures cursor { IsCursor self.old → IsCursor self.new }
         ensures stays { Stays self.old self.new }
         ensures happens { IfOk result (λ e. Happens self.old self.new e) }
+        ensures shows { IsCursor self.old → IfOk result (λ e. Shows self.old e) }
     {
         // For the prover: no more names are begun without a byte than there are definitions.
         let _definitions = self.plan.map().len();
@@ -270,8 +273,10 @@ impl<'a, 'p, 'b> Cursor<'a, 'p, 'b> {
             }
             Some(Mark::Open(_)) => Ok(Event::Fault(step.at, Reason::Recursive)),
             None => {
-                self.frame.rest = step.others;
-                self.stack.push(self.frame)?;
+                self.stack.push(Frame {
+                    rest: step.others,
+                    ..self.frame
+                })?;
                 self.frame = Frame {
                     at: step.at,
                     start: self.left.len(),
@@ -292,27 +297,34 @@ impl<'a, 'p, 'b> Cursor<'a, 'p, 'b> {
         own: usize,
         parts: Rest,
     ) -> Result<Event<'a, 'b>, AllocError>
-        requires cursor { IsCursor self.old }
+        requires cursor { ∥ IsCursor self.old ∥₁ }
         requires step { StepsOn (names_of self.old.plan.now) self.old.frame.rest step }
         requires some { 0 < own }
         requires opens { IsOpenable self.old step.at definition.now own parts }
-        ensures cursor { OnOk result (IsCursor self.new) }
+        ensures cursor { IsCursor self.old → IsCursor self.new }
         ensures stays { Stays self.old self.new }
         ensures happens { IfOk result (λ e. Happens self.old self.new e) }
+        ensures shows { IfOk result (λ e. Shows self.old e) }
     {
         let start = self.left.len();
         let bytes = front(self.left, own);
-        self.frame.rest = step.others;
-        self.idle = 0;
-        self.left = after(self.left, own);
+        let left = after(self.left, own);
+        let around = Frame {
+            rest: step.others,
+            ..self.frame
+        };
         if next_part(self.plan, parts).is_some() {
-            self.stack.push(self.frame)?;
+            self.stack.push(around)?;
             self.frame = Frame {
                 at: step.at,
                 start,
                 rest: parts,
             };
+        } else {
+            self.frame = around;
         }
+        self.idle = 0;
+        self.left = left;
         Ok(Event::Open(step.at, definition, bytes))
     }
 }

@@ -1,9 +1,8 @@
 // The nodes of a value, one after another, from its bytes.
 ghost use Rattle.borsh_plan.specs.Plan.{definitions_of, root_of};
-ghost use Rattle.borsh_values.specs.declared.preorder.PreorderError.TheVariants.{OutOfMemory};
 ghost use Rattle.borsh_walks.specs.Container.{Member};
-ghost use Rattle.borsh_values.specs.Preorder.{GivesNext, IsInValue, IsNotGiven, bytes_left, names_left, next_offset, plan_of};
-ghost use Rattle.std.specs.Prelude.{IfErr, IfOk, OnOk, [], ◌∷◌, ◌≡◌};
+ghost use Rattle.borsh_values.specs.Cursor.{IsInValue};
+ghost use Rattle.std.specs.Prelude.{IfErr, IfOk, [], ◌∷◌, ◌≡◌};
 
 use crate::cursor::{Cursor, Event};
 use crate::faults::{Path, PathStep, next_step};
@@ -21,6 +20,8 @@ pub enum PreorderError<'a> {
 }
 
 impl<'a> From<AllocError> for PreorderError<'a> {
+    ghost use Rattle.borsh_values.specs.declared.preorder.PreorderError.TheVariants.{OutOfMemory};
+
     ghost from_gives = { λ _ e. e ≡ OutOfMemory };
 
     fn from(_: AllocError) -> PreorderError<'a> {
@@ -44,9 +45,13 @@ impl<'a> From<AllocError> for PreorderError<'a> {
 pub struct Preorder<'a, 'p, 'b> {
     cursor: Cursor<'a, 'p, 'b>,
     path: Path<'a>,
+    // The bytes are a member of the root, some of which are read; also after an error.
+    ghost inside: { ∥ IsInValue cursor ∥₁ },
 }
 
 impl<'a, 'p, 'b> Preorder<'a, 'p, 'b> {
+    ghost use Rattle.borsh_values.specs.Preorder.{GivesNext, IsNotGiven, bytes_left, names_left, next_offset, plan_of};
+
     /// In front of the first node of a value of the plan's root. The only error is that an allocation failed. Left open: memory.
     pub fn new(
         alloc: Global,
@@ -54,7 +59,6 @@ impl<'a, 'p, 'b> Preorder<'a, 'p, 'b> {
         bytes: &'b [u8],
     ) -> Result<Preorder<'a, 'p, 'b>, AllocError>
         requires member { Member (definitions_of plan.now) (root_of plan.now) bytes.now }
-        ensures inside { IfOk result (λ p. IsInValue p) }
         ensures plan { IfOk result (λ p. plan_of p ≡ plan.entry) }
         ensures names { IfOk result (λ p. names_left p ≡ root_of plan.now ∷ []) }
         ensures bytes { IfOk result (λ p. bytes_left p ≡ bytes.now) }
@@ -75,20 +79,18 @@ impl<'a, 'p, 'b> Preorder<'a, 'p, 'b> {
     ///
     /// Left open: memory, and depths: tested.
     pub fn next(&mut self) -> Result<Option<Node<'a, 'b>>, PreorderError<'a>>
-        requires { IsInValue self.old }
         ensures gives { IfOk result (λ found. GivesNext self.old self.new found) }
-        ensures inside { OnOk result (IsInValue self.new) }
         ensures plan { plan_of self.new ≡ plan_of self.old }
         ensures reason { let plan = (plan_of self.old).now in
             IfErr result (IsNotGiven (definitions_of plan) (root_of plan)) }
     {
         loop {
+            let plan = self.cursor.plan;
             let depth = self.cursor.depth();
             let offset = self.cursor.offset();
             let around = self.cursor.around();
             match self.cursor.step_inside()? {
                 Event::Open(at, definition, bytes) => {
-                    let plan = self.cursor.plan;
                     let step = next_step(plan, self.cursor.bytes, around);
                     lead_on(&mut self.path, depth, step)?;
                     return Ok(Some(Node {
@@ -103,8 +105,7 @@ impl<'a, 'p, 'b> Preorder<'a, 'p, 'b> {
                 Event::Pass(_) | Event::Close => (),
                 Event::End => return Ok(None),
                 Event::Fault(at, _) | Event::Undecided(at) => {
-                    let name = self.cursor.plan.name(at);
-                    return Err(PreorderError::Ambiguous(name));
+                    return Err(PreorderError::Ambiguous(plan.name(at)));
                 }
             }
         }

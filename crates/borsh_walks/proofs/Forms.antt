@@ -1,5 +1,5 @@
 -- Definitions with names are, without these, those that members are of.
-use Rattle.std.proofs.Common.{◌≡◌, ℕ, List, map, Option, None, Some, refl, ap}
+use Rattle.std.proofs.Common.{◌≡◌, Option, None, Some, refl, ap}
 use Rattle.std.proofs.Math.Path.{fun_ext}
 use Rattle.std.proofs.lemmas.Simd.{map-map}
 use Rattle.std.specs.Prelude.{String, option_map}

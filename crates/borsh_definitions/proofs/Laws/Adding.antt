@@ -1,14 +1,19 @@
 -- A definition is put into a map.
-use Rattle.std.proofs.Common.{◌≡◌, ℕ, true, false, cond, List, Option, Some, None, ◌⊎◌, refl, sym, ◌∙◌, ap, inl, inr, true≢false, Global, String, string_bytes, option_map}
+use Rattle.std.proofs.Common.{◌≡◌, ℕ, true, false, cond, List, [], Option, Some, None, ◌⊎◌, refl, sym, ◌∙◌, ap, inl, inr, true≢false, Global, String, string_bytes, option_map}
 use Rattle.std.specs.Str.{bytes_eq}
-use Rattle.std.specs.BTreeMap.{BTreeMap, get_by_text, UpdatesBy}
+use Rattle.std.specs.BTreeMap.{BTreeMap, get_by_text, is_at, UpdatesBy}
+use Rattle.std.specs.Map.{lookup}
 use Rattle.std.specs.String.{string_cmp}
 use Rattle.std.specs.Ordering.{nat_cmp}
 use Rattle.std.specs.Cmp.Lexicographic.{slice_cmp}
 use Rattle.std.proofs.lemmas.Slice.Eq.{bytes_eq-Decides}
 use Rattle.std.proofs.lemmas.Map.Text.{btree_map_updates_text}
 use Rattle.borsh_walks.specs.declared.definition.Definition.{Definition}
-use Rattle.borsh_definitions.specs.Described.{Form, form_of, forms_in}
+use Rattle.borsh_definitions.specs.Described.{Form, form_of, forms_in, nothing_defined}
+
+-- nothing is in a map without entries
+pub nothing_in : (m : BTreeMap (String Global) Definition) → m.entries ≡ [] → forms_in m ≡ nothing_defined
+nothing_in m e = ap (λ es n. option_map form_of (lookup (is_at (λ k. slice_cmp nat_cmp n (string_bytes k))) es)) e
 
 -- what a look-up by a text found is what the text's bytes have
 pub found_at : (m : BTreeMap (String Global) Definition) (bs cs : List ℕ) {o : Option Definition} → o ≡ get_by_text m bs → bs ≡ cs → forms_in m cs ≡ option_map form_of o

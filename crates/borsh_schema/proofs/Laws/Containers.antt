@@ -1,15 +1,12 @@
 -- A container that holds a type's definitions describes the type.
-use Rattle.std.proofs.Common.{◌≡◌, ℕ, List, [], ◌∷◌, map, Option, Some, None, refl, sym, ◌∙◌, ap, subst, inl, inr, String, Global, string_bytes, option_map}
-use Rattle.std.specs.BTreeMap.{BTreeMap, get_by_text, is_at}
-use Rattle.std.specs.Map.{lookup}
-use Rattle.std.specs.Ordering.{nat_cmp}
-use Rattle.std.specs.Cmp.Lexicographic.{slice_cmp}
+use Rattle.std.proofs.Common.{◌≡◌, ℕ, List, map, Option, Some, refl, sym, ◌∙◌, ap, subst, inl, inr, String, Global, option_map}
+use Rattle.std.specs.BTreeMap.{BTreeMap}
 use Rattle.borsh_codec.specs.Codec.{Codec}
 use Rattle.borsh_walks.specs.declared.definition.Definition.{Definition}
 use Rattle.borsh_walks.specs.Container.{Shape, Member}
 use Rattle.borsh_walks.specs.Definitions.{definitions_in}
 use Rattle.borsh_walks.proofs.Forms.{shapes_are}
-use Rattle.borsh_definitions.specs.Described.{Form, shape_of_form, form_of, forms_in, nothing_defined, DefinitionTree, none, defined, both, IsInTree}
+use Rattle.borsh_definitions.specs.Described.{Form, shape_of_form, forms_in, DefinitionTree, none, defined, both, IsInTree}
 use Rattle.borsh_definitions.specs.Language.{Holds, Describes}
 use Rattle.borsh_schema.specs.declared.container.BorshSchemaContainer.{BorshSchemaContainer}
 use Rattle.borsh_schema.specs.Containers.{map_of, language_of, IsContainerOf, DescribesRoot}
@@ -23,10 +20,6 @@ pub holds_parts : (m : BTreeMap (String Global) Definition) (ps : DefinitionTree
 holds_parts m none has = tt
 holds_parts m (defined n d ps) has = (shape_at m n d (has n d (inl (refl, refl))), holds_parts m ps (λ k e h. has k e (inr h)))
 holds_parts m (both ps qs) has = (holds_parts m ps (λ k e h. has k e (inl h)), holds_parts m qs (λ k e h. has k e (inr h)))
-
--- nothing is in a map without entries
-pub nothing_in : (m : BTreeMap (String Global) Definition) → m.entries ≡ [] → forms_in m ≡ nothing_defined
-nothing_in m e = ap (λ es n. option_map form_of (lookup (is_at (λ k. slice_cmp nat_cmp n (string_bytes k))) es)) e
 
 -- the container of a type describes the type, where each container that holds the type's definitions does
 pub describes_root : {A : Type 0} (c : Codec A) (name : List ℕ) (ps : DefinitionTree) (container : BorshSchemaContainer) → ((C : List ℕ → Option Shape) → Holds C ps → Describes A C c name) → IsContainerOf name ps container → DescribesRoot c container

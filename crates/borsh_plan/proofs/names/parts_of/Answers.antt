@@ -1,10 +1,10 @@
-use Rattle.std.proofs.Common.{◌+◌, ◌≤◌, ◌∙◌, length, take, ap, sym, subst, arith, refl, Some}
+use Rattle.std.proofs.Common.{◌+◌, ◌∙◌, take, ap, sym, subst, arith, refl, Some}
 use Rattle.std.specs.Prelude.{slice_get}
 use Rattle.borsh_walks.specs.Container.{references}
 use Rattle.borsh_walks.specs.Definitions.{shape_of}
 use Rattle.borsh_walks.proofs.Names.{next_below}
 use Rattle.borsh_walks.proofs.Spots.{take_more, take_whole}
-use Rattle.borsh_plan.specs.Names.{AreParts, Grows, IsPartOf}
+use Rattle.borsh_plan.specs.Names.{AreParts}
 use Rattle.borsh_plan.proofs.NameLaws.{grows_on, grows_same, parts_more}
 use Rattle.borsh_plan.proofs.names.parts_of.Goals as goal
 

@@ -1,4 +1,4 @@
-use Rattle.std.proofs.Common.{◌≡◌, ◌∙◌, None, sym, ap, map, subst}
+use Rattle.std.proofs.Common.{◌≡◌, ◌∙◌, sym, ap, map, subst}
 use Rattle.std.specs.Prelude.{string_bytes}
 use Rattle.borsh_definitions.specs.Described.{variant_bytes}
 use Rattle.borsh_source.specs.Errors.{LeavesTagsOpen}

@@ -25,7 +25,6 @@ pub loop-init : goal.loop-init
 loop-init g c =
     let b = c.in-Ok-new.ensures.rows in
     record {
-      rows = b.rows;
       plan = ap (λ (r : Bor Plan). r.now) b.plan;
       colors = c.new-made.ensures.0;
       so_far = painted_start g.met.W.Write.lawful c.args.out.now;
@@ -83,7 +82,7 @@ loop-preserved g c =
       | else-as_bytes-ge-ROOM w ↦
           (subst (λ o. PaintedSoFar wr colored c.args.out.now o) (sym w.out-is) so_far, ap (λ (t : ColoredText). has_colors t) w.made-is ∙ colors)
     ] in
-    record { rows = search rules; plan = search rules; colors = kept.1; so_far = kept.0 }
+    record { plan = search rules; colors = kept.1; so_far = kept.0 }
 
 pub returns-clause-painted : goal.returns-clause-painted
 returns-clause-painted g c = painted_stop (Err _) _ refl c.loop.invariant.so_far

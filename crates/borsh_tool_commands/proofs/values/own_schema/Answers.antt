@@ -2,7 +2,7 @@ use Rattle.std.proofs.Common.{subst}
 use Rattle.borsh_definitions.specs.Described.{DefinitionMap, forms_in}
 use Rattle.borsh_definitions.specs.Own.{container_definitions}
 use Rattle.borsh_schema.specs.Joined.{IsUnion}
-use Rattle.borsh_schema.proofs.Laws.Containers.{nothing_in}
+use Rattle.borsh_definitions.proofs.Laws.Adding.{nothing_in}
 use Rattle.borsh_tool_commands.proofs.values.own_schema.Goals as goal
 
 pub returns-clause-ok : goal.returns-clause-ok

@@ -8,7 +8,7 @@ use Rattle.borsh_json.proofs.RowsLaws.{given, passed}
 use Rattle.borsh_json.proofs.rows.Rows.next.Goals as goal
 
 pub loop-init : goal.loop-init
-loop-init c = record { rows = c.requires; plan = refl; bytes = refl; offset = refl; names = nothing }
+loop-init c = record { plan = refl; bytes = refl; offset = refl; names = nothing }
 
 pub returns-then-not-is_empty-clause-row : goal.returns-then-not-is_empty-clause-row
 returns-then-not-is_empty-clause-row c =
@@ -20,4 +20,4 @@ pub loop-preserved : goal.loop-preserved
 loop-preserved c =
     let g = subst (λ (o : Option Node). GivesNext c.loop.self.nodes c.next_node.new.nodes o) c.in-Some.is c.in_ok-node.ensures.gives in
     let none : length c.in-Some.node.bytes.now ≡ 0 = (Decides-eqb (length c.in-Some.node.bytes.now) 0).0 (sym c.is_empty.ensures ∙ c.if-not-is_empty.false) in
-    passed c.args.self.now c.loop.self (record { alloc = c.loop.self.alloc; nodes = c.next_node.new.nodes }) c.in-Some.node c.loop.invariant c.in_ok-node.ensures.inside c.next_node.ensures.plan g none
+    passed c.args.self.now c.loop.self (record { alloc = c.loop.self.alloc; nodes = c.next_node.new.nodes }) c.in-Some.node c.loop.invariant c.next_node.ensures.plan g none

@@ -1,4 +1,5 @@
-use Rattle.borsh_schema.proofs.Laws.Containers.{nothing_in, describes_root}
+use Rattle.borsh_definitions.proofs.Laws.Adding.{nothing_in}
+use Rattle.borsh_schema.proofs.Laws.Containers.{describes_root}
 use Rattle.borsh_schema.proofs.Containing.{container_made}
 use Rattle.borsh_schema.proofs.container.BorshSchemaContainer.for_type.Goals as goal
 

@@ -1,6 +1,5 @@
 use Rattle.std.proofs.Common.{◌∙◌, ap, subst}
-use Rattle.borsh_plan.specs.{Names.name_at, Plan.names_of}
-use Rattle.borsh_values.specs.Cursor.{Happens}
+use Rattle.borsh_values.specs.Cursor.{Happens, name_in}
 use Rattle.borsh_values.proofs.Stepping.{given, goes_on, none_left, undecided}
 use Rattle.borsh_values.proofs.preorder.Preorder.next.Goals as goal
 use Rattle.borsh_values.proofs.preorder.Preorder.next.Goals.{in-Fault, in-Fault-2}
@@ -13,25 +12,25 @@ returns-in-Open-clause-gives c =
     let e = c.in_ok-at.ensures in
     let b = subst (λ e. Happens now new e) c.in-Open.is e.happens in
     let full = e.full _ _ _ c.in-Open.is in
-    given c.args.self.now (record { cursor = new; path = c.lead_on.new.path }) now c.loop-at.invariant e.stays (record { at = at; name = c.name.result; definition = c.in-Open.definition; bytes = c.in-Open.bytes; offset = c.offset-offset.result; depth = c.depth-depth.result }) b.0 (c.name.ensures ∙ ap (λ l. name_at (names_of l.now) at) e.stays.0) c.offset-offset.ensures full
+    given c.args.self.now _ now c.loop-at.invariant c.loop-at.self.inside e.stays _ b.0 c.name.ensures c.offset-offset.ensures full
 
 pub loop-at-preserved : goal.loop-at-preserved
 loop-at-preserved c =
     let e = c.in_ok-at.ensures in
-    goes_on c.args.self.now.cursor c.loop-at.self.cursor c.loop-at.invariant c.step_inside.new.self e.stays c.in_ok-at.field-0 e.happens e.cursor c.in-Pass.is
+    goes_on c.args.self.now.cursor c.loop-at.self.cursor c.loop-at.invariant c.loop-at.self.inside c.step_inside.new.self e.stays c.in_ok-at.field-0 e.happens e.shows c.in-Pass.is
 
 pub returns-in-End-clause-gives : goal.returns-in-End-clause-gives
 returns-in-End-clause-gives c =
     let now = c.loop-at.self.cursor in
     let b = subst (λ e. Happens now c.step_inside.new.self e) c.in-End.is c.in_ok-at.ensures.happens in
-    none_left c.args.self.now.cursor now c.loop-at.invariant b.1
+    none_left c.args.self.now.cursor now c.loop-at.invariant c.loop-at.self.inside b.1
 
 pub returns-in-Fault-clause-reason : goal.returns-in-Fault-clause-reason
 returns-in-Fault-clause-reason c =
-    let new = c.step_inside.new.self in
+    let now = c.loop-at.self.cursor in
     let e = c.in_ok-at.ensures in
-    let go = undecided c.args.self.now.cursor c.loop-at.self.cursor c.loop-at.invariant new e.stays c.in_ok-at.field-0 e.happens in
+    let go = undecided c.args.self.now.cursor now c.loop-at.invariant c.loop-at.self.inside c.step_inside.new.self e.stays c.in_ok-at.field-0 e.happens e.shows in
     elim c.in-Fault-1.branch [
-      | in-Fault w ↦ go w.in-Fault.at w.in-Fault.is c.name-name.result.now (c.name-name.ensures ∙ ap (λ at. name_at (names_of new.plan.now) at) w.at-is)
-      | in-Fault-2 w ↦ go w.in-Fault.at w.in-Fault.is c.name-name.result.now (c.name-name.ensures ∙ ap (λ at. name_at (names_of new.plan.now) at) w.at-is)
+      | in-Fault w ↦ go w.in-Fault.at w.in-Fault.is c.name-in-Fault.result.now (c.name-in-Fault.ensures ∙ ap (λ at. name_in now at) w.at-is)
+      | in-Fault-2 w ↦ go w.in-Fault.at w.in-Fault.is c.name-in-Fault.result.now (c.name-in-Fault.ensures ∙ ap (λ at. name_in now at) w.at-is)
     ]
