@@ -1,5 +1,5 @@
 -- A container that holds a type's definitions describes the type.
-use Rattle.std.proofs.Common.{◌≡◌, ℕ, List, map, Option, Some, refl, sym, ◌∙◌, ap, subst, inl, inr, String, Global, option_map}
+use Rattle.std.proofs.Common.{◌≡◌, ℕ, List, Option, Some, refl, sym, ◌∙◌, ap, subst, inl, inr, String, Global, option_map}
 use Rattle.std.specs.BTreeMap.{BTreeMap}
 use Rattle.borsh_codec.specs.Codec.{Codec}
 use Rattle.borsh_walks.specs.declared.definition.Definition.{Definition}
