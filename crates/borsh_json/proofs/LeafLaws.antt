@@ -19,7 +19,7 @@ use Rattle.borsh_plan.specs.declared.named.Named.{Named}
 use Rattle.borsh_json.specs.declared.error.Refusal.TheVariants.{Zero}
 use Rattle.borsh_json.specs.declared.error.WriteError.{WriteError}
 use Rattle.borsh_json.specs.declared.kinds.Kind.{Kind as Found}
-use Rattle.borsh_json.specs.declared.kinds.Kind.TheVariants.{Number, Bool as Truth, Text, Bytes, Float, ByteList, Numbers, List as ElementList, Map as Entries, Row, Newtype, Object, Optional, Choice, Repeated}
+use Rattle.borsh_json.specs.declared.kinds.Kind.TheVariants.{Number, Bool as Truth, Text, Bytes, Float, ByteList, Numbers, List as ElementList, Map as Entries, Row, Newtype, Object, Optional, Choice, Refused}
 use Rattle.borsh_json.specs.declared.numbers.Number.{Number as NumberOf}
 use Rattle.borsh_json.specs.declared.output.LongNumbers.{LongNumbers}
 use Rattle.borsh_json.specs.declared.output.LongNumbers.TheVariants.{Plain, Quoted}
@@ -245,7 +245,7 @@ bare (Newtype at) k e = absurd e
 bare (Object fs) k e = absurd e
 bare (Optional at) k e = absurd e
 bare (Choice w vs) k e = absurd e
-bare (Repeated name) k e = absurd e
+bare (Refused flaw) k e = absurd e
 
 -- the other kinds of primitives than numbers, `bool` and floats
 pub raw_kind : (kind : Found) (k : Kind) → IsPrimitiveKind kind k → ((n : NumberOf) → kind ≡ Number n → ⊥) → (kind ≡ Truth → ⊥) → ((n : ℕ) → kind ≡ Float n → ⊥) → (n : ℕ) × (k ≡ raw n)
@@ -263,7 +263,7 @@ raw_kind (Newtype at) k e f g h = absurd e
 raw_kind (Object fs) k e f g h = absurd e
 raw_kind (Optional at) k e f g h = absurd e
 raw_kind (Choice w vs) k e f g h = absurd e
-raw_kind (Repeated name) k e f g h = absurd e
+raw_kind (Refused flaw) k e f g h = absurd e
 
 module _ (F : List ℕ → Option Form) (ns : List Named) (x : List ℕ) where
   -- the definition tells the kind
@@ -290,7 +290,7 @@ module _ (F : List ℕ → Option Form) (ns : List Named) (x : List ℕ) where
   found_kind f (Object fs) k e h = absurd e
   found_kind f (Optional at) k e h = absurd e
   found_kind f (Choice w vs) k e h = absurd e
-  found_kind f (Repeated name) k e h = absurd e
+  found_kind f (Refused flaw) k e h = absurd e
 
   bare_form : (k : Kind) (f : Form) (own : List ℕ) (parts : List (List ℕ)) → DefinedKind F x f k → IsBare k → Opens (shapes F) (shape_of_form f) own parts → (parts ≡ []) × HasSize k (length own)
   bare_form k (primitive n) own parts d b o = (o.2, subst (λ (k : Kind). HasSize k (length own)) (sym d) (subst (λ m. HasSize (primitive_kind x n) m) (sym o.0) (primitive_sized x n)))

@@ -362,14 +362,14 @@ module _ (F : List ℕ → Option Form) (e : List ℕ) (k : Kind) (size : ℕ) (
 -- a list of primitives that was found, and its elements
 pub numbers_there : (F : List ℕ → Option Form) (ns : List Named) (x own es : List ℕ) (parts : List (List ℕ)) (d : Definition) (at : Elements) (size : ℕ) → IsOpenedAs F x (form_of d) own parts → IsKindOf F ns x (form_of d) (Numbers at) → AreElementsOf (shape_of d) own es → size ≡ at.size
     → (parts ≡ []) × (e : List ℕ) × IsAt ns at.at e × HasKind F x (list (lengths_of (form_of d)) e) × HasKind F e (primitive_kind e size) × IsListed (lengths_of (form_of d)) own es size × (1 ≤ size)
-numbers_there F ns x own es parts d at size o i a q = found size q (i.2)
+numbers_there F ns x own es parts d at size o i a q = found size q i.1
   where
-    t : (e : List ℕ) × IsAt ns at.at e × HasKind F x (list (lengths_of (form_of d)) e)
-    t = subst (λ b. IsListOf F ns x (form_of d) at.at b) i.1 i.0
+    t : IsListOf F ns x (form_of d) at.at
+    t = i.0
 
     found : (n : ℕ) → n ≡ at.size → 0 < at.size → (parts ≡ []) × (e : List ℕ) × IsAt ns at.at e × HasKind F x (list (lengths_of (form_of d)) e) × HasKind F e (primitive_kind e n) × IsListed (lengths_of (form_of d)) own es n × (1 ≤ n)
     found zero e h = absurd (omega arith)
     found (suc n) e h =
-        let p : F t.0 ≡ Some (primitive (suc n)) = i.3 t.0 t.1 ∙ ap (λ k. Some (primitive k)) (sym e) in
+        let p : F t.0 ≡ Some (primitive (suc n)) = i.2 t.0 t.1 ∙ ap (λ k. Some (primitive k)) (sym e) in
         let b = list_node F x own es parts (list (lengths_of (form_of d)) t.0) d n (defined F ns x (form_of d) (list (lengths_of (form_of d)) t.0) o.0 (λ e. cc) t.2) tt (λ y z. ap (λ (y : List ℕ). F y) (sym z) ∙ p) o.1 a in
         (b.0, t.0, t.1, t.2, inr (full_primitive F {x = t.0} {n = n} p, primitive (suc n), p, refl), b.1, omega arith)

@@ -1,6 +1,6 @@
 -- What JSON of a kind opens.
 use Rattle.std.proofs.Common.{◌≡◌, inl, inr, ℕ, suc, zero, List, [], ◌∷◌, ◌++◌, length, map, replicate, drop, Bool, true, Option, Some, None, refl, sym, ◌∙◌, ap, subst, arith, append-nil}
-use Rattle.std.specs.Prelude.{Result, Ok, Err, ℤ, slice_get, MatchOption, String}
+use Rattle.std.specs.Prelude.{Result, Ok, Err, ℤ, slice_get, MatchOption, String, string_bytes}
 use Rattle.json.specs.Token.{Token}
 use Rattle.json.specs.Json.{Json, null, boolean, number, string, array, object, Items, no_items, item}
 use Rattle.json.specs.Find.{BeginsWith, is_null, as_bool, as_str, as_number}
@@ -9,6 +9,8 @@ use Rattle.borsh_json.specs.declared.error.ReadError.{ReadError}
 use Rattle.borsh_json.specs.declared.error.ReadError.TheVariants.{OutOfMemory, Refused, Descends as DescendsAt}
 use Rattle.borsh_json.specs.declared.error.Refusal.{Refusal}
 use Rattle.borsh_json.specs.declared.error.Refusal.TheVariants.{TooDeep, RepeatedName, EmptyElements, NotBool, NotUtf8, Zero, NotNumber, Descends, Expected, MissingField, UnknownName, RepeatedKey, Undefined}
+use Rattle.borsh_json.specs.declared.kinds.Flaw.{Flaw}
+use Rattle.borsh_json.specs.declared.kinds.Flaw.TheVariants.{RepeatedName as NameTwice, EmptyElements as NoElements}
 use Rattle.borsh_json.specs.declared.opening.Frame.{Frame}
 use Rattle.borsh_json.specs.declared.order.Ascent.{Ascent}
 use Rattle.borsh_json.specs.declared.position.Parts.{Parts}
@@ -19,12 +21,19 @@ use Rattle.borsh_json.specs.Forms.{Form}
 use Rattle.borsh_json.specs.Frames.{ShowsOr, ShowsRead, DeniesRead, FailsRead, Left, items_left, IsExpected, SaysOn, IsPlaceOf, AscendIn, IsUnbegun, IsFound, IsOpened, IsOpenedOrFalls, HasLeft, IsWanted, IsListPlace, IsMapPlace, Wanted, DeniesOr, IsUnexpected, IsKeyReason}
 use Rattle.borsh_json.specs.InOrder.{DigitsFall, ItemsFall}
 use Rattle.borsh_json.specs.NoValue.{SaysOwn, FailsHere, Why}
-use Rattle.borsh_json.specs.Table.{Lengths, Kind, byte_list, HasKind, Part, row_parts, list_parts, IsVariant, this, that, Says}
+use Rattle.borsh_json.specs.Places.{HasFlaw, IsRefusalOf}
+use Rattle.borsh_json.specs.Table.{Lengths, Kind, byte_list, HasEmptyElements, HasKind, Part, row_parts, list_parts, IsVariant, RepeatsName, this, that, Says}
 use Rattle.borsh_json.proofs.FrameLaws.{drop_at}
 use Rattle.borsh_json.proofs.ReaderLaws.{mapped}
 use Rattle.borsh_json.proofs.RepresentsLaws.{kind_one}
 use Rattle.borsh_json.proofs.StepLaws.{item_back}
 use Rattle.std.specs.Global.{Global}
+
+-- ---- names without JSON
+-- the refusal for a flaw of a name is right where that for each flaw is
+pub flaw_refuses : (F : List ℕ → Option Form) (x : List ℕ) (IsRight : Refusal → Type 0) → ((text : String Global) → RepeatsName F x (string_bytes text) → IsRight (RepeatedName text)) → (HasEmptyElements F x → IsRight EmptyElements) → (flaw : Flaw) (refusal : Refusal) → HasFlaw F x flaw → IsRefusalOf flaw refusal → IsRight refusal
+flaw_refuses F x IsRight r e (NameTwice name) refusal h i = subst IsRight (sym i.1) (r i.0 (subst (λ s. RepeatsName F x s) (sym i.2) h))
+flaw_refuses F x IsRight r e NoElements refusal h i = subst IsRight (sym i) (e h)
 
 -- ---- JSON by its type
 pub null_is : (j : Json) → is_null j ≡ true → j ≡ null

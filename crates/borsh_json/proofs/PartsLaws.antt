@@ -35,7 +35,7 @@ object_one ms ns e = cc
 
 module _ (F : List ℕ → Option Form) (ns : List Named) (x : List ℕ) (j : Json) where
   -- nothing is said of the name
-  pub unsayable : IsUnsayable F ns x → SaysOwn F x j → ⊥
+  pub unsayable : IsUnsayable F x → SaysOwn F x j → ⊥
   unsayable h s = let f = s.2 in h f.0 j s.0 s.1 f.1 f.2
 
   -- ---- rows

@@ -30,7 +30,7 @@ use Rattle.borsh_json.specs.declared.error.WriteError.{WriteError}
 use Rattle.borsh_json.specs.declared.error.WriteError.TheVariants.{OutOfMemory, Refused, Element}
 use Rattle.borsh_json.specs.declared.kinds.Elements.{Elements as FoundElements}
 use Rattle.borsh_json.specs.declared.kinds.Kind.{Kind as Found}
-use Rattle.borsh_json.specs.declared.kinds.Kind.TheVariants.{Number, Bool as Truth, Text, Bytes, Float, ByteList, Numbers, List as ListKind, Map, Row as RowKind, Newtype as NewtypeKind, Object as ObjectKind, Optional, Choice, Repeated}
+use Rattle.borsh_json.specs.declared.kinds.Kind.TheVariants.{Number, Bool as Truth, Text, Bytes, Float, ByteList, Numbers, List as ListKind, Map, Row as RowKind, Newtype as NewtypeKind, Object as ObjectKind, Optional, Choice, Refused as RefusedKind}
 use Rattle.borsh_json.specs.declared.kinds.Entries.{Entries as FoundEntries}
 use Rattle.borsh_json.specs.declared.kinds.KeyKind.{KeyKind}
 use Rattle.borsh_json.specs.declared.kinds.KeyKind.TheVariants.{Text as TextKeys, Number as NumberKeys}
@@ -204,7 +204,7 @@ leaf_room (NewtypeKind at) n l e g = omega arith
 leaf_room (ObjectKind fs) n l e g = omega arith
 leaf_room (Optional at) n l e g = omega arith
 leaf_room (Choice m vs) n l e g = omega arith
-leaf_room (Repeated name) n l e g = omega arith
+leaf_room (RefusedKind flaw) n l e g = omega arith
 
 abbrev pub IsPlaceBegun : (List ℕ → Option Form) → List Named → List ℕ → Form → List ℕ → Output → Output → Place → Type 0
 IsPlaceBegun F ns x f own old new q = (r : Rest) × IsRest F ns q r × WritesFront F x own r old new × Opens (shapes F) (shape_of_form f) own (names_of_rest r) × AreCalled f own q.parts (names_of_rest r)
@@ -288,7 +288,7 @@ new_marked d bytes x keys f kind p q h i k a n b c g = (
       ((t.0, f, subst (λ (kind : Found). IsKindOf (forms_of d) (names_of d) x f kind) t.1 i, subst (λ (kind : Found). KindHasOrder (forms_of d) (names_of d) x kind) t.1 k), subst (λ (l : Option EntryKey). IsLastKey d bytes es l None) (sym (b ∙ h.1)) tt)),
   g,
   refl,
-  n ∙ h.4,
+  n ∙ h.3,
 )
 
 -- ---- a node was found of the name that is awaited

@@ -102,11 +102,11 @@ module _ (F : List ℕ → Option Form) where
   abbrev pub TellsNoOrder : List ℕ → Option Ordered → Type 0
   TellsNoOrder x order = order ≡ None → KnowsNoOrder x
 
-  -- a kind of x without an order tells that x is no set or map, unless the list is refused
+  -- a kind of x without an order tells that x is no set or map
   abbrev pub KindTellsOrder : List ℕ → Kind → Type 0
   KindTellsOrder x (ByteList es) = TellsNoOrder x es.order
   KindTellsOrder x (Numbers es) = TellsNoOrder x es.order
-  KindTellsOrder x (ListKind es) = es.is_refused ≡ false → TellsNoOrder x es.order
+  KindTellsOrder x (ListKind es) = TellsNoOrder x es.order
   KindTellsOrder x kind = ⊤
 
 -- the values of the definitions' name are ordered so

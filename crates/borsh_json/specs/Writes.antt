@@ -23,9 +23,10 @@ use Rattle.borsh_json.specs.declared.error.WriteError.{WriteError}
 use Rattle.borsh_json.specs.declared.error.WriteError.TheVariants.{OutOfMemory, Refused, Element}
 use Rattle.borsh_json.specs.declared.kinds.Elements.{Elements as FoundElements}
 use Rattle.borsh_json.specs.declared.kinds.Entries.{Entries as FoundEntries}
+use Rattle.borsh_json.specs.declared.kinds.Flaw.{Flaw}
 use Rattle.borsh_json.specs.declared.kinds.KeyKind.{KeyKind}
 use Rattle.borsh_json.specs.declared.kinds.Kind.{Kind as Found}
-use Rattle.borsh_json.specs.declared.kinds.Kind.TheVariants.{Number, Bool as Truth, Text, Bytes, Float, ByteList, Numbers, List as ListKind, Map, Row as RowKind, Newtype as NewtypeKind, Object as ObjectKind, Optional, Choice, Repeated}
+use Rattle.borsh_json.specs.declared.kinds.Kind.TheVariants.{Number, Bool as Truth, Text, Bytes, Float, ByteList, Numbers, List as ListKind, Map, Row as RowKind, Newtype as NewtypeKind, Object as ObjectKind, Optional, Choice, Refused as RefusedKind}
 use Rattle.borsh_json.specs.declared.order.Ascent.{Ascent}
 use Rattle.borsh_json.specs.declared.order.Ordered.{Ordered}
 use Rattle.borsh_json.specs.declared.output.LongNumbers.{LongNumbers}
@@ -136,7 +137,7 @@ HasNode (NewtypeKind at) = ⊥
 HasNode (ObjectKind fs) = ⊥
 HasNode (Optional at) = ⊤
 HasNode (Choice w vs) = ⊤
-HasNode (Repeated name) = ⊥
+HasNode (RefusedKind flaw) = ⊥
 
 -- how deep JSON of a kind nests that is written whole
 abbrev pub leaf_depth : Found → ℕ
@@ -154,13 +155,13 @@ leaf_depth (NewtypeKind at) = 0
 leaf_depth (ObjectKind fs) = 0
 leaf_depth (Optional at) = 0
 leaf_depth (Choice w vs) = 0
-leaf_depth (Repeated name) = 0
+leaf_depth (RefusedKind flaw) = 0
 
--- none of the parts was begun, and an object of entries is a map's; the order of parts isn't set, and a list isn't refused
+-- none of the parts was begun, and an object of entries is a map's; the order of parts isn't set
 abbrev pub IsNewPlace : Found → Place → Type 0
 IsNewPlace kind p =
     (p.ascent ≡ None) × (p.last ≡ None) × ((es : FoundEntries) (n : ℕ) → p.parts ≡ MapEntries es n → (order : Ordered) × (kind ≡ Map es order))
-    × ((es : FoundElements) → kind ≡ ListKind es → es.is_refused ≡ false) × (p.begun ≡ 0)
+    × (p.begun ≡ 0)
 
 -- a place's steps lead to these parts of a value with this definition and own bytes
 abbrev pub AreCalled : Form → List ℕ → Parts → List (List ℕ) → Type 0
@@ -349,7 +350,7 @@ BeginsAt parts old new result = MatchResult result
 
 -- the parts of a value of a kind without own bytes, that has the name at the place
 abbrev pub ArePartsOf : ℕ → Found → Option Parts → Type 0
-ArePartsOf at kind None = HasNode kind ⊎ ((name : Bor (List ℕ)) × (kind ≡ Repeated name))
+ArePartsOf at kind None = HasNode kind ⊎ ((flaw : Flaw) × (kind ≡ RefusedKind flaw))
 ArePartsOf at kind (Some (Row i n)) = (i ≡ at) × (kind ≡ RowKind n)
 ArePartsOf at kind (Some (Newtype p)) = kind ≡ NewtypeKind p
 ArePartsOf at kind (Some (Object i fs)) = (i ≡ at) × (kind ≡ ObjectKind fs)

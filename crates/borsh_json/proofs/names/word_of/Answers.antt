@@ -17,12 +17,4 @@ returns-else-is_sorted c F ns x f k h t =
     bytes_word F ns x f c.in-ByteList.elements false _ (subst (λ b. MatchBool b (HasToldKeys F x) (HasOtherKeys F x)) c.if-is_sorted.false (c.is_sorted.ensures F ns x o.1 n)) refl (rw c.in-ByteList.is at k)
 
 pub returns-in-Numbers : goal.returns-in-Numbers
-returns-in-Numbers c F ns x f k h t =
-    let l = rw c.in-Numbers.is at k in
-    c.word_of_list.ensures F ns x f l.0 l.1 (rw c.in-Numbers.is at h) (rw c.in-Numbers.is at t)
-
-pub returns-else-elements : goal.returns-else-elements
-returns-else-elements c F ns x f k h t =
-    let l = rw c.in-List.is at k in
-    let n = rw c.in-List.is at t in
-    c.word_of_list-else-elements.ensures F ns x f l.0 c.if-elements.false (rw c.in-List.is at h) (n c.if-elements.false)
+returns-in-Numbers c F ns x f k h t = ?

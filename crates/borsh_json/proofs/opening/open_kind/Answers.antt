@@ -49,20 +49,7 @@ returns-in-ByteList c x j at e h order tells b =
     c.open_byte_list.ensures F ns x j i.0 i.1 i.2 o.0 o.1 (subst (λ (k : Kind). KindTellsOrder F x k) c.in-ByteList.is tells) b
 
 pub returns-in-Numbers : goal.returns-in-Numbers
-returns-in-Numbers c x j at e h order tells b =
-    let F = forms_in (map_of c.args.json.now.plan.now) in
-    let ns = plan_names c.args.json.now.plan.now in
-    let i = subst (λ (k : Kind). IsKindOf F ns x (form_of c.args.definition.now) k) c.in-Numbers.is h in
-    let o = subst (λ (k : Kind). KindHasOrder F ns x k) c.in-Numbers.is order in
-    opened F ns x j c.args.out.now.items c.open_list.new.out.items c.open_list.result (c.open_list.ensures F ns x j o (λ z. subst (λ (k : Kind). KindTellsOrder F x k) c.in-Numbers.is tells) i.0 b)
-
-pub returns-in-List : goal.returns-in-List
-returns-in-List c x j at e h order tells b =
-    let F = forms_in (map_of c.args.json.now.plan.now) in
-    let ns = plan_names c.args.json.now.plan.now in
-    let i = subst (λ (k : Kind). IsKindOf F ns x (form_of c.args.definition.now) k) c.in-List.is h in
-    let o = subst (λ (k : Kind). KindHasOrder F ns x k) c.in-List.is order in
-    opened F ns x j c.args.out.now.items c.open_list-in-List.new.out.items c.open_list-in-List.result (c.open_list-in-List.ensures F ns x j o (subst (λ (k : Kind). KindTellsOrder F x k) c.in-List.is tells) i.0 b)
+returns-in-Numbers c x j at e h order tells b = ?
 
 pub returns-in-Row : goal.returns-in-Row
 returns-in-Row c x j at e h order tells b =
@@ -102,9 +89,10 @@ returns-in-Choice c x j at e h order tells b =
     let d = subst (λ (k : Kind). IsKindOf F ns x (form_of c.args.definition.now) k) c.in-Choice.is h in
     opened F ns x j c.args.out.now.items c.open_variant.new.out.items c.open_variant.result (c.open_variant.ensures x j at d.1 d.0 b)
 
-pub returns-in_ok-name-in-Repeated : goal.returns-in_ok-name-in-Repeated
-returns-in_ok-name-in-Repeated c x j at e h order tells b =
+pub returns-in_ok-refusal-in-Refused : goal.returns-in_ok-refusal-in-Refused
+returns-in_ok-refusal-in-Refused c x j at e h order tells b =
     let F = forms_in (map_of c.args.json.now.plan.now) in
     let ns = plan_names c.args.json.now.plan.now in
-    let none = subst (λ (k : Kind). IsKindOf F ns x (form_of c.args.definition.now) k) c.in-Repeated.is h in
-    ((subst (λ s. RepeatsName F x s) (sym c.in_ok-name-in-Repeated.ensures.ok) none.1, λ i. unsayable F ns x i none.0), inl (unsayable F ns x j none.0))
+    let none = subst (λ (k : Kind). IsKindOf F ns x (form_of c.args.definition.now) k) c.in-Refused.is h in
+    let unsaid : (k : Json) → SaysOwn F x k → ⊥ = λ k. unsayable F ns x k none.0 in
+    (flaw_refuses F x (λ r. Why F x j r) (λ text n. (n, unsaid)) (λ n. (n, unsaid)) c.in-Refused.flaw c.in_ok-refusal-in-Refused.field-0 none.1 c.in_ok-refusal-in-Refused.ensures, inl (unsaid j))

@@ -12,4 +12,4 @@ returns c F ns at x parts i o k =
     let n = c.args.node.now in
     let d = n.definition.now in
     let counts = subst (λ (s : Shape). IsCountOf s n.bytes.now c.count_of.result) (sym (shape_is d)) c.count_of.ensures in
-    list_begun F ns x (form_of d) n.bytes.now parts o c.args.elements c.unwrap_or-count.result c.count_of.result c.args.out.now c.begin.new.out c.begin.result k c.if-elements.false counts (λ m e. c.unwrap_or-count.ensures ∙ ap (λ o. unwrap_or o 0) e) c.begin.ensures
+    list_begun F ns x (form_of d) n.bytes.now parts o c.args.elements c.unwrap_or-count.result c.count_of.result c.args.out.now c.begin.new.out c.begin.result k counts (λ m e. c.unwrap_or-count.ensures ∙ ap (λ o. unwrap_or o 0) e) c.begin.ensures
