@@ -1,5 +1,5 @@
 -- Bytes whose sets and maps ascend, as the writer goes through them.
-use Rattle.std.proofs.Common.{◌≡◌, inl, inr, ℕ, suc, zero, List, [], ◌∷◌, ◌++◌, length, map, replicate, drop, Bool, false, Option, Some, None, refl, sym, ◌∙◌, ap, subst}
+use Rattle.std.proofs.Common.{◌≡◌, inl, inr, ℕ, suc, zero, List, [], ◌∷◌, ◌++◌, length, map, replicate, drop, Option, Some, None, refl, sym, ◌∙◌, ap, subst}
 use Rattle.std.specs.Prelude.{IfSome, MatchOption, option_map}
 use Rattle.borsh_walks.specs.Container.{Shape, sequence as sequence_shape, product, IsIn, first, later}
 use Rattle.borsh_plan.specs.declared.named.Named.{Named}
@@ -196,16 +196,13 @@ module _ (d : Definitions) (x : List ℕ) (f : Form) (own : List ℕ) (parts : L
         numbers_due o es 0 l.width l.least l.greatest k.0 s.0 (byte_there F x l k.0 k.2) h.0 h.1 (λ q kind g z. t q) (b es refl)
     value_due (Numbers es) o has k h t b c l =
         let l = lengths_of f in
-        let u = k.0 in
         let n = positive es.size k.1 in
-        numbers_due o es n.0 l.width l.least l.greatest u.0 (form_known F (list l u.0) f u.2 there (λ e. cc)) (k.2 u.0 u.1 ∙ ap (λ n. Some (primitive_form n)) n.1) n.1 h (λ q kind g z. t q) (c es refl)
+        numbers_due o es n.0 l.width l.least l.greatest k.0.0 (form_known F (list l k.0.0) f k.0.2 there (λ e. cc)) (k.2 k.0.0 k.0.1 ∙ ap (λ n. Some (primitive_form n)) n.1) n.1 h (λ q kind g z. t q) (c es refl)
     value_due (ListKind es) o has k h t b c l = by o (l es refl)
       where
         by : (o : Option Ordered) → o ≡ es.order → IsDueIn o
         by None q = free_due None (λ kind g z. t (sym q))
-        by (Some found) q =
-            let u = k.0 in
-            elements_due found u.0 u.2 (k.1 u.0 u.1) (subst (λ (o : Option Ordered). HasKeyOrder F ns x o) (sym q) h)
+        by (Some found) q = elements_due found k.0.0 k.0.2 (k.1 k.0.0 k.0.1) (subst (λ (o : Option Ordered). HasKeyOrder F ns x o) (sym q) h)
     value_due (Map es order) o has k h t b c l = other_due o (entries (lengths_of f) k.2 k.0 k.1) k.5 (λ l e q. cc) (λ l e q. cc)
     value_due (RowKind n) o has k h t b c l = absurd has
     value_due (NewtypeKind at) o has k h t b c l = absurd has

@@ -6,7 +6,7 @@ use Rattle.std.specs.Cmp.Lexicographic.{slice_cmp}
 use Rattle.std.specs.declared.cmp.Ordering.{Ordering}
 use Rattle.std.specs.declared.cmp.Ordering.TheVariants.{Less, Equal, Greater}
 use Rattle.std.proofs.Math.Nat.{suc-mul, zero-mul, mul-le-mul_left, mul-le-mul_right}
-use Rattle.borsh_walks.specs.Container.{Member, of_primitive, Members, tag}
+use Rattle.borsh_walks.specs.Container.{of_primitive, tag}
 use Rattle.borsh_walks.specs.Container as shape
 use Rattle.borsh_values.proofs.MemberLaws.{copies_of, same_front}
 use Rattle.borsh_json.specs.Descents.{PrimitivesDescend, HasKeys, HasDescent}

@@ -1,6 +1,6 @@
 -- Whether one primitive isn't below another.
-use Rattle.std.proofs.Common.{◌≡◌, ◌⊎◌, inl, inr, ℕ, suc, zero, ◌<◌, List, [], ◌∷◌, ◌++◌, length, Bool, true, false, Option, Some, refl, sym, ◌∙◌, ap, subst, arith, append-nil}
-use Rattle.std.specs.Prelude.{ℤ, All, Decides}
+use Rattle.std.proofs.Common.{◌≡◌, inl, inr, ℕ, suc, ◌<◌, List, [], ◌∷◌, length, Bool, true, false, Option, Some, refl, sym, ◌∙◌, subst, arith, append-nil}
+use Rattle.std.specs.Prelude.{ℤ, Decides}
 use Rattle.std.specs.Ordering.{int_cmp, is_lt}
 use Rattle.std.specs.Str.{bytes_eq}
 use Rattle.std.proofs.lemmas.Slice.Eq.{bytes_eq-Decides}
@@ -17,7 +17,7 @@ use Rattle.borsh_json.specs.Orders.{FindsOrder, IsOrderOf, DecidesFall}
 use Rattle.borsh_json.specs.Table.{InRange}
 use Rattle.borsh_json.proofs.DescentLaws.{packed_order}
 use Rattle.borsh_json.proofs.FoundLaws.{full_primitive}
-use Rattle.borsh_json.proofs.OrderLaws.{clash, Tells, numbers_tell, other_copy, node_tells, differ_tells}
+use Rattle.borsh_json.proofs.OrderLaws.{Tells, numbers_tell, other_copy, node_tells, differ_tells}
 
 -- a number that was found
 number_of_order : (F : List ℕ → Option Form) (e : List ℕ) (k n : ℕ) (signed : Bool) → HasOrder F e (numbers k signed) → F e ≡ Some (primitive n) → k ≡ n

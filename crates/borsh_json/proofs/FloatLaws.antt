@@ -110,11 +110,6 @@ pub shortest_is : (f : Format) (bs : List ℕ) (bits : ℕ) (v : Float) (r : Opt
 shortest_is f bs bits v None e l p h = (bits, e, l, ap (λ v. is_nan v) (sym p) ∙ h)
 shortest_is f bs bits v (Some s) e l p h = (v, (bits, e, l, sym p, h.0), h.1)
 
--- of four bytes, and of eight
-pub shortest_4 : (f : Format) (bs : List ℕ) (bits : ℕ) (v : Float) (r : Option (Bor (List ℕ))) → length bs ≡ 4 → length bs ≡ float_size f → bs ≡ little_endian 4 bits → bits < 256 ^ 4 → v ≡ from_bits binary32 bits → MatchOption r (is_nan v ≡ true) (λ s. (is_nan v ≡ false) × ReadsBack binary32 v s.now) → MatchOption r (IsNan f bs) (λ s. IsFloatText f bs s.now)
-shortest_4 binary32 bs bits v r n l e b p h = shortest_is binary32 bs bits v r e b p h
-shortest_4 binary64 bs bits v r n l e b p h = absurd (omega (arith, n, l))
-
 pub shortest_8 : (f : Format) (bs : List ℕ) (bits : ℕ) (v : Float) (r : Option (Bor (List ℕ))) → length bs ≡ 8 → length bs ≡ float_size f → bs ≡ little_endian 8 bits → bits < 256 ^ 8 → v ≡ from_bits binary64 bits → MatchOption r (is_nan v ≡ true) (λ s. (is_nan v ≡ false) × ReadsBack binary64 v s.now) → MatchOption r (IsNan f bs) (λ s. IsFloatText f bs s.now)
 shortest_8 binary32 bs bits v r n l e b p h = absurd (omega (arith, n, l))
 shortest_8 binary64 bs bits v r n l e b p h = shortest_is binary64 bs bits v r e b p h

@@ -1,5 +1,5 @@
 -- The kinds of names.
-use Rattle.std.proofs.Common.{◌≡◌, ◌⊎◌, inl, inr, ℕ, suc, zero, ◌<◌, List, [], ◌∷◌, Bool, true, false, Option, Some, None, refl, sym, ◌∙◌, ap, subst, arith, map, length}
+use Rattle.std.proofs.Common.{◌≡◌, ◌⊎◌, inl, inr, ℕ, suc, zero, ◌<◌, List, [], ◌∷◌, Bool, true, false, Option, Some, None, refl, sym, ◌∙◌, ap, subst, arith, map}
 use Rattle.std.specs.Prelude.{◌==◌, ◌&&◌, ◌||◌, if◌then◌else◌, codes, not, option_map, ℤ}
 use Rattle.borsh_walks.specs.Container.{first, zeroed}
 use Rattle.std.specs.Float.{Format, binary32, binary64}
@@ -13,14 +13,13 @@ use Rattle.borsh_json.specs.declared.formats.Collection.{Collection}
 use Rattle.borsh_json.specs.declared.formats.Collection.TheVariants.{List as AList, Set, Map}
 use Rattle.borsh_values.specs.Nodes.{packed_size}
 use Rattle.borsh_json.specs.declared.kinds.Elements.{Elements}
-use Rattle.borsh_json.specs.declared.kinds.Kind.{Kind as Found}
-use Rattle.borsh_json.specs.declared.kinds.Kind.TheVariants.{Number as NumberKind, Bool as Truth, Text, Bytes, Float, ByteList, Numbers, List as ElementList, Map as Entries, Row, Newtype, Object, Optional, Choice, Refused}
+use Rattle.borsh_json.specs.declared.kinds.Kind.TheVariants.{Numbers, List as ElementList}
 use Rattle.borsh_json.specs.declared.numbers.Number.{Number}
 use Rattle.borsh_json.specs.Forms.{Form, primitive, sequence, tuple, choice, named, unnamed, no_fields, HasNoBytes, IsByte, IsOption, IsMap, shape_of_form, shapes}
 use Rattle.borsh_json.specs.Table.{Lengths, IsString, Keys, texts, numbers, Kind, truth, whole, float, float_size, utf8, byte_list, list, fields, variants, optional, entries, inner, DefinedKind, number_types, number_kind, primitive_kind, AreKeys, SequenceKind, a_text, some_bytes, an_object, some_elements, nullable, by_name, HasKind, IsNullable, MayBeNull, without_bytes, an_option, in_newtype, Says, ComesTwice, HasEmptyElements, RepeatsName}
 use Rattle.borsh_json.specs.Ranks.{number_found}
 use Rattle.borsh_json.specs.Places.{IsAt, IsKindOf, IsUnsayable, lengths_of}
-use Rattle.borsh_json.specs.Found.{IsCollection, IsPrimitiveKind}
+use Rattle.borsh_json.specs.Found.{IsCollection}
 use Rattle.borsh_json.proofs.FoundLaws.{full_primitive, full_list, byte_full, zero_part}
 use Rattle.borsh_json.proofs.RepresentsLaws.{byte_or_map, kind_one, map_one}
 
@@ -120,26 +119,6 @@ module _ (F : List ℕ → Option Form) where
 
   -- ---- what each definition is
   module _ (x : List ℕ) (full : HasNoBytes F x → ⊥) where
-    of_primitive : (n : ℕ) (kind : Kind) → F x ≡ Some (primitive n) → kind ≡ primitive_kind x n → HasKind F x kind
-    of_primitive n kind e k = inr (full, primitive n, e, k)
-
-    pub primitive_found : (ns : List Named) (n : ℕ) (found : Found) → F x ≡ Some (primitive n) → IsPrimitiveKind found (primitive_kind x n) → IsKindOf F ns x (primitive n) found
-    primitive_found ns n (NumberKind t) e k = of_primitive n _ e (sym k)
-    primitive_found ns n Truth e k = of_primitive n _ e (sym k)
-    primitive_found ns n Text e k = absurd k
-    primitive_found ns n (Bytes m) e k = of_primitive n _ e (sym k)
-    primitive_found ns n (Float m) e k = (k.0, k.1, of_primitive n _ e (sym k.2))
-    primitive_found ns n (ByteList es) e k = absurd k
-    primitive_found ns n (Numbers es) e k = absurd k
-    primitive_found ns n (ElementList es) e k = absurd k
-    primitive_found ns n (Entries es order) e k = absurd k
-    primitive_found ns n (Row m) e k = absurd k
-    primitive_found ns n (Newtype at) e k = absurd k
-    primitive_found ns n (Object fs) e k = absurd k
-    primitive_found ns n (Optional at) e k = absurd k
-    primitive_found ns n (Choice w vs) e k = absurd k
-    primitive_found ns n (Refused flaw) e k = absurd k
-
     pub fields_kind : (fs : List (List ℕ × List ℕ)) → F x ≡ Some (named fs) → HasKind F x (fields fs)
     fields_kind fs e = inr (full, named fs, e, refl)
 

@@ -1,5 +1,5 @@
 -- Whole numbers below a power of 256, and their bytes.
-use Rattle.std.proofs.Common.{◌≡◌, ℕ, suc, zero, ◌+◌, ◌-◌, ◌*◌, ◌/◌, ◌%◌, ◌<◌, ◌≤◌, ◌^◌, List, [], ◌∷◌, ◌++◌, map, take, min, replicate, inl, inr, Bool, true, false, ltb, MatchBool, refl, sym, ◌∙◌, ap, subst, arith, append_assoc, SFits}
+use Rattle.std.proofs.Common.{◌≡◌, ℕ, suc, zero, ◌+◌, ◌-◌, ◌*◌, ◌/◌, ◌%◌, ◌<◌, ◌≤◌, ◌^◌, List, [], ◌∷◌, ◌++◌, map, take, min, replicate, inl, inr, Bool, true, false, refl, sym, ◌∙◌, ap, subst, arith, append_assoc, SFits}
 use Rattle.std.specs.Prelude.{ℤ, pos, negsuc, neg_ℤ, ◌<ℤ◌, Result, Ok, Err}
 use Rattle.std.specs.Result.{OnOk}
 use Rattle.std.specs.Int.Signed.{lt_z}
@@ -12,8 +12,8 @@ use Rattle.std.specs.Cmp.{nat_cmp_is, int_ranks, Equal-is}
 use Rattle.std.specs.Fmt.{decimal, signed_decimal}
 use Rattle.std.specs.Str.Parse.{signed_digits_value}
 use Rattle.std.proofs.lemmas.Fmt.{decimal_digit, decimal_is_IsNumeral_wide}
-use Rattle.std.proofs.lemmas.Nat.{pow-add, pow_pos, div-add-mod', mod_below, mod-mul-add}
-use Rattle.std.proofs.Math.Nat.{pow-suc, pow-succ', pow-le-pow_right, div-lt_iff_lt-mul, div-div-eq-div-mul}
+use Rattle.std.proofs.lemmas.Nat.{pow-add, pow_pos}
+use Rattle.std.proofs.Math.Nat.{pow-suc, div-lt_iff_lt-mul, div-div-eq-div-mul}
 use Rattle.borsh_walks.specs.Container.{tag, little_endian}
 use Rattle.borsh_json.specs.Table.{InRange, IsWhole}
 use Rattle.borsh_json.specs.Ranks.{rank_of, HasRank}

@@ -1,6 +1,6 @@
 -- The orders of names, as names and definitions tell them.
-use Rattle.std.proofs.Common.{◌≡◌, inl, inr, ℕ, suc, zero, ◌+◌, ◌<◌, ◌≤◌, List, [], ◌∷◌, ◌++◌, length, map, take, get_or, set, Bool, true, false, Option, Some, None, IfSome, String, refl, sym, ◌∙◌, ap, subst, arith, append_assoc}
-use Rattle.std.specs.Prelude.{◌==◌, Decides, codes, reverse, slice_get, string_bytes}
+use Rattle.std.proofs.Common.{◌≡◌, inl, inr, ℕ, suc, zero, ◌+◌, ◌<◌, List, [], ◌∷◌, ◌++◌, length, map, take, get_or, Bool, true, false, Option, Some, None, IfSome, String, refl, sym, ◌∙◌, ap, subst, arith, append_assoc}
+use Rattle.std.specs.Prelude.{◌==◌, codes, slice_get, string_bytes}
 use Rattle.std.specs.Global.{Global}
 use Rattle.borsh_plan.specs.declared.named.Named.{Named}
 use Rattle.borsh_json.specs.declared.order.Ordered.{Ordered}
@@ -34,10 +34,6 @@ listed_more ps i p text rest last g e q = e ∙ ap (λ r. following (take i ps) 
 pub same_count : (ps : List (String Global)) → length (map (λ p. string_bytes p) ps) ≡ length ps
 same_count [] = refl
 same_count (p ∷ ps) = ap (λ n. suc n) (same_count ps)
-
-pub no_parts : (ps : List (String Global)) (name : List ℕ) → length ps ≡ 0 → name ≡ codes "()" → name ≡ tuple_name (map (λ p. string_bytes p) ps)
-no_parts [] name e n = n
-no_parts (p ∷ ps) name e n = absurd (omega (arith, e))
 
 pub tuple_named : (ps others : List (String Global)) (p : String Global) (head name rest last : List ℕ) → ps ≡ p ∷ others → (length others == 0) ≡ false → head ≡ string_bytes p → name ≡ 40 ∷ ((head ++ []) ++ rest) → rest ≡ following (map (λ p. string_bytes p) others) ++ last → last ≡ codes ")" → name ≡ tuple_name (map (λ p. string_bytes p) ps)
 tuple_named ps [] p head name rest last e t f n r l = let g : (0 == 0) ≡ true = refl in cc

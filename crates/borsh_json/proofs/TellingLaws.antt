@@ -1,5 +1,5 @@
 -- What is told of the names of a plan, as it is written.
-use Rattle.std.proofs.Common.{◌≡◌, ℕ, zero, suc, ◌+◌, ◌<◌, ◌≤◌, List, [], ◌∷◌, ◌++◌, length, take, map, Option, Some, None, Bool, true, false, All, inl, inr, refl, sym, ◌∙◌, ap, subst, arith, append_assoc}
+use Rattle.std.proofs.Common.{◌≡◌, ℕ, zero, suc, ◌+◌, ◌<◌, ◌≤◌, List, [], ◌∷◌, ◌++◌, length, take, map, Option, Some, Bool, true, false, All, inl, inr, refl, sym, ◌∙◌, ap, subst, arith, append_assoc}
 use mathlib.Core.Bool.{not}
 use Rattle.std.specs.Prelude.{if◌then◌else◌, MatchBool, Decides, codes, option_and_then, option_map, slice_get}
 use Rattle.std.proofs.Math.Seq.{take-length}
@@ -22,7 +22,7 @@ use Rattle.borsh_json.specs.declared.order.Ordered.TheVariants.{Single, Number, 
 use Rattle.borsh_json.specs.Forms.{Form, HasNoBytes}
 use Rattle.borsh_json.specs.Names.{HasOtherKeys, HasToldKeys, IsListWord, IsWord, TellsNames, word_members}
 use Rattle.borsh_json.specs.Ordered.{Order, other, HasOrder}
-use Rattle.borsh_json.specs.Orders.{HasKeyOrder, IsOrderOf, KeysAscend, TellsNoOrder}
+use Rattle.borsh_json.specs.Orders.{HasKeyOrder, IsOrderOf, KeysAscend}
 use Rattle.borsh_json.specs.Places.{IsAt, IsKindOf, IsListOf, lengths_of}
 use Rattle.borsh_json.specs.Table.{no_bytes, byte_list, list}
 use Rattle.borsh_json.proofs.InOrderLaws.{keys_one}

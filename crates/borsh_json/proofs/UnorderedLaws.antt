@@ -4,7 +4,7 @@ use Rattle.std.specs.Prelude.{◌==◌, ⊤, ℤ, Decides, MatchBool, codes, sli
 use Rattle.std.specs.Global.{Global}
 use Rattle.borsh_walks.specs.declared.definition.Fields.{Fields}
 use Rattle.borsh_walks.specs.declared.definition.Fields.TheVariants.{NamedFields, UnnamedFields, Empty}
-use Rattle.borsh_json.specs.Forms.{Form, primitive, sequence, tuple, choice, named, unnamed, no_fields, form_of_struct, HasNoBytes, IsOption}
+use Rattle.borsh_json.specs.Forms.{Form, primitive, sequence, tuple, choice, named, unnamed, no_fields, form_of_struct, IsOption}
 use Rattle.borsh_json.proofs.FoundLaws.{inner}
 use Rattle.borsh_walks.specs.TupleNames.{following, tuple_name}
 use Rattle.borsh_json.specs.Ordered.{Order, single, numbers, text, array, list, parts, other, AreNumbers, IsSequenceName, IsTreeMapName, IsListName, OrdersBytes}

@@ -56,7 +56,7 @@ use Rattle.borsh_json.specs.InOrder.{Step, place, element}
 use Rattle.borsh_json.specs.Inside.{IsInside}
 use Rattle.borsh_json.specs.NoJson.{HasNoJsonPart, IsOutOfOrder, RefusesBytes, RefusesOwn}
 use Rattle.borsh_json.specs.Orders.{HasKeyOrder, KindHasOrder, OrderedBy, IsNotBelow}
-use Rattle.borsh_json.specs.Leaves.{Holds, Adds, IsOpenedAs, WritesLeaf, RefusesKey, RefusesValue, long_of}
+use Rattle.borsh_json.specs.Leaves.{Adds, IsOpenedAs, WritesLeaf, RefusesKey, RefusesValue, long_of}
 use Rattle.borsh_json.specs.Places.{IsAt, AreKeysOf, IsKindOf, lengths_of}
 use Rattle.borsh_json.specs.Represents.{SaysFirst}
 use Rattle.borsh_json.specs.Table.{Keys, Kind, no_bytes, whole, utf8, HasKind, key_order, key_json}

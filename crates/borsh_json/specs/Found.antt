@@ -1,5 +1,5 @@
 -- What the code finds of the definition of a name, against the format's own types and the table.
-use Rattle.std.specs.Prelude.{◌≡◌, ◌⊎◌, ℕ, List, [], ◌∷◌, ◌++◌, codes, MatchOption, Option, None, Some}
+use Rattle.std.specs.Prelude.{◌≡◌, ◌⊎◌, ℕ, List, [], ◌∷◌, ◌++◌, codes, MatchOption, Option, Some}
 use Rattle.std.specs.Borrow.{Bor}
 use Rattle.std.specs.Float.{Format}
 use Rattle.std.specs.List.{IsDistinct}

@@ -1,5 +1,5 @@
 -- What is told of the names of a plan: each with a word for how its values are written.
-use Rattle.std.specs.Prelude.{◌≡◌, ◌⊎◌, ℕ, List, [], ◌∷◌, ◌++◌, map, All, if◌then◌else◌, codes, false, Option, Some}
+use Rattle.std.specs.Prelude.{◌≡◌, ◌⊎◌, ℕ, List, [], ◌∷◌, ◌++◌, map, All, if◌then◌else◌, codes, Option, Some}
 use Rattle.json.specs.Json.{Members, no_members, member, string, object, document}
 use Rattle.borsh_plan.specs.declared.named.Named.{Named}
 use Rattle.borsh_json.specs.declared.kinds.Elements.{Elements}

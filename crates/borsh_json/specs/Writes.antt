@@ -1,8 +1,6 @@
 -- What was written of a value, and the JSON that may still follow: the invariant of the writer's loop.
-use Rattle.std.specs.Prelude.{◌≡◌, ◌⊎◌, ⊤, ℕ, suc, ◌+◌, ◌<◌, ◌≤◌, List, [], ◌∷◌, ◌++◌, length, map, replicate, drop, Bool, true, false, Decides, Option, Some, None, Result, MatchResult, MatchOption, IfSome, option_map, MatchBool}
-use Rattle.std.specs.declared.cmp.Ordering.{Ordering as Comparison}
+use Rattle.std.specs.Prelude.{◌≡◌, ◌⊎◌, ⊤, ℕ, suc, ◌+◌, ◌<◌, ◌≤◌, List, [], ◌∷◌, ◌++◌, length, map, replicate, drop, Bool, true, false, Option, Some, None, Result, MatchResult, MatchOption, IfSome, option_map, MatchBool}
 use Rattle.std.specs.declared.cmp.Ordering.TheVariants.{Less}
-use Rattle.std.specs.Borrow.{Bor}
 use Rattle.json.specs.Token.{Token}
 use Rattle.json.specs.Json.{Json, null, Items, Members, no_members, member}
 use Rattle.json.specs.Tree.{json_tokens, items_tokens, members_tokens, depth, items_depth, members_depth, HasNumbers, ItemsHaveNumbers, MembersHaveNumbers}
@@ -44,7 +42,7 @@ use Rattle.borsh_json.specs.Frames.{Wanted, IsWanted, IsEntryKey, IsOf, IsPath, 
 use Rattle.borsh_json.specs.Found.{forms_of, names_of}
 use Rattle.borsh_json.specs.Places.{IsAt, AreKeysOf, IsKindOf}
 use Rattle.borsh_json.specs.Orders.{HasKeyOrder, KindHasOrder, IsNotBelow, OrderedBy}
-use Rattle.borsh_json.specs.Represents.{SaysFirst, HaveBytes}
+use Rattle.borsh_json.specs.Represents.{SaysFirst}
 use Rattle.borsh_json.specs.InOrder.{Step, place, element, InOrder}
 use Rattle.borsh_json.specs.Inside.{LeadTo}
 use Rattle.borsh_json.specs.Leaves.{Holds, Adds, IsOpenedAs, RefusesValue, WritesLeaf, long_of, AreWritten}

@@ -1,4 +1,4 @@
-use Rattle.std.proofs.Common.{◌∙◌, Some, refl, map, string_bytes, sym, ap, subst}
+use Rattle.std.proofs.Common.{◌∙◌, Some, map, sym, ap, subst}
 use Rattle.std.specs.Str.{bytes_eq}
 use Rattle.std.specs.List.{IsDistinct}
 use Rattle.std.proofs.lemmas.Simd.{map-map}

@@ -1,4 +1,4 @@
-use Rattle.std.proofs.Common.{◌≡◌, refl, subst, true, false}
+use Rattle.std.proofs.Common.{refl, subst, true, false}
 use Rattle.std.specs.Prelude.{MatchBool}
 use Rattle.borsh_json.specs.Names.{HasOtherKeys, HasToldKeys}
 use Rattle.borsh_json.proofs.TellingLaws.{list_word}

@@ -1,4 +1,4 @@
-use Rattle.std.proofs.Common.{◌≤◌, ◌-◌, ℕ, List, map, drop, length, string_bytes}
+use Rattle.std.proofs.Common.{◌≤◌, ◌-◌, ℕ, List, map, drop, length}
 use Rattle.std.specs.Prelude.{ℤ}
 use Rattle.borsh_json.specs.Forms.{variant_bytes}
 use Rattle.borsh_json.specs.Table.{IsVariant}

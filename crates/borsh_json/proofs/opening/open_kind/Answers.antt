@@ -5,7 +5,7 @@ use Rattle.borsh_json.specs.declared.position.Parts.TheVariants.{Newtype}
 use Rattle.borsh_json.specs.Forms.{form_of, forms_in}
 use Rattle.borsh_json.specs.Orders.{KindHasOrder, KindTellsOrder}
 use Rattle.borsh_json.specs.Places.{IsKindOf}
-use Rattle.borsh_json.specs.Table.{inner, RepeatsName}
+use Rattle.borsh_json.specs.Table.{inner}
 use Rattle.borsh_json.proofs.OpeningLaws.{opened, unmoved, only_found}
 use Rattle.borsh_json.proofs.PartsLaws.{unsayable}
 use Rattle.borsh_json.proofs.opening.open_kind.Goals as goal
