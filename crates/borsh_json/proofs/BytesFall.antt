@@ -48,10 +48,8 @@ if_ok (Ok a) p = p
 if_ok (Err e) p = tt
 
 pub adds_or : {A : Type 0} (es : Elements) (l : Lengths) (bs old new : List ℕ) (r : Result A ReadError) → AddsList l bs old new r → AddsOrFalls es l bs old new r
-adds_or es l bs old new (Ok a) h = h
-adds_or es l bs old new (Err OutOfMemory) h = h
-adds_or es l bs old new (Err (Refused r)) h = h
 adds_or es l bs old new (Err (DescendsAt i)) h = absurd h
+adds_or es l bs old new e h = h
 
 -- ---- bytes
 -- a byte is ordered as a number without a sign

@@ -144,17 +144,9 @@ no_float f (array js) n s = refl
 no_float f (object ms) n s = refl
 
 pub number_float : (f : Format) (j : Json) (s : List ℕ) → as_number j ≡ Some s → float_of f j ≡ parse_float f s
-number_float f null s e = cc
-number_float f (boolean b) s e = cc
 number_float f (number t) s e = (let q : t ≡ s = cc in ap (λ t. parse_float f t) q)
-number_float f (string t) s e = cc
-number_float f (array js) s e = cc
-number_float f (object ms) s e = cc
+number_float f json s e = cc
 
 pub word_float : (f : Format) (j : Json) (s : List ℕ) → as_str j ≡ Some s → float_of f j ≡ infinity_of s
-word_float f null s e = cc
-word_float f (boolean b) s e = cc
-word_float f (number t) s e = cc
 word_float f (string t) s e = (let q : t ≡ s = cc in ap (λ t. infinity_of t) q)
-word_float f (array js) s e = cc
-word_float f (object ms) s e = cc
+word_float f json s e = cc

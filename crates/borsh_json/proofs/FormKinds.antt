@@ -23,10 +23,6 @@ module _ (F : List ℕ → Option Form) where
   -- the definition is one of a name of this kind that has bytes
   abbrev pub IsFormOf : List ℕ → Kind → Form → Type 0
   IsFormOf x no_bytes d = ⊥
-  IsFormOf x truth d = ⊤
-  IsFormOf x (whole n signed non_zero) d = ⊤
-  IsFormOf x (float g) d = ⊤
-  IsFormOf x (raw n) d = ⊤
   IsFormOf x (utf8 l) d = (e : List ℕ) × IsSequence l e d
   IsFormOf x (byte_list l e) d = IsSequence l e d × IsByte F e
   IsFormOf x (list l e) d = IsSequence l e d
@@ -36,6 +32,7 @@ module _ (F : List ℕ → Option Form) where
   IsFormOf x (optional p) d = IsNullable F x p
   IsFormOf x (variants w vs) d = d ≡ choice w vs
   IsFormOf x (entries l keys k v) d = (e : List ℕ) × IsSequence l e d × (F e ≡ Some (tuple (k ∷ v ∷ []))) × AreKeys F k keys
+  IsFormOf x kind d = ⊤
 
   formed_if : (x : List ℕ) (d : Form) (b : Bool) (k l : Kind) → IsFormOf x k d → IsFormOf x l d → IsFormOf x (if b then k else l) d
   formed_if x d true k l p q = p

@@ -215,55 +215,26 @@ module _ (F : List ℕ → Option Form) (x own : List ℕ) (old new : Output) (n
 -- ---- definitions by what was found of them
 -- the kinds of primitives
 abbrev pub IsBare : Kind → Type 0
-IsBare no_bytes = ⊥
 IsBare truth = ⊤
 IsBare (whole n signed non_zero) = ⊤
 IsBare (float g) = ⊤
 IsBare (raw n) = ⊤
-IsBare (utf8 l) = ⊥
-IsBare (byte_list l e) = ⊥
-IsBare (list l e) = ⊥
-IsBare (row xs) = ⊥
-IsBare (inner x) = ⊥
-IsBare (fields fs) = ⊥
-IsBare (optional x) = ⊥
-IsBare (variants w vs) = ⊥
-IsBare (entries l keys k v) = ⊥
+IsBare kind = ⊥
 
 pub bare : (kind : Found) (k : Kind) → IsPrimitiveKind kind k → IsBare k
 bare (Number n) k e = subst IsBare (sym e) tt
 bare Truth k e = subst IsBare (sym e) tt
-bare Text k e = absurd e
 bare (Bytes n) k e = subst IsBare (sym e) tt
 bare (Float n) k e = subst IsBare (sym e.2) tt
-bare (ByteList es) k e = absurd e
-bare (Numbers es) k e = absurd e
-bare (ElementList es) k e = absurd e
-bare (Entries es order) k e = absurd e
-bare (Row n) k e = absurd e
-bare (Newtype at) k e = absurd e
-bare (Object fs) k e = absurd e
-bare (Optional at) k e = absurd e
-bare (Choice w vs) k e = absurd e
-bare (Refused flaw) k e = absurd e
+bare kind k e = absurd e
 
 -- the other kinds of primitives than numbers, `bool` and floats
 pub raw_kind : (kind : Found) (k : Kind) → IsPrimitiveKind kind k → ((n : NumberOf) → kind ≡ Number n → ⊥) → (kind ≡ Truth → ⊥) → ((n : ℕ) → kind ≡ Float n → ⊥) → (n : ℕ) × (k ≡ raw n)
 raw_kind (Number n) k e f g h = absurd (f n refl)
 raw_kind Truth k e f g h = absurd (g refl)
-raw_kind Text k e f g h = absurd e
 raw_kind (Bytes n) k e f g h = (n, e)
 raw_kind (Float n) k e f g h = absurd (h n refl)
-raw_kind (ByteList es) k e f g h = absurd e
-raw_kind (Numbers es) k e f g h = absurd e
-raw_kind (ElementList es) k e f g h = absurd e
-raw_kind (Entries es order) k e f g h = absurd e
-raw_kind (Row n) k e f g h = absurd e
-raw_kind (Newtype at) k e f g h = absurd e
-raw_kind (Object fs) k e f g h = absurd e
-raw_kind (Optional at) k e f g h = absurd e
-raw_kind (Choice w vs) k e f g h = absurd e
-raw_kind (Refused flaw) k e f g h = absurd e
+raw_kind kind k e f g h = absurd e
 
 module _ (F : List ℕ → Option Form) (ns : List Named) (x : List ℕ) where
   -- the definition tells the kind
@@ -278,19 +249,9 @@ module _ (F : List ℕ → Option Form) (ns : List Named) (x : List ℕ) where
   pub found_kind : (f : Form) (kind : Found) (k : Kind) → IsPrimitiveKind kind k → IsKindOf F ns x f kind → HasKind F x k
   found_kind f (Number n) k e h = subst (λ k. HasKind F x k) (sym e) h
   found_kind f Truth k e h = subst (λ k. HasKind F x k) (sym e) h
-  found_kind f Text k e h = absurd e
   found_kind f (Bytes n) k e h = subst (λ k. HasKind F x k) (sym e) h
   found_kind f (Float n) k e h = subst (λ k. HasKind F x k) (ap (λ g. float g) (format_one n h.0 e.0 h.1 e.1) ∙ sym e.2) h.2
-  found_kind f (ByteList es) k e h = absurd e
-  found_kind f (Numbers es) k e h = absurd e
-  found_kind f (ElementList es) k e h = absurd e
-  found_kind f (Entries es order) k e h = absurd e
-  found_kind f (Row n) k e h = absurd e
-  found_kind f (Newtype at) k e h = absurd e
-  found_kind f (Object fs) k e h = absurd e
-  found_kind f (Optional at) k e h = absurd e
-  found_kind f (Choice w vs) k e h = absurd e
-  found_kind f (Refused flaw) k e h = absurd e
+  found_kind f kind k e h = absurd e
 
   bare_form : (k : Kind) (f : Form) (own : List ℕ) (parts : List (List ℕ)) → DefinedKind F x f k → IsBare k → Opens (shapes F) (shape_of_form f) own parts → (parts ≡ []) × HasSize k (length own)
   bare_form k (primitive n) own parts d b o = (o.2, subst (λ (k : Kind). HasSize k (length own)) (sym d) (subst (λ m. HasSize (primitive_kind x n) m) (sym o.0) (primitive_sized x n)))

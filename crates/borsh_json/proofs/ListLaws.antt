@@ -53,13 +53,8 @@ abbrev pub TellsCount : Lengths → Type 0
 TellsCount l = ((l.width ≡ 0) × (l.least ≡ l.greatest)) ⊎ ((l.width ≤ 8) × (l.greatest < 256 ^ l.width))
 
 pub tells_count : (f : Form) → IsCounted (shape_of_form f) → TellsCount (lengths_of f)
-tells_count (primitive n) c = inr (omega arith, omega arith)
 tells_count (sequence w lo hi e) c = c
-tells_count (tuple ps) c = inr (omega arith, omega arith)
-tells_count (choice w vs) c = inr (omega arith, omega arith)
-tells_count (named fs) c = inr (omega arith, omega arith)
-tells_count (unnamed ps) c = inr (omega arith, omega arith)
-tells_count no_fields c = inr (omega arith, omega arith)
+tells_count kind c = inr (omega arith, omega arith)
 
 count_one : (l : Lengths) (k m : ℕ) → TellsCount l → l.least ≤ k → k ≤ l.greatest → l.least ≤ m → m ≤ l.greatest → tag l.width (pos k) ≡ tag l.width (pos m) → k ≡ m
 count_one l k m (inl c) a b p q e = let s = c.1 in omega (arith, s, a, b, p, q)
@@ -80,54 +75,24 @@ listed_one l k m own es ts bs cs a c p q r s d f e =
 
 -- ---- definitions of texts and lists
 abbrev pub IsListKind : Kind → Type 0
-IsListKind no_bytes = ⊥
-IsListKind truth = ⊥
-IsListKind (whole n signed non_zero) = ⊥
-IsListKind (float g) = ⊥
-IsListKind (raw n) = ⊥
 IsListKind (utf8 l) = ⊤
 IsListKind (byte_list l e) = ⊤
 IsListKind (list l e) = ⊤
-IsListKind (row xs) = ⊥
-IsListKind (inner x) = ⊥
-IsListKind (fields fs) = ⊥
-IsListKind (optional x) = ⊥
-IsListKind (variants w vs) = ⊥
-IsListKind (entries l keys k v) = ⊥
+IsListKind kind = ⊥
 
 pub no_size : (k : Kind) (n : ℕ) → HasSize k n → IsListKind k → ⊥
-no_size no_bytes n h i = i
-no_size truth n h i = i
-no_size (whole m signed non_zero) n h i = i
-no_size (float g) n h i = i
-no_size (raw m) n h i = i
 no_size (utf8 l) n h i = h
 no_size (byte_list l e) n h i = h
 no_size (list l e) n h i = h
-no_size (row xs) n h i = i
-no_size (inner x) n h i = i
-no_size (fields fs) n h i = i
-no_size (optional x) n h i = i
-no_size (variants w vs) n h i = i
-no_size (entries l keys k v) n h i = i
+no_size kind n h i = i
 
 module _ (F : List ℕ → Option Form) (x own es : List ℕ) (parts : List (List ℕ)) where
   -- the elements of the kind have this name
   abbrev pub HasElements : Kind → List ℕ → Type 0
-  HasElements no_bytes e = ⊥
-  HasElements truth e = ⊥
-  HasElements (whole n signed non_zero) e = ⊥
-  HasElements (float g) e = ⊥
-  HasElements (raw n) e = ⊥
   HasElements (utf8 l) e = IsByte F e
   HasElements (byte_list l d) e = IsByte F e
   HasElements (list l d) e = d ≡ e
-  HasElements (row xs) e = ⊥
-  HasElements (inner y) e = ⊥
-  HasElements (fields fs) e = ⊥
-  HasElements (optional y) e = ⊥
-  HasElements (variants w vs) e = ⊥
-  HasElements (entries l keys k v) e = ⊥
+  HasElements kind e = ⊥
 
   listed : (w lo hi : ℕ) (e : List ℕ) (n : ℕ) → F e ≡ Some (primitive (suc n)) → Opens (shapes F) (shape.sequence w lo hi e) own parts → es ≡ drop w own → (parts ≡ []) × IsListed (lengths_of (sequence w lo hi e)) own es (suc n)
   listed w lo hi e n q o t =
@@ -186,20 +151,11 @@ items_more : (F : List ℕ → Option Form) (e : List ℕ) (k : Kind) (size : �
 items_more F e k size h l j a qs s = sized k l (subst (λ k. Says F k j a qs) (kind_one F s.1 h) s.2)
   where
     sized : (k : Kind) → HasSize k size → Says F k j a qs → (length a ≡ size) × (qs ≡ [])
-    sized no_bytes l s = absurd l
     sized truth l s = (ap (λ l. length l) s.2 ∙ sym l, s.3)
     sized (whole n signed non_zero) l s = let w = s.2 in (ap (λ l. length l) w.2 ∙ tag_length n w.0 ∙ sym l.0, s.3)
     sized (float g) l s = (float_length g s.0 a s.2 ∙ sym l, s.3)
     sized (raw n) l s = (s.1 ∙ sym l, s.2)
-    sized (utf8 m) l s = absurd l
-    sized (byte_list m d) l s = absurd l
-    sized (list m d) l s = absurd l
-    sized (row xs) l s = absurd l
-    sized (inner y) l s = absurd l
-    sized (fields fs) l s = absurd l
-    sized (optional y) l s = absurd l
-    sized (variants w vs) l s = absurd l
-    sized (entries m keys d v) l s = absurd l
+    sized kind l s = absurd l
 
 -- these bytes are elements, so many of all; behind what was written any items that may follow make an array
 pub record IsArrayWith (F : List ℕ → Option Form) (long : LongNumbers) (e done : List ℕ) (n : ℕ) (written : List Token) (js : Items) : Type 0 where

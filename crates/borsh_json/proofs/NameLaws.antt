@@ -196,14 +196,8 @@ module _ (F : List ℕ → Option Form) where
   packed_primitive e n m p h = there (F e) p
     where
       there : (o : Option Form) → n ≡ packed_size (option_map shape_of_form o) → o ≡ Some (primitive n)
-      there None q = cc
       there (Some (primitive k)) q = ap (λ k. Some (primitive k)) (sym q)
-      there (Some (sequence w lo hi y)) q = cc
-      there (Some (tuple ps)) q = cc
-      there (Some (choice w vs)) q = cc
-      there (Some (named fs)) q = cc
-      there (Some (unnamed ps)) q = cc
-      there (Some no_fields) q = cc
+      there form q = cc
 
   pub numbers_found : (ns : List Named) (x : List ℕ) (f : Form) (e : List ℕ) (es : Elements) → IsAt ns es.at e → HasKind F x (list (lengths_of f) e) → (n : ℕ) → es.size ≡ suc n → es.size ≡ packed_size (shapes F e) → IsKindOf F ns x f (Numbers es)
   numbers_found ns x f e es i h n s p =

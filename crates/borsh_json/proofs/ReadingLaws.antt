@@ -358,19 +358,13 @@ module _ (F : List ℕ → Option Form) (ns : List Named) (root : List ℕ) (j :
 
   module _ (path : List Step) (before x : List ℕ) (i : Json) (n : ℕ) (at : IsReached F root j n path before (x, i)) where
     failed : (r : Refusal) → Why F x i r → FailsHere F x i → IsUnreadable r × FailsAt F root j path r × SaysNothing F root j r
-    failed TooDeep w d = absurd w
     failed (RepeatedName name) w d = (tt, (n, before, x, i, at, w, d), reached_none F root j at (fails_none F ns x i d))
     failed EmptyElements w d = (tt, (n, before, x, i, at, w, d), reached_none F root j at (fails_none F ns x i d))
-    failed NotBool w d = absurd w
-    failed NotUtf8 w d = absurd w
-    failed Zero w d = absurd w
-    failed NotNumber w d = absurd w
-    failed Descends w d = absurd w
     failed (Expected wanted) w d = (tt, (n, before, x, i, at, w, d), reached_none F root j at (fails_none F ns x i d))
-    failed MissingField w d = absurd w
     failed (UnknownName name) w d = (tt, (n, before, x, i, at, w, d), reached_none F root j at (fails_none F ns x i d))
     failed (RepeatedKey name) w d = (tt, (n, before, x, i, at, w, d), reached_none F root j at (fails_none F ns x i d))
     failed (Undefined name) w d = (tt, (n, before, x, i, at, w, d), reached_none F root j at (fails_none F ns x i d))
+    failed refusal w d = absurd w
 
     -- a part that isn't read
     pub part_unread : (e : ReadError) (p : PartError) (base : List ℕ) → base ≡ root → IsOfRead e p → HasPath base (error_steps path e) p → ShowsOr (DigitsFall F x i) (Why F x i) e (FailsHere F x i) → IsUnread F root j p

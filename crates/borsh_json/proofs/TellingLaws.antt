@@ -78,13 +78,11 @@ module _ (F : List ℕ → Option Form) (ns : List Named) where
   told_keys x k found n h = (h.0, k, h.1, λ o. by found n (subst (λ (o : Order). IsOrderOf F ns k found o) (order_one F k h.2.0 other h.2.1 o) h.2.2))
     where
       by : (found : Ordered) → ((at : ℕ) → found ≡ Other at → ⊥) → IsOrderOf F ns k found other → ⊥
-      by Single n i = cc
-      by (Number m s) n i = cc
-      by Text n i = cc
       by (Array m at) n i = let q = i.2 in cc
       by (Counted w at) n i = let q = i.2 in cc
       by (Tuple at m) n i = let q = i.4 in cc
       by (Other at) n i = n at refl
+      by found n i = cc
 
   other_keys : (x k : List ℕ) (at : ℕ) → KeysAscend F ns x k (Other at) → HasOtherKeys F x
   other_keys x k at h e j keys = subst (λ k. HasOrder F k other) (keys_one F x h.0 e k j h.1 keys) (subst (λ (o : Order). HasOrder F k o) h.2.2.1 h.2.1)

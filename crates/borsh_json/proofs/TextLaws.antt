@@ -21,18 +21,7 @@ there (Some a) s = (a, refl)
 
 refusal_reason : (root text : List ℕ) (path : Path) (r : Refusal) → IsSome (document text) → IsUnreadable r → IsTextRefusal root text path r
 refusal_reason root text path TooDeep s u = inl s
-refusal_reason root text path (RepeatedName n) s u = (s, u)
-refusal_reason root text path EmptyElements s u = (s, u)
-refusal_reason root text path NotBool s u = (s, u)
-refusal_reason root text path NotUtf8 s u = (s, u)
-refusal_reason root text path Zero s u = (s, u)
-refusal_reason root text path NotNumber s u = (s, u)
-refusal_reason root text path Descends s u = (s, u)
-refusal_reason root text path (Expected w) s u = (s, u)
-refusal_reason root text path MissingField s u = (s, u)
-refusal_reason root text path (UnknownName n) s u = (s, u)
-refusal_reason root text path (RepeatedKey n) s u = (s, u)
-refusal_reason root text path (Undefined n) s u = (s, u)
+refusal_reason root text path refusal s u = (s, u)
 
 -- a part's error, of a text that is JSON
 module _ (F : List ℕ → Option Form) (C : List ℕ → Option Shape) (root text : List ℕ) (j : Json) (d : document text ≡ Some j) where

@@ -13,13 +13,10 @@ use Rattle.borsh_json.proofs.OrderLaws.{clash}
 
 -- the definition is of a struct
 abbrev pub IsOfStruct : Form → Type 0
-IsOfStruct (primitive n) = ⊥
-IsOfStruct (sequence w lo hi e) = ⊥
-IsOfStruct (tuple ps) = ⊥
-IsOfStruct (choice w vs) = ⊥
 IsOfStruct (named fs) = ⊤
 IsOfStruct (unnamed ps) = ⊤
 IsOfStruct no_fields = ⊤
+IsOfStruct form = ⊥
 
 -- that of a struct is
 pub struct_form : (fs : Fields) → IsOfStruct (form_of_struct fs)

@@ -107,18 +107,8 @@ module _ (d : Definitions) (old new : Walker) (at : ℕ) (x : List ℕ) (i : IsA
 module _ (F : List ℕ → Option Form) (root bytes : List ℕ) where
   refuses_bytes : (path : List Step) (r : Refusal) → HasNoJsonPart F root bytes path r → RefusesBytes F root bytes path r
   refuses_bytes path TooDeep h = about_some F root bytes path _ TooDeep (λ x m. absurd m) h
-  refuses_bytes path (RepeatedName name) h = h
-  refuses_bytes path EmptyElements h = h
-  refuses_bytes path NotBool h = h
-  refuses_bytes path NotUtf8 h = h
-  refuses_bytes path Zero h = h
-  refuses_bytes path NotNumber h = h
   refuses_bytes path Descends h = about_some F root bytes path _ Descends (λ x m. absurd m) h
-  refuses_bytes path (Expected wanted) h = h
-  refuses_bytes path MissingField h = h
-  refuses_bytes path (UnknownName name) h = h
-  refuses_bytes path (RepeatedKey name) h = h
-  refuses_bytes path (Undefined name) h = h
+  refuses_bytes path refusal h = h
 
   module _ (at : List ℕ) (same : at ≡ root) where
     stops_as : (steps : List Step) (r : Refusal) (e : PartError) → IsOf r e → HasPath at steps e → RefusesBytes F root bytes steps r → Stops F root bytes (error_of e)
@@ -190,21 +180,8 @@ still_rest F ns p q r a b c h =
 
 -- ---- room
 pub leaf_room : (kind : Found) (n l : ℕ) → n + l ≡ 128 → ((es : FoundElements) → kind ≡ Numbers es → l < 128) → leaf_depth kind ≤ n
-leaf_room (Number m) n l e g = omega arith
-leaf_room Truth n l e g = omega arith
-leaf_room Text n l e g = omega arith
-leaf_room (Bytes m) n l e g = omega arith
-leaf_room (Float m) n l e g = omega arith
-leaf_room (ByteList es) n l e g = omega arith
 leaf_room (Numbers es) n l e g = (let h = g es refl in omega (arith, e, h))
-leaf_room (ListKind es) n l e g = omega arith
-leaf_room (Map es order) n l e g = omega arith
-leaf_room (RowKind m) n l e g = omega arith
-leaf_room (NewtypeKind at) n l e g = omega arith
-leaf_room (ObjectKind fs) n l e g = omega arith
-leaf_room (Optional at) n l e g = omega arith
-leaf_room (Choice m vs) n l e g = omega arith
-leaf_room (RefusedKind flaw) n l e g = omega arith
+leaf_room kind n l e g = omega arith
 
 abbrev pub IsPlaceBegun : (List ℕ → Option Form) → List Named → List ℕ → Form → List ℕ → Output → Output → Place → Type 0
 IsPlaceBegun F ns x f own old new q = (r : Rest) × IsRest F ns q r × WritesFront F x own r old new × Opens (shapes F) (shape_of_form f) own (names_of_rest r) × AreCalled f own q.parts (names_of_rest r)

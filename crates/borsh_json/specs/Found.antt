@@ -50,19 +50,9 @@ joined (p ∷ ps) = p.now ++ joined ps
 abbrev pub IsPrimitiveKind : Found → Kind → Type 0
 IsPrimitiveKind (Number n) kind = kind ≡ whole n.size n.is_signed n.is_non_zero
 IsPrimitiveKind Truth kind = kind ≡ truth
-IsPrimitiveKind Text kind = ⊥
 IsPrimitiveKind (Bytes n) kind = kind ≡ raw n
 IsPrimitiveKind (Float n) kind = (g : Format) × (n ≡ float_size g) × (kind ≡ float g)
-IsPrimitiveKind (ByteList es) kind = ⊥
-IsPrimitiveKind (Numbers es) kind = ⊥
-IsPrimitiveKind (ElementList es) kind = ⊥
-IsPrimitiveKind (Entries es order) kind = ⊥
-IsPrimitiveKind (Row n) kind = ⊥
-IsPrimitiveKind (Newtype at) kind = ⊥
-IsPrimitiveKind (Object fs) kind = ⊥
-IsPrimitiveKind (Optional at) kind = ⊥
-IsPrimitiveKind (Choice w vs) kind = ⊥
-IsPrimitiveKind (Refused flaw) kind = ⊥
+IsPrimitiveKind found kind = ⊥
 
 -- a name that comes twice, if one does
 abbrev pub IsRepeated : List (List ℕ) → Option (Bor (List ℕ)) → Type 0

@@ -121,39 +121,16 @@ MayFollowFirst x n rs ts ps =
 
 -- the kinds of values that have own bytes
 abbrev pub HasNode : Found → Type 0
-HasNode (Number n) = ⊤
-HasNode Truth = ⊤
-HasNode Text = ⊤
-HasNode (Bytes n) = ⊤
-HasNode (Float n) = ⊤
-HasNode (ByteList es) = ⊤
-HasNode (Numbers es) = ⊤
-HasNode (ListKind es) = ⊤
-HasNode (Map es order) = ⊤
 HasNode (RowKind n) = ⊥
 HasNode (NewtypeKind at) = ⊥
 HasNode (ObjectKind fs) = ⊥
-HasNode (Optional at) = ⊤
-HasNode (Choice w vs) = ⊤
 HasNode (RefusedKind flaw) = ⊥
+HasNode kind = ⊤
 
 -- how deep JSON of a kind nests that is written whole
 abbrev pub leaf_depth : Found → ℕ
-leaf_depth (Number n) = 0
-leaf_depth Truth = 0
-leaf_depth Text = 0
-leaf_depth (Bytes n) = 0
-leaf_depth (Float n) = 0
-leaf_depth (ByteList es) = 0
 leaf_depth (Numbers es) = 1
-leaf_depth (ListKind es) = 0
-leaf_depth (Map es order) = 0
-leaf_depth (RowKind n) = 0
-leaf_depth (NewtypeKind at) = 0
-leaf_depth (ObjectKind fs) = 0
-leaf_depth (Optional at) = 0
-leaf_depth (Choice w vs) = 0
-leaf_depth (RefusedKind flaw) = 0
+leaf_depth kind = 0
 
 -- none of the parts was begun, and an object of entries is a map's; the order of parts isn't set
 abbrev pub IsNewPlace : Found → Place → Type 0
@@ -331,14 +308,12 @@ WritesValueOf F ns at kind n old new result =
 
 -- the bracket in front of the parts of a place
 abbrev pub begins_of : Parts → List Token
-begins_of Root = []
 begins_of (Elements at n) = Token.begin_array ∷ []
 begins_of (Row at n) = Token.begin_array ∷ []
 begins_of (Object at fs) = Token.begin_object ∷ []
 begins_of (MapEntries es n) = Token.begin_object ∷ []
-begins_of (Newtype at) = []
-begins_of (Present at) = []
 begins_of (Variant v at) = Token.begin_object ∷ []
+begins_of parts = []
 
 -- the bracket was written, and none of the parts
 abbrev pub BeginsAt : Parts → Output → Output → Result (Option Place) WriteError → Type 0
@@ -352,11 +327,7 @@ ArePartsOf at kind None = HasNode kind ⊎ ((flaw : Flaw) × (kind ≡ RefusedKi
 ArePartsOf at kind (Some (Row i n)) = (i ≡ at) × (kind ≡ RowKind n)
 ArePartsOf at kind (Some (Newtype p)) = kind ≡ NewtypeKind p
 ArePartsOf at kind (Some (Object i fs)) = (i ≡ at) × (kind ≡ ObjectKind fs)
-ArePartsOf at kind (Some Root) = ⊥
-ArePartsOf at kind (Some (Elements i n)) = ⊥
-ArePartsOf at kind (Some (MapEntries es n)) = ⊥
-ArePartsOf at kind (Some (Present p)) = ⊥
-ArePartsOf at kind (Some (Variant v p)) = ⊥
+ArePartsOf at kind parts = ⊥
 
 -- of the name at the place, that the code found this kind of, a value without own bytes was begun, or is refused
 abbrev pub BeginsStruct : ℕ → Found → Output → Output → Result (Option Place) WriteError → Type 0
@@ -458,14 +429,12 @@ StopsBy d bytes e = Stops (forms_of d) (root_of d.plan.now) bytes e
 
 -- the brackets at the end of a place
 abbrev pub ends_of : Parts → List Token
-ends_of Root = []
 ends_of (Elements at n) = Token.end_array ∷ []
 ends_of (Row at n) = Token.end_array ∷ []
 ends_of (Object at fs) = Token.end_object ∷ []
 ends_of (MapEntries es n) = Token.end_object ∷ []
-ends_of (Newtype at) = []
-ends_of (Present at) = []
 ends_of (Variant v at) = Token.end_object ∷ []
+ends_of parts = []
 
 -- the error has no memory, or the refusal of so many places around
 abbrev pub IsFull : ℕ → PartError → Type 0
