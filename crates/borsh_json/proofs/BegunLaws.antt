@@ -1,10 +1,6 @@
 -- Values of which the beginning was written, by what the code found of their kinds.
-use Rattle.std.proofs.Common.{◌≡◌, ◌⊎◌, inl, inr, ℕ, suc, zero, ◌-◌, ◌<◌, ◌≤◌, List, [], ◌∷◌, ◌++◌, length, map, replicate, drop, Option, Some, None, refl, sym, ◌∙◌, ap, subst, arith, string_bytes}
-use Rattle.std.specs.Prelude.{pos, Result, Ok, Err, String, Vec, option_map, slice_get}
-use Rattle.std.specs.Global.{Global}
+use Rattle.std.proofs.Common.{◌≡◌, ◌⊎◌, inl, inr, ℕ, suc, zero, ◌-◌, ◌<◌, ◌≤◌, List, [], ◌∷◌, ◌++◌, length, map, replicate, drop, Option, Some, None, refl, sym, ◌∙◌, ap, subst, arith, string_bytes, pos, Result, Ok, Err, String, Vec, option_map, slice_get, Global, bytes_eq, Bor}
 use Rattle.std.specs.List.{IsDistinct}
-use Rattle.std.specs.Str.{bytes_eq}
-use Rattle.std.specs.Borrow.{Bor}
 use Rattle.json.specs.Token.{Token}
 use Rattle.borsh_walks.specs.Container.{Shape, sequence as sequence_shape, product, tag, references}
 use Rattle.borsh_values.specs.Nodes.{packed_size, Opens, OpensElements, IsCountOf}

@@ -1,11 +1,6 @@
 -- Options and variants of which the beginning was written.
-use Rattle.std.proofs.Common.{◌≡◌, ◌⊎◌, inl, inr, ℕ, suc, zero, ◌<◌, ◌≤◌, List, [], ◌∷◌, length, map, get_or, Option, Some, None, refl, sym, ◌∙◌, ap, subst, arith, string_bytes}
-use Rattle.std.specs.Prelude.{ℤ, pos, Result, slice_get, String, Vec, codes}
-use Rattle.std.specs.Borrow.{Bor}
-use Rattle.std.specs.Global.{Global}
+use Rattle.std.proofs.Common.{◌≡◌, ◌⊎◌, inl, inr, ℕ, suc, zero, ◌<◌, ◌≤◌, List, [], ◌∷◌, length, map, get_or, Option, Some, None, refl, sym, ◌∙◌, ap, subst, arith, string_bytes, ℤ, pos, Result, slice_get, String, Vec, codes, Bor, Global, unwrap_or, bytes_eq}
 use Rattle.std.specs.List.{IsDistinct}
-use Rattle.std.specs.Option.{unwrap_or}
-use Rattle.std.specs.Str.{bytes_eq}
 use Rattle.json.specs.Json.{null, string}
 use Rattle.borsh_walks.specs.Container.{Shape, choice as choice_shape, tag, references, IsIn, first, later}
 use Rattle.borsh_values.specs.Nodes.{Opens, IsVariantOf}

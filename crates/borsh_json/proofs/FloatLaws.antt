@@ -1,13 +1,10 @@
 -- Floats, their bits and their texts.
-use Rattle.std.proofs.Common.{◌≡◌, inl, inr, ◌∷◌, ◌++◌, [], ℕ, ◌+◌, ◌*◌, ◌^◌, ◌<◌, List, length, Bool, true, false, true≢false, Option, Some, None, refl, sym, ◌∙◌, ap, subst, arith}
-use Rattle.std.specs.Prelude.{if◌then◌else◌, not, codes, T, from_bits, to_bits, option_map, MatchOption, MatchResult, Result, Ok, Err, IsTrue, IsFalse}
-use Rattle.std.specs.Borrow.{Bor}
+use Rattle.std.proofs.Common.{◌≡◌, inl, inr, ◌∷◌, ◌++◌, [], ℕ, ◌+◌, ◌*◌, ◌^◌, ◌<◌, List, length, Bool, true, false, true≢false, Option, Some, None, refl, sym, ◌∙◌, ap, subst, arith, if◌then◌else◌, not, codes, T, from_bits, to_bits, option_map, MatchOption, MatchResult, Result, Ok, Err, IsTrue, IsFalse, Bor, bytes_eq, Contains}
 use Rattle.std.specs.Float.{Float, Format, nan, inf, fin, binary32, binary64, float_is_finite}
 use Rattle.std.specs.Float.Ieee.{top}
 use Rattle.std.specs.Float.Numeral.{scan_numeral}
 use Rattle.std.specs.Float.Parse.{parse_float, read_float}
 use Rattle.std.specs.Result.{result_ok}
-use Rattle.std.specs.Str.{bytes_eq}
 use Rattle.std.proofs.lemmas.Slice.Eq.{bytes_eq-Decides}
 use lib.Ieee.{is_nan}
 use lib.Ieee.Bits.{to_bits-of_bits}
@@ -16,7 +13,6 @@ use Rattle.json.specs.Find.{as_number, as_str}
 use Rattle.json.proofs.Printed.Floats.{IsNumber-plain}
 use Rattle.std.specs.Float.Numeral.{Parts, exponent_text, text_of}
 use Rattle.std.specs.Fmt.{sign_text}
-use Rattle.std.specs.List.{Contains}
 use Rattle.std.proofs.lemmas.List.Elements.{Contains-append_right}
 use Rattle.json.specs.Print.{IsNumber}
 use Rattle.json.specs.Word.{after_number}

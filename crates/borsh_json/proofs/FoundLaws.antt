@@ -1,13 +1,8 @@
 -- Names that are composed, and definitions that were found.
-use Rattle.std.proofs.Common.{◌≡◌, inl, inr, ℕ, suc, zero, ◌+◌, ◌<◌, ◌≤◌, List, [], ◌∷◌, ◌++◌, length, map, take, Bool, true, false, get_or, Decides, MatchBool, Option, Some, None, refl, sym, ◌∙◌, ap, subst, arith, append_assoc, append-nil, eqb, string_bytes}
-use Rattle.std.specs.Prelude.{ℤ, pos, codes, option_map, slice_get, String, MatchOption}
-use Rattle.std.specs.Option.{option_copied}
-use Rattle.std.specs.List.{HoldsAt}
+use Rattle.std.proofs.Common.{◌≡◌, inl, inr, ℕ, suc, zero, ◌+◌, ◌<◌, ◌≤◌, List, [], ◌∷◌, ◌++◌, length, map, take, Bool, true, false, get_or, Decides, MatchBool, Option, Some, None, refl, sym, ◌∙◌, ap, subst, arith, append_assoc, append-nil, eqb, string_bytes, ℤ, pos, codes, option_map, slice_get, String, MatchOption, option_copied, HoldsAt, Bor, Global}
 use Rattle.std.specs.Str.Pattern.{FindsTextPrefix, StripsPrefix}
 use Rattle.std.proofs.lemmas.Option.{slice_get-get_or}
 use Rattle.std.proofs.lemmas.Bool.Decides.{nat_tests}
-use Rattle.std.specs.Borrow.{Bor}
-use Rattle.std.specs.Global.{Global}
 use Rattle.borsh_walks.specs.Container.{IsIn, references, zeroed, zero_size_references}
 use Rattle.borsh_walks.specs.Container as shape
 use Rattle.borsh_json.specs.Forms.{Form, primitive, sequence, tuple, choice, unnamed, shape_of_form, HasNoBytes, IsList, IsByte, IsUnit, IsOption, IsMap}

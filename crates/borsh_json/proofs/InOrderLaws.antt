@@ -1,13 +1,12 @@
 -- JSON in which what has to ascend does.
-use Rattle.std.proofs.Common.{◌≡◌, ◌⊎◌, inl, inr, ℕ, suc, zero, ◌*◌, ◌<◌, List, [], ◌∷◌, ◌++◌, length, get_or, Option, Some, None, refl, sym, ◌∙◌, ap, subst, arith, length-append}
-use Rattle.std.specs.Prelude.{codes}
+use Rattle.std.proofs.Common.{◌≡◌, ◌⊎◌, inl, inr, ℕ, suc, zero, ◌*◌, ◌<◌, List, [], ◌∷◌, ◌++◌, length, get_or, Option, Some, None, refl, sym, ◌∙◌, ap, subst, arith, length-append, codes}
 use Rattle.json.specs.Json.{Json, array, string, object, Items}
 use Rattle.borsh_walks.specs.Container.{Member}
 use Rattle.borsh_plan.specs.declared.named.Named.{Named}
 use Rattle.borsh_json.specs.declared.error.JsonError.{JsonError}
 use Rattle.borsh_json.specs.declared.error.JsonError.TheVariants.{OutOfMemory, NoMember, NoValue, Ambiguous, NotJson, Refused}
 use Rattle.borsh_json.specs.declared.error.Refusal.{Refusal}
-use Rattle.borsh_json.specs.declared.error.Refusal.TheVariants.{TooDeep, RepeatedName, EmptyElements, NotBool, NotUtf8, Zero, NotNumber, Descends, Expected, MissingField, UnknownName, RepeatedKey, Undefined}
+use Rattle.borsh_json.specs.declared.error.Refusal.TheVariants.{TooDeep, Descends}
 use Rattle.borsh_json.specs.declared.kinds.Entries.{Entries as FoundEntries}
 use Rattle.borsh_json.specs.declared.position.Parts.{Parts}
 use Rattle.borsh_json.specs.declared.position.Parts.TheVariants.{Root, List as Elements, Row, Object, Entries as MapEntries, Newtype, Some as Present, Variant}
@@ -130,7 +129,7 @@ module _ (F : List ℕ → Option Form) where
 
   map_parts : (p : Parts) → IsMapPlace p → (m : FoundEntries) × (n : ℕ) × (p ≡ MapEntries m n)
   map_parts (MapEntries m n) h = (m, n, refl)
-  map_parts parts h = absurd h
+  map_parts p h = absurd h
 
   pub key_in_order : (ns : List Named) (d : ℕ) (p : Place) (x : List ℕ) (kind : Kind) (i : Json) (own : List ℕ) (ds rest : List Part) (k : List ℕ) (u : Json) (key : List ℕ) → IsMapPlace p.parts → IsPlaceIn F ns d p x kind i ds → Says F kind i own (ds ++ (k, u) ∷ rest) → SaysFirst F k u key [] → InOrder F k u
   key_in_order ns zero p x kind i own ds rest k u key m is says s = absurd (subst (λ (p : Parts). IsMapPlace p) is.0 m)

@@ -1,10 +1,9 @@
 -- Values that are written whole: primitives, texts and lists of primitives.
-use Rattle.std.proofs.Common.{◌≡◌, inl, inr, ℕ, suc, zero, ◌+◌, ◌-◌, ◌/◌, ◌^◌, ◌<◌, ◌≤◌, List, [], ◌∷◌, ◌++◌, length, map, Bool, true, false, true≢false, Option, Some, refl, sym, ◌∙◌, ap, subst, arith, pow-suc}
+use Rattle.std.proofs.Common.{◌≡◌, inl, inr, ℕ, suc, zero, ◌+◌, ◌-◌, ◌/◌, ◌^◌, ◌<◌, ◌≤◌, List, [], ◌∷◌, ◌++◌, length, map, Bool, true, false, true≢false, Option, Some, refl, sym, ◌∙◌, ap, subst, arith, pow-suc, bytes_eq}
 use Rattle.std.specs.Prelude.{⊤, ℤ, pos, negsuc, ◌&&◌, ◌==◌, if◌then◌else◌, codes, Result, Ok, Err, is_nan, from_bits}
 use Rattle.std.specs.Float.{Float as FloatValue, Format, binary32, binary64}
 use Rattle.std.specs.Fmt.{signed_decimal}
 use Rattle.std.specs.List.{AllByRecursion}
-use Rattle.std.specs.Str.{bytes_eq}
 use Rattle.std.proofs.Math.Nat.{pow-le-pow_right}
 use Rattle.std.proofs.lemmas.Bool.Decides.{nat_tests}
 use Rattle.json.specs.Token as token
@@ -19,7 +18,7 @@ use Rattle.borsh_plan.specs.declared.named.Named.{Named}
 use Rattle.borsh_json.specs.declared.error.Refusal.TheVariants.{Zero}
 use Rattle.borsh_json.specs.declared.error.WriteError.{WriteError}
 use Rattle.borsh_json.specs.declared.kinds.Kind.{Kind as Found}
-use Rattle.borsh_json.specs.declared.kinds.Kind.TheVariants.{Number, Bool as Truth, Text, Bytes, Float, ByteList, Numbers, List as ElementList, Map as Entries, Row, Newtype, Object, Optional, Choice, Refused}
+use Rattle.borsh_json.specs.declared.kinds.Kind.TheVariants.{Number, Bool as Truth, Bytes, Float}
 use Rattle.borsh_json.specs.declared.numbers.Number.{Number as NumberOf}
 use Rattle.borsh_json.specs.declared.output.LongNumbers.{LongNumbers}
 use Rattle.borsh_json.specs.declared.output.LongNumbers.TheVariants.{Plain, Quoted}
@@ -31,7 +30,7 @@ use Rattle.borsh_json.specs.Leaves.{Adds, HasSize, IsOpenedAs, IsWritten, Refuse
 use Rattle.borsh_json.specs.NoJson.{IsNoJson, RefusesOwn}
 use Rattle.borsh_json.specs.Places.{IsKindOf}
 use Rattle.borsh_json.specs.Represents.{SaysFirst, HaveBytes}
-use Rattle.borsh_json.specs.Table.{Kind, no_bytes, truth, whole, float, float_size, raw, utf8, byte_list, list, row, inner, fields, optional, variants, entries, a_text, some_bytes, an_object, some_elements, nullable, by_name, number_types, number_kind, primitive_kind, DefinedKind, HasKind, InRange, IsFloat, IsHex, IsNumber, Part, Says}
+use Rattle.borsh_json.specs.Table.{Kind, no_bytes, truth, whole, float, float_size, raw, a_text, some_bytes, an_object, some_elements, nullable, by_name, number_types, number_kind, primitive_kind, DefinedKind, HasKind, InRange, IsFloat, IsHex, IsNumber, Part, Says}
 use Rattle.borsh_json.specs.Floats.{IsNan}
 use Rattle.borsh_json.proofs.FloatLaws.{format_one}
 use Rattle.borsh_json.proofs.FormKinds.{unnamed_is}

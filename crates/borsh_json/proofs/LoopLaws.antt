@@ -1,8 +1,5 @@
 -- The reader's next part.
-use Rattle.std.proofs.Common.{◌≡◌, inl, inr, ℕ, suc, zero, ◌+◌, ◌-◌, ◌<◌, List, [], ◌∷◌, ◌++◌, length, map, false, Option, Some, None, refl, sym, ◌∙◌, ap, subst, arith, append_assoc, append-nil, length-append}
-use Rattle.std.specs.Prelude.{IsSome, MatchOption, Result, Ok, Err, MatchResult, slice_get}
-use Rattle.std.specs.Borrow.{Bor}
-use Rattle.std.specs.Str.{bytes_eq}
+use Rattle.std.proofs.Common.{◌≡◌, inl, inr, ℕ, suc, zero, ◌+◌, ◌-◌, ◌<◌, List, [], ◌∷◌, ◌++◌, length, map, false, Option, Some, None, refl, sym, ◌∙◌, ap, subst, arith, append_assoc, append-nil, length-append, IsSome, MatchOption, Result, Ok, Err, MatchResult, slice_get, Bor, bytes_eq}
 use Rattle.std.specs.List.{IsDistinct, list_any}
 use Rattle.json.specs.Token.{Token}
 use Rattle.json.specs.Json.{Json, object, Items, no_items, item, Members}

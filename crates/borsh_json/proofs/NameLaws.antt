@@ -1,9 +1,7 @@
 -- The kinds of names.
-use Rattle.std.proofs.Common.{◌≡◌, ◌⊎◌, inl, inr, ℕ, suc, zero, ◌<◌, List, [], ◌∷◌, Bool, true, false, Option, Some, None, refl, sym, ◌∙◌, ap, subst, arith, map}
-use Rattle.std.specs.Prelude.{◌==◌, ◌&&◌, ◌||◌, if◌then◌else◌, codes, not, option_map, ℤ}
+use Rattle.std.proofs.Common.{◌≡◌, ◌⊎◌, inl, inr, ℕ, suc, zero, ◌<◌, List, [], ◌∷◌, Bool, true, false, Option, Some, None, refl, sym, ◌∙◌, ap, subst, arith, map, ◌==◌, ◌&&◌, ◌||◌, if◌then◌else◌, codes, not, option_map, ℤ, bytes_eq}
 use Rattle.borsh_walks.specs.Container.{first, zeroed}
 use Rattle.std.specs.Float.{Format, binary32, binary64}
-use Rattle.std.specs.Str.{bytes_eq}
 use Rattle.std.specs.List.{AllByRecursion, IsDistinct}
 use Rattle.std.proofs.lemmas.Bool.{or_cases}
 use Rattle.std.proofs.lemmas.Bool.Decides.{nat_tests}
@@ -15,7 +13,7 @@ use Rattle.borsh_values.specs.Nodes.{packed_size}
 use Rattle.borsh_json.specs.declared.kinds.Elements.{Elements}
 use Rattle.borsh_json.specs.declared.kinds.Kind.TheVariants.{Numbers, List as ElementList}
 use Rattle.borsh_json.specs.declared.numbers.Number.{Number}
-use Rattle.borsh_json.specs.Forms.{Form, primitive, sequence, tuple, choice, named, unnamed, no_fields, HasNoBytes, IsByte, IsOption, IsMap, shape_of_form, shapes}
+use Rattle.borsh_json.specs.Forms.{Form, primitive, sequence, choice, named, unnamed, HasNoBytes, IsByte, IsOption, IsMap, shape_of_form, shapes}
 use Rattle.borsh_json.specs.Table.{Lengths, IsString, Keys, texts, numbers, Kind, truth, whole, float, float_size, utf8, byte_list, list, fields, variants, optional, entries, inner, DefinedKind, number_types, number_kind, primitive_kind, AreKeys, SequenceKind, a_text, some_bytes, an_object, some_elements, nullable, by_name, HasKind, IsNullable, MayBeNull, without_bytes, an_option, in_newtype, Says, ComesTwice, HasEmptyElements, RepeatsName}
 use Rattle.borsh_json.specs.Ranks.{number_found}
 use Rattle.borsh_json.specs.Places.{IsAt, IsKindOf, IsUnsayable, lengths_of}

@@ -1,6 +1,5 @@
 -- Where in a value the writer is.
-use Rattle.std.proofs.Common.{◌≡◌, ℕ, suc, ◌+◌, ◌<◌, ◌≤◌, List, [], ◌∷◌, ◌++◌, length, Option, Some, refl, sym, ◌∙◌, ap, subst, arith, append_assoc, append-nil, length-append}
-use Rattle.std.specs.Prelude.{option_map}
+use Rattle.std.proofs.Common.{◌≡◌, ℕ, suc, ◌+◌, ◌<◌, ◌≤◌, List, [], ◌∷◌, ◌++◌, length, Option, Some, refl, sym, ◌∙◌, ap, subst, arith, append_assoc, append-nil, length-append, option_map}
 use Rattle.borsh_walks.specs.Container.{IsIn, first, later, Member, Members, no_members, more_members}
 use Rattle.borsh_walks.proofs.Laws.{zero_member}
 use Rattle.borsh_values.specs.Nodes.{Opens}

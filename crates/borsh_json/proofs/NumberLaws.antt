@@ -1,18 +1,12 @@
 -- Whole numbers below a power of 256, and their bytes.
-use Rattle.std.proofs.Common.{◌≡◌, ℕ, suc, zero, ◌+◌, ◌-◌, ◌*◌, ◌/◌, ◌%◌, ◌<◌, ◌≤◌, ◌^◌, List, [], ◌∷◌, ◌++◌, map, take, min, replicate, inl, inr, Bool, true, false, refl, sym, ◌∙◌, ap, subst, arith, append_assoc, SFits}
-use Rattle.std.specs.Prelude.{ℤ, pos, negsuc, neg_ℤ, ◌<ℤ◌, Result, Ok, Err}
-use Rattle.std.specs.Result.{OnOk}
+use Rattle.std.proofs.Common.{◌≡◌, ℕ, suc, zero, ◌+◌, ◌-◌, ◌*◌, ◌/◌, ◌%◌, ◌<◌, ◌≤◌, ◌^◌, List, [], ◌∷◌, ◌++◌, map, take, min, replicate, inl, inr, Bool, true, false, refl, sym, ◌∙◌, ap, subst, arith, append_assoc, SFits, ℤ, pos, negsuc, neg_ℤ, ◌<ℤ◌, Result, Ok, Err, OnOk, FitsSigned, pow-add, pow_pos, Ordering, Less, Equal, Greater}
 use Rattle.std.specs.Int.Signed.{lt_z}
-use Rattle.std.specs.Int.RustNames.{FitsSigned}
 use Rattle.std.specs.Int.{byte_at, bytes_low_first, cast_signed, cast_unsigned, to_le_bytes, w64, w128}
 use Rattle.std.specs.Ordering.{nat_cmp, int_cmp, is_eq, MatchOrdering}
-use Rattle.std.specs.declared.cmp.Ordering.{Ordering}
-use Rattle.std.specs.declared.cmp.Ordering.TheVariants.{Less, Equal, Greater}
 use Rattle.std.specs.Cmp.{nat_cmp_is, int_ranks, Equal-is}
 use Rattle.std.specs.Fmt.{decimal, signed_decimal}
 use Rattle.std.specs.Str.Parse.{signed_digits_value}
 use Rattle.std.proofs.lemmas.Fmt.{decimal_digit, decimal_is_IsNumeral_wide}
-use Rattle.std.proofs.lemmas.Nat.{pow-add, pow_pos}
 use Rattle.std.proofs.Math.Nat.{pow-suc, div-lt_iff_lt-mul, div-div-eq-div-mul}
 use Rattle.borsh_walks.specs.Container.{tag, little_endian}
 use Rattle.borsh_json.specs.Table.{InRange, IsWhole}

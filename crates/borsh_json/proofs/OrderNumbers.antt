@@ -1,11 +1,8 @@
 -- How numbers compare by their bytes.
-use Rattle.std.proofs.Common.{◌≡◌, ℕ, suc, zero, ◌-◌, ◌*◌, ◌/◌, ◌%◌, ◌<◌, ◌≤◌, ◌^◌, List, [], ◌∷◌, length, map, drop, get_or, min, Bool, true, false, leb, refl, sym, ◌∙◌, ap, arith, pow-suc}
+use Rattle.std.proofs.Common.{◌≡◌, ℕ, suc, zero, ◌-◌, ◌*◌, ◌/◌, ◌%◌, ◌<◌, ◌≤◌, ◌^◌, List, [], ◌∷◌, length, map, drop, get_or, min, Bool, true, false, leb, refl, sym, ◌∙◌, ap, arith, pow-suc, ℤ, pos, negsuc, ◌<ℤ◌, Ordering, Less, Equal, Greater}
 use mathlib.Core.Bool.{not, beq}
-use Rattle.std.specs.Prelude.{ℤ, pos, negsuc, ◌<ℤ◌}
 use Rattle.std.specs.Ordering.{nat_cmp, int_cmp, bool_cmp, MatchOrdering}
 use Rattle.std.specs.Cmp.{nat_cmp_is, int_cmp_is, int_ranks}
-use Rattle.std.specs.declared.cmp.Ordering.{Ordering}
-use Rattle.std.specs.declared.cmp.Ordering.TheVariants.{Less, Equal, Greater}
 use Rattle.std.proofs.lemmas.Cmp.{ranked}
 use Rattle.std.proofs.lemmas.Bool.Decides.{nat_tests}
 use Rattle.std.proofs.lemmas.Int.{ints}

@@ -1,7 +1,5 @@
 -- The orders of names, as names and definitions tell them.
-use Rattle.std.proofs.Common.{◌≡◌, inl, inr, ℕ, suc, zero, ◌+◌, ◌<◌, List, [], ◌∷◌, ◌++◌, length, map, take, get_or, Bool, true, false, Option, Some, None, IfSome, String, refl, sym, ◌∙◌, ap, subst, arith, append_assoc}
-use Rattle.std.specs.Prelude.{◌==◌, codes, slice_get, string_bytes}
-use Rattle.std.specs.Global.{Global}
+use Rattle.std.proofs.Common.{◌≡◌, inl, inr, ℕ, suc, zero, ◌+◌, ◌<◌, List, [], ◌∷◌, ◌++◌, length, map, take, get_or, Bool, true, false, Option, Some, None, IfSome, String, refl, sym, ◌∙◌, ap, subst, arith, append_assoc, ◌==◌, codes, slice_get, string_bytes, Global}
 use Rattle.borsh_plan.specs.declared.named.Named.{Named}
 use Rattle.borsh_json.specs.declared.order.Ordered.{Ordered}
 use Rattle.borsh_json.specs.declared.order.Ordered.TheVariants.{Number}

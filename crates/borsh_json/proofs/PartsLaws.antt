@@ -1,10 +1,5 @@
 -- Rows, lists, objects and variants that are opened.
-use Rattle.std.proofs.Common.{◌≡◌, inl, inr, ℕ, suc, zero, ◌≤◌, List, [], ◌∷◌, ◌++◌, length, map, replicate, Option, Some, None, refl, sym, ◌∙◌, ap, subst, arith, append-nil, string_bytes}
-use Rattle.std.specs.Prelude.{IsSome, Ok, String, Vec, ℤ, pos, slice_get, ◌-◌}
-use Rattle.std.specs.Borrow.{Bor}
-use Rattle.std.specs.Global.{Global}
-use Rattle.std.specs.BTreeMap.{BTreeMap}
-use Rattle.std.specs.Str.{bytes_eq}
+use Rattle.std.proofs.Common.{◌≡◌, inl, inr, ℕ, suc, zero, ◌≤◌, List, [], ◌∷◌, ◌++◌, length, map, replicate, Option, Some, None, refl, sym, ◌∙◌, ap, subst, arith, append-nil, string_bytes, IsSome, Ok, String, Vec, ℤ, pos, slice_get, ◌-◌, Bor, Global, BTreeMap, bytes_eq}
 use Rattle.std.specs.List.{IsDistinct}
 use Rattle.json.specs.Token.{Token}
 use Rattle.json.specs.Json.{Json, string, array, object, Items, Members, no_members, member}

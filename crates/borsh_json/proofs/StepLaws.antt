@@ -1,8 +1,6 @@
 -- What the reader's steps do to what is left of a place.
-use Rattle.std.proofs.Common.{◌≡◌, ℕ, List, [], ◌∷◌, length, false, Some, refl, sym, ◌∙◌, ap, arith}
-use Rattle.std.specs.Prelude.{IsSome, option_map}
+use Rattle.std.proofs.Common.{◌≡◌, ℕ, List, [], ◌∷◌, length, false, Some, refl, sym, ◌∙◌, ap, arith, IsSome, option_map, bytes_eq}
 use Rattle.std.specs.List.{list_any}
-use Rattle.std.specs.Str.{bytes_eq}
 use Rattle.json.specs.Json.{Json, Items, no_items, item, Members}
 use Rattle.json.specs.Find.{get_member}
 use Rattle.borsh_json.specs.declared.kinds.KeyKind.{KeyKind}

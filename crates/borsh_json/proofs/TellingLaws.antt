@@ -1,7 +1,6 @@
 -- What is told of the names of a plan, as it is written.
-use Rattle.std.proofs.Common.{◌≡◌, ℕ, zero, suc, ◌+◌, ◌<◌, ◌≤◌, List, [], ◌∷◌, ◌++◌, length, take, map, Option, Some, Bool, true, false, All, inl, inr, refl, sym, ◌∙◌, ap, subst, arith, append_assoc}
+use Rattle.std.proofs.Common.{◌≡◌, ℕ, zero, suc, ◌+◌, ◌<◌, ◌≤◌, List, [], ◌∷◌, ◌++◌, length, take, map, Option, Some, Bool, true, false, All, inl, inr, refl, sym, ◌∙◌, ap, subst, arith, append_assoc, if◌then◌else◌, MatchBool, Decides, codes, option_and_then, option_map, slice_get}
 use mathlib.Core.Bool.{not}
-use Rattle.std.specs.Prelude.{if◌then◌else◌, MatchBool, Decides, codes, option_and_then, option_map, slice_get}
 use Rattle.std.proofs.Math.Seq.{take-length}
 use Rattle.std.proofs.lemmas.List.{map-append}
 use Rattle.std.proofs.lemmas.List.Elements.{All-nil, All-push}
@@ -18,7 +17,7 @@ use Rattle.borsh_plan.specs.declared.named.Named.{Named}
 use Rattle.borsh_json.specs.declared.kinds.Elements.{Elements}
 use Rattle.borsh_json.specs.declared.kinds.Kind.TheVariants.{ByteList}
 use Rattle.borsh_json.specs.declared.order.Ordered.{Ordered}
-use Rattle.borsh_json.specs.declared.order.Ordered.TheVariants.{Single, Number, Text, Array, List as Counted, Tuple, Other}
+use Rattle.borsh_json.specs.declared.order.Ordered.TheVariants.{Array, List as Counted, Tuple, Other}
 use Rattle.borsh_json.specs.Forms.{Form, HasNoBytes}
 use Rattle.borsh_json.specs.Names.{HasOtherKeys, HasToldKeys, IsListWord, IsWord, TellsNames, word_members}
 use Rattle.borsh_json.specs.Ordered.{Order, other, HasOrder}

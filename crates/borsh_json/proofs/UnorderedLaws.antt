@@ -1,7 +1,6 @@
 -- Names that aren't ordered, as names and definitions tell it.
-use Rattle.std.proofs.Common.{◌≡◌, inl, inr, ℕ, suc, zero, List, [], ◌∷◌, ◌++◌, length, map, Bool, true, false, Option, Some, None, String, refl, sym, ◌∙◌, ap, subst, take, arith, append_assoc}
+use Rattle.std.proofs.Common.{◌≡◌, inl, inr, ℕ, suc, zero, List, [], ◌∷◌, ◌++◌, length, map, Bool, true, false, Option, Some, None, String, refl, sym, ◌∙◌, ap, subst, take, arith, append_assoc, Global}
 use Rattle.std.specs.Prelude.{◌==◌, ⊤, ℤ, Decides, MatchBool, codes, slice_get, string_bytes}
-use Rattle.std.specs.Global.{Global}
 use Rattle.borsh_walks.specs.declared.definition.Fields.{Fields}
 use Rattle.borsh_walks.specs.declared.definition.Fields.TheVariants.{NamedFields, UnnamedFields, Empty}
 use Rattle.borsh_json.specs.Forms.{Form, primitive, sequence, tuple, choice, named, unnamed, no_fields, form_of_struct, IsOption}

@@ -1,6 +1,6 @@
 -- Why bytes have no JSON, and why a text is no value.
 use Rattle.std.specs.Prelude.{◌≡◌, ◌⊎◌, ⊤, ℕ, suc, ◌-◌, ◌<◌, List, [], ◌∷◌, ◌++◌, Option, None, IsSome}
-use Rattle.json.specs.Token.{Token, begin_object, end_object, begin_array, end_array, key, string, number, boolean, null, bad}
+use Rattle.json.specs.Token.{Token, begin_object, end_object, begin_array, end_array}
 use Rattle.json.specs.Lex.{tokens}
 use Rattle.json.specs.Json.{document, max_depth}
 use Rattle.borsh_walks.specs.Container.{Shape, Member}

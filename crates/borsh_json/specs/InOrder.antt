@@ -7,7 +7,7 @@ use Rattle.borsh_json.specs.Forms.{Form, shapes}
 use Rattle.borsh_json.specs.Found.{IsSet}
 use Rattle.borsh_json.specs.Ordered.{a_value, IsAtLeast}
 use Rattle.borsh_json.specs.Represents.{HaveBytes}
-use Rattle.borsh_json.specs.Table.{Lengths, Kind, no_bytes, truth, whole, float, raw, utf8, byte_list, list, row, inner, fields, optional, variants, entries, HasKind, Part, list_parts, field_parts, IsHex, Says}
+use Rattle.borsh_json.specs.Table.{Lengths, Kind, byte_list, list, row, inner, fields, optional, variants, entries, HasKind, Part, list_parts, field_parts, IsHex, Says}
 
 -- ---- the parts of JSON, by their paths
 

@@ -27,7 +27,7 @@ use Rattle.borsh_json.specs.Places.{AreKeysOf, IsKindOf}
 use Rattle.borsh_json.specs.InOrder.{IsEach}
 use Rattle.borsh_json.specs.Printed.{QuotesLong}
 use Rattle.borsh_json.specs.Represents.{SaysFirst, HaveBytes}
-use Rattle.borsh_json.specs.Table.{Keys, Kind, Part, HasKind, IsHex, key_json, key_order, no_bytes, truth, whole, float, float_size, raw, utf8, byte_list, list, row, inner, fields, optional, variants, entries}
+use Rattle.borsh_json.specs.Table.{Keys, Kind, Part, HasKind, IsHex, key_json, key_order, truth, whole, float, float_size, raw}
 
 -- ---- tokens
 

@@ -5,7 +5,7 @@ use Rattle.json.specs.Json.{Json}
 use Rattle.borsh_json.specs.declared.error.JsonError.{JsonError}
 use Rattle.borsh_json.specs.declared.error.JsonError.TheVariants.{OutOfMemory, NoMember, NoValue, Ambiguous, NotJson, Refused}
 use Rattle.borsh_json.specs.declared.error.Refusal.{Refusal}
-use Rattle.borsh_json.specs.declared.error.Refusal.TheVariants.{TooDeep, RepeatedName, EmptyElements, NotBool, NotUtf8, Zero, NotNumber, Descends, Expected, MissingField, UnknownName, RepeatedKey, Undefined}
+use Rattle.borsh_json.specs.declared.error.Refusal.TheVariants.{TooDeep, RepeatedName, EmptyElements, NotBool, NotUtf8, Zero, NotNumber, Descends}
 use Rattle.borsh_json.specs.Descents.{HasDescent}
 use Rattle.borsh_json.specs.Forms.{Form}
 use Rattle.borsh_json.specs.InOrder.{Step, element}

@@ -1,5 +1,4 @@
-use Rattle.std.proofs.Common.{◌∙◌, Some, map, sym, ap, subst}
-use Rattle.std.specs.Str.{bytes_eq}
+use Rattle.std.proofs.Common.{◌∙◌, Some, map, sym, ap, subst, bytes_eq}
 use Rattle.std.specs.List.{IsDistinct}
 use Rattle.std.proofs.lemmas.Simd.{map-map}
 use Rattle.borsh_walks.specs.Forms.{variant_bytes}

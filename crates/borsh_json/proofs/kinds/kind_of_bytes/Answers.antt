@@ -1,5 +1,4 @@
-use Rattle.std.proofs.Common.{◌≡◌, ◌∙◌, Some, refl, sym, ap, subst}
-use Rattle.std.specs.Prelude.{codes}
+use Rattle.std.proofs.Common.{◌≡◌, ◌∙◌, Some, refl, sym, ap, subst, codes}
 use Rattle.borsh_json.specs.Forms.{sequence}
 use Rattle.borsh_json.specs.Table.{HasKind, utf8, byte_list}
 use Rattle.borsh_json.specs.Places.{lengths_of}

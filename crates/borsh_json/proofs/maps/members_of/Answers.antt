@@ -1,5 +1,4 @@
-use Rattle.std.proofs.Common.{◌≡◌, ◌∙◌, List, ℕ, sym, ap, subst, refl, Bool, true, false, Option, Some, None}
-use Rattle.std.specs.Prelude.{is_some}
+use Rattle.std.proofs.Common.{◌≡◌, ◌∙◌, List, ℕ, sym, ap, subst, refl, Bool, true, false, Option, Some, None, is_some}
 use Rattle.json.specs.Find.{as_object}
 use Rattle.borsh_walks.proofs.Tables.{marks_none}
 use Rattle.borsh_json.specs.Frames.{IsText}

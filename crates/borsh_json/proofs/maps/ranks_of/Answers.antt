@@ -1,6 +1,4 @@
-use Rattle.std.proofs.Common.{◌≡◌, ◌∙◌, inl, inr, List, ℕ, sym, ap, subst, refl, Bool, true, false, Option, Some, None}
-use Rattle.std.specs.Prelude.{is_some}
-use Rattle.std.specs.Ordering.{nat_cmp}
+use Rattle.std.proofs.Common.{◌≡◌, ◌∙◌, inl, inr, List, ℕ, sym, ap, subst, refl, Bool, true, false, Option, Some, None, is_some, nat_cmp}
 use Rattle.json.specs.Find.{as_object}
 use Rattle.borsh_json.specs.Frames.{IsRank}
 use Rattle.borsh_json.proofs.MemberLaws.{passed_start, passed_here, passed_more, passed_twice, passed_all, not_each}

@@ -1,5 +1,4 @@
-use Rattle.std.proofs.Common.{refl, subst, true, false}
-use Rattle.std.specs.Prelude.{MatchBool}
+use Rattle.std.proofs.Common.{refl, subst, true, false, MatchBool}
 use Rattle.borsh_json.specs.Names.{HasOtherKeys, HasToldKeys}
 use Rattle.borsh_json.proofs.TellingLaws.{bytes_word}
 use Rattle.borsh_json.proofs.names.word_of.Goals as goal
