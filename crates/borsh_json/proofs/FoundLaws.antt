@@ -7,6 +7,7 @@ use Rattle.borsh_walks.specs.Container.{IsIn, references, zeroed, zero_size_refe
 use Rattle.borsh_walks.specs.Container as shape
 use Rattle.borsh_json.specs.Forms.{Form, primitive, sequence, tuple, choice, unnamed, shape_of_form, HasNoBytes, IsList, IsByte, IsUnit, IsOption, IsMap}
 use Rattle.borsh_json.specs.Found.{joined, IsMapName, IsSetName}
+use Rattle.std.proofs.lemmas.List.{append_cancel_left}
 
 pub newtype_is : (ps : List (List ℕ)) → MatchBool (eqb (length ps) 1) ((p : List ℕ) × (unnamed ps ≡ unnamed (p ∷ []))) ((p : List ℕ) → unnamed ps ≡ unnamed (p ∷ []) → ⊥)
 newtype_is [] = λ p e. cc
@@ -78,11 +79,7 @@ joined_not name rest ps i p d h e n not_here after q =
     let s = joined_split ps i p d h e in
     let front = joined (take i ps) in
     let l : front ++ rest ≡ front ++ (p.now ++ (s.0 ++ after)) = sym n ∙ q ∙ ap (λ l. l ++ after) s.1 ∙ append_assoc (front ++ p.now) s.0 after ∙ append_assoc front p.now (s.0 ++ after) in
-    not_here (s.0 ++ after) (append-cancel front rest (p.now ++ (s.0 ++ after)) l)
-  where
-    append-cancel : (xs ys zs : List ℕ) → xs ++ ys ≡ xs ++ zs → ys ≡ zs
-    append-cancel [] ys zs e = e
-    append-cancel (x ∷ xs) ys zs e = append-cancel xs ys zs cc
+    not_here (s.0 ++ after) (append_cancel_left front rest (p.now ++ (s.0 ++ after)) l)
 
 -- a prefix of a text, by the clause of `strip_prefix`
 pub stripped : (p s : List ℕ) (x : List ℕ) → StripsPrefix (FindsTextPrefix p) s x → s ≡ p ++ x

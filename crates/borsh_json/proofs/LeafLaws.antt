@@ -37,6 +37,7 @@ use Rattle.borsh_json.proofs.FormKinds.{unnamed_is}
 use Rattle.borsh_json.proofs.ReaderLaws.{uncons}
 use Rattle.borsh_json.proofs.RepresentsLaws.{kind_one}
 use Rattle.borsh_json.proofs.WrittenLaws.{IsFormed, next_written}
+use Rattle.borsh_walks.proofs.Laws.{length-tag}
 
 -- ---- lists and bytes
 pub front_one : (xs bs cs ds : List ℕ) → xs ++ bs ≡ cs ++ ds → length xs ≡ length cs → (xs ≡ cs) × (bs ≡ ds)
@@ -48,18 +49,6 @@ front_one (x ∷ xs) bs (c ∷ cs) ds e l =
     let t : xs ++ bs ≡ cs ++ ds = cc in
     let r = front_one xs bs cs ds t (omega arith) in
     (ap (λ y. y ∷ xs) h ∙ ap (λ ys. c ∷ ys) r.0, r.1)
-
-low_length : (w n : ℕ) → length (little_endian w n) ≡ w
-low_length zero n = refl
-low_length (suc w) n = ap suc (low_length w (n / 256))
-
-map_length : (f : ℕ → ℕ) (bs : List ℕ) → length (map f bs) ≡ length bs
-map_length f [] = refl
-map_length f (b ∷ bs) = ap suc (map_length f bs)
-
-pub tag_length : (w : ℕ) (z : ℤ) → length (tag w z) ≡ w
-tag_length w (pos n) = low_length w n
-tag_length w (negsuc n) = map_length (λ b. 255 - b) (little_endian w n) ∙ low_length w n
 
 value_low : (w n : ℕ) → n < 256 ^ w → number_of (little_endian w n) ≡ n
 value_low zero n h = omega arith
@@ -159,7 +148,7 @@ module _ (F : List ℕ → Option Form) (x own : List ℕ) (kind : Kind) (h : Ha
 
 -- how many bytes a float has, and that they are no NaN's
 pub float_length : (f : Format) (v : FloatValue) (a : List ℕ) → IsFloat f v a → length a ≡ float_size f
-float_length f v a p = ap (λ l. length l) p.1 ∙ tag_length (float_size f) (pos p.0)
+float_length f v a p = ap (λ l. length l) p.1 ∙ length-tag (float_size f) (pos p.0)
 
 nan_or_float : (f : Format) (v : FloatValue) (a : List ℕ) → IsNan f a → IsFloat f v a → ⊥
 nan_or_float f v a n p =
@@ -175,7 +164,7 @@ module _ (F : List ℕ → Option Form) (x own : List ℕ) where
       each false e = p e
 
   pub no_zero : (n : ℕ) (signed non_zero : Bool) → HasKind F x (whole n signed non_zero) → non_zero ≡ true → HasSize (whole n signed non_zero) (length own) → own ≡ tag n (pos 0) → IsNoJson F x own
-  no_zero n signed non_zero h t l e = no_leaf F x own (whole n signed non_zero) h (λ j a qs s. let w = s.2 in l.0 ∙ sym (ap (λ l. length l) w.2 ∙ tag_length n w.0)) (λ j qs s. let w = s.2 in w.4 t (not_zero n signed w.0 l.1 w.3 (sym w.2 ∙ e)))
+  no_zero n signed non_zero h t l e = no_leaf F x own (whole n signed non_zero) h (λ j a qs s. let w = s.2 in l.0 ∙ sym (ap (λ l. length l) w.2 ∙ length-tag n w.0)) (λ j qs s. let w = s.2 in w.4 t (not_zero n signed w.0 l.1 w.3 (sym w.2 ∙ e)))
 
   pub no_nan : (f : Format) → HasKind F x (float f) → length own ≡ float_size f → IsNan f own → IsNoJson F x own
   no_nan f h l n = no_leaf F x own (float f) h (λ j a qs s. l ∙ sym (float_length f s.0 a s.2)) (λ j qs s. nan_or_float f s.0 own n s.2)

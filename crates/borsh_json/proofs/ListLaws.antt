@@ -29,10 +29,11 @@ use Rattle.borsh_json.specs.Table.{Lengths, Kind, truth, whole, float, raw, utf8
 use Rattle.borsh_json.proofs.FormKinds.{unnamed_is}
 use Rattle.borsh_walks.proofs.Forms.{shape_is}
 use Rattle.borsh_json.proofs.FoundLaws.{full_primitive}
-use Rattle.borsh_json.proofs.LeafLaws.{defined, float_length, front_one, no_json, primitive_sized, tag_length, tag_one}
+use Rattle.borsh_json.proofs.LeafLaws.{defined, float_length, front_one, no_json, primitive_sized, tag_one}
 use Rattle.borsh_json.proofs.ReaderLaws.{uncons}
 use Rattle.borsh_json.proofs.RepresentsLaws.{kind_one}
 use Rattle.borsh_json.proofs.WrittenLaws.{next_written}
+use Rattle.borsh_walks.proofs.Laws.{length-tag}
 
 drop_front : (xs ys : List ℕ) (n : ℕ) → length xs ≡ n → drop n (xs ++ ys) ≡ ys
 drop_front [] ys zero e = refl
@@ -70,7 +71,7 @@ listed_one l k m own es ts bs cs a c p q r s d f e =
     let x = tag l.width (pos k) in
     let y = tag l.width (pos m) in
     let g : x ++ (es ++ bs) ≡ y ++ (ts ++ cs) = sym (append_assoc x es bs) ∙ ap (λ o. o ++ bs) (sym d) ∙ e ∙ ap (λ o. o ++ cs) f ∙ append_assoc y ts cs in
-    let h = front_one x (es ++ bs) y (ts ++ cs) g (tag_length l.width (pos k) ∙ sym (tag_length l.width (pos m))) in
+    let h = front_one x (es ++ bs) y (ts ++ cs) g (length-tag l.width (pos k) ∙ sym (length-tag l.width (pos m))) in
     (count_one l k m c p q r s h.0, h.1)
 
 -- ---- definitions of texts and lists
@@ -97,7 +98,7 @@ module _ (F : List ℕ → Option Form) (x own es : List ℕ) (parts : List (Lis
   listed : (w lo hi : ℕ) (e : List ℕ) (n : ℕ) → F e ≡ Some (primitive (suc n)) → Opens (shapes F) (shape.sequence w lo hi e) own parts → es ≡ drop w own → (parts ≡ []) × IsListed (lengths_of (sequence w lo hi e)) own es (suc n)
   listed w lo hi e n q o t =
       let s = subst (λ (c : Option Form). OpensElements (packed_size (option_map shape_of_form c)) e o.0 o.1 parts) q o.5 in
-      let d : es ≡ o.1 = t ∙ ap (λ l. drop w l) o.4 ∙ drop_front (tag w (pos o.0)) o.1 w (tag_length w (pos o.0)) in
+      let d : es ≡ o.1 = t ∙ ap (λ l. drop w l) o.4 ∙ drop_front (tag w (pos o.0)) o.1 w (length-tag w (pos o.0)) in
       (s.2, (o.0, o.2, o.3, o.4 ∙ ap (λ l. tag w (pos o.0) ++ l) (sym d), ap (λ l. length l) d ∙ s.0))
 
   list_form : (k : Kind) (f : Form) (n : ℕ) → DefinedKind F x f k → IsListKind k → ((e : List ℕ) → HasElements k e → F e ≡ Some (primitive (suc n))) → Opens (shapes F) (shape_of_form f) own parts → AreElementsOf (shape_of_form f) own es → (parts ≡ []) × IsListed (lengths_of f) own es (suc n)
@@ -152,7 +153,7 @@ items_more F e k size h l j a qs s = sized k l (subst (λ k. Says F k j a qs) (k
   where
     sized : (k : Kind) → HasSize k size → Says F k j a qs → (length a ≡ size) × (qs ≡ [])
     sized truth l s = (ap (λ l. length l) s.2 ∙ sym l, s.3)
-    sized (whole n signed non_zero) l s = let w = s.2 in (ap (λ l. length l) w.2 ∙ tag_length n w.0 ∙ sym l.0, s.3)
+    sized (whole n signed non_zero) l s = let w = s.2 in (ap (λ l. length l) w.2 ∙ length-tag n w.0 ∙ sym l.0, s.3)
     sized (float g) l s = (float_length g s.0 a s.2 ∙ sym l, s.3)
     sized (raw n) l s = (s.1 ∙ sym l, s.2)
     sized kind l s = absurd l
@@ -292,7 +293,7 @@ module _ (F : List ℕ → Option Form) (e : List ℕ) (k : Kind) (size : ℕ) (
       let first = tag w.width (pos i.0) in (
         first ++ g.done,
         i.3 ∙ ap (λ l. first ++ l) (g.whole ∙ ap (λ l. g.done ++ l) r) ∙ sym (append_assoc first g.done (piece ++ after)),
-        length-append first g.done ∙ (let a = tag_length w.width (pos i.0) in let b = g.size_of ∙ ap (λ s. n * s) (sym p) in omega (arith, a, b)),
+        length-append first g.done ∙ (let a = length-tag w.width (pos i.0) in let b = g.size_of ∙ ap (λ s. n * s) (sym p) in omega (arith, a, b)),
       )
 
   -- an element that no JSON says, in a list

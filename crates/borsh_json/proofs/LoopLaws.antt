@@ -82,7 +82,7 @@ get_behind : (gs : List Wanted) (f : Wanted) (fs : List Wanted) → slice_get (g
 get_behind [] f fs = refl
 get_behind (g ∷ gs) f fs = get_behind gs f fs
 
-fields_same : (fs gs : List Wanted) → fields fs ≡ fields gs → fs ≡ gs
+pub fields_same : (fs gs : List Wanted) → fields fs ≡ fields gs → fs ≡ gs
 fields_same fs gs e = cc
 
 -- ---- one more part was begun

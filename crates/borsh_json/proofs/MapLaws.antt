@@ -31,12 +31,9 @@ use Rattle.borsh_json.proofs.KeyJson.{key_number, tells}
 use Rattle.borsh_json.proofs.MemberLaws.{keyed_length, sorted_keyed, text_cmp}
 use Rattle.borsh_json.proofs.NumberLaws.{ranks_compare}
 use Rattle.borsh_json.proofs.OpeningLaws.{key_why, no_ascent, framed, said, shows_or, refuses_plain}
-use Rattle.borsh_json.proofs.ReaderLaws.{split, uncons}
+use Rattle.borsh_json.proofs.ReaderLaws.{split, uncons, object_one}
 use Rattle.borsh_json.proofs.RepresentsLaws.{IsAmong, moved, kind_one, number_one}
 use Rattle.borsh_json.specs.NoValue.{SaysOwn, FailsHere}
-
-pub object_one : (j : Json) (ms ns : Members) → j ≡ object ms → j ≡ object ns → ms ≡ ns
-object_one j ms ns e f = let q : object ms ≡ object ns = sym e ∙ f in cc
 
 among_middle : (e : Entry) (xs ys : List Entry) → IsAmong e (xs ++ e ∷ ys)
 among_middle e [] ys = inl refl

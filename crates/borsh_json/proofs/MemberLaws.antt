@@ -22,6 +22,10 @@ there_case : (b : Bool) (t : List Token) (o : Option (List Token)) → is_some (
 there_case true t o e = inl refl
 there_case false t o e = inr e
 
+pub none_of : {A : Type 0} (o : Option A) (b : Bool) → b ≡ is_some o → b ≡ false → o ≡ None
+none_of None b e f = refl
+none_of (Some a) b e f = let q : true ≡ false = sym e ∙ f in cc
+
 pub or_true : (b : Bool) → (b || true) ≡ true
 or_true true = refl
 or_true false = refl

@@ -10,6 +10,7 @@ use Rattle.borsh_walks.specs.Container.{tag, little_endian}
 use Rattle.borsh_values.proofs.TagLaws.{drop_at}
 use Rattle.borsh_json.specs.Table.{InRange}
 use Rattle.borsh_values.specs.Tags.{is_negative}
+pub use Rattle.borsh_walks.proofs.Laws.{length-tag as long_tag}
 
 pub one_low : (n x y : ℕ) → x < 256 ^ n → y < 256 ^ n → little_endian n x ≡ little_endian n y → x ≡ y
 one_low zero x y a b e = let p : 256 ^ 0 ≡ 1 = refl in omega (arith, p)
@@ -63,14 +64,6 @@ last_low (suc n) m h = let p = pow-suc 256 (suc n) in last_low n (m / 256) (omeg
 last_high : (n m : ℕ) → 2 * m < 256 ^ suc n → 128 ≤ get_or (map (λ b. 255 - b) (little_endian (suc n) m)) n 0
 last_high zero m h = let p : 256 ^ 1 ≡ 256 = refl in let k : 128 ≤ 255 - m % 256 = omega (arith, h, p) in k
 last_high (suc n) m h = let p = pow-suc 256 (suc n) in last_high n (m / 256) (omega (arith, h, p))
-
-long_map : (f : ℕ → ℕ) (l : List ℕ) → length (map f l) ≡ length l
-long_map f [] = refl
-long_map f (x ∷ xs) = ap (λ k. suc k) (long_map f xs)
-
-pub long_tag : (n : ℕ) (z : ℤ) → length (tag n z) ≡ n
-long_tag n (pos m) = long n m
-long_tag n (negsuc m) = long_map (λ b. 255 - b) (little_endian n m) ∙ long n m
 
 -- the highest byte tells the sign
 pub sign_top : (n : ℕ) (z : ℤ) (l : List ℕ) (negative : Bool) → 0 < n → InRange n true z → l ≡ tag n z → (negative ≡ true → 128 ≤ get_or l (n - 1) 0) → (negative ≡ false → get_or l (n - 1) 0 < 128) → negative ≡ is_negative z

@@ -37,11 +37,8 @@ use Rattle.borsh_json.proofs.ReaderLaws.{joined, no_parts, fields_count, reached
 use Rattle.borsh_json.proofs.OpeningLaws.{no_ascent}
 use Rattle.borsh_json.proofs.AscentLaws.{unbegun_starts, begun_starts, falls_there, rises_there}
 use Rattle.borsh_json.proofs.InOrderLaws.{all_append, all_join, leaf_in_order, place_in_order}
-use Rattle.borsh_json.proofs.LoopLaws.{alone, other_none}
+use Rattle.borsh_json.proofs.LoopLaws.{alone, other_none, fields_same}
 use Rattle.borsh_json.proofs.MapLaws.{fails_none}
-
-fields_same : (fs gs : List Wanted) → fields fs ≡ fields gs → fs ≡ gs
-fields_same fs gs e = cc
 
 -- ---- the steps through places
 pub steps_last : (ps : List Place) (p : Place) → steps_through (ps ++ p ∷ []) ≡ steps_through ps ++ steps_at p
