@@ -14,7 +14,7 @@ use Rattle.borsh_json.specs.Ranks.{rank_of, HasRank}
 use Rattle.std.proofs.lemmas.Int.{ints, to_z-of_z}
 use Rattle.std.proofs.lemmas.Bool.{cases_lt}
 use Rattle.std.proofs.lemmas.Bool.Decides.{nat_tests}
-use Rattle.borsh_json.proofs.DecimalLaws.{numeral_value, short as brief}
+use Rattle.borsh_json.proofs.DecimalLaws.{numeral_value}
 use Rattle.borsh_json.proofs.RepresentsLaws.{IsShort, decimal_one, power_most, short}
 
 byte_power : (s : ℕ) → 2 ^ (8 * s) ≡ 256 ^ s
@@ -194,6 +194,10 @@ module _ (n : ℕ) (signed non_zero : Bool) (s : List ℕ) (small : n ≤ 16) wh
   signed_beyond t z f e beyond own w =
       let q = decimal_one w.0 z (short n signed w.0 small w.3) (brief z f) (sym w.1 ∙ e) in
       beyond (subst (λ z. InRange n true z) q (subst (λ b. InRange n b w.0) t w.3))
+    where
+      brief : (z : ℤ) → FitsSigned w128 z → IsShort z
+      brief (pos m) f = omega (arith, f.sfits)
+      brief (negsuc m) f = omega (arith, f.sfits)
 
   pub unsigned_beyond : signed ≡ false → (m : ℕ) → m < 2 ^ 128 → s ≡ decimal m → (m < 256 ^ n → ⊥) → (own : List ℕ) → Whole own → ⊥
   unsigned_beyond t m f e beyond own w =

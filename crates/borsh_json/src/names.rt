@@ -62,7 +62,8 @@ fn word_of(kind: Kind<'_>) -> &'static str
                 "byte list"
             }
         }
-        Kind::Numbers(elements) | Kind::List(elements) => word_of_list(elements),
+        Kind::Numbers(elements) => word_of_list(elements),
+        Kind::List(elements) => word_of_list(elements),
         Kind::Map(_, _) => "map",
         Kind::Row(_) => "row",
         Kind::Newtype(_) => "newtype",

@@ -73,9 +73,8 @@ fn open_kind<'a, 't, 's>(
         Kind::Float(size) => open_float(alloc, size, &element, out),
         Kind::Text => open_text(alloc, definition, &element, out),
         Kind::ByteList(elements) => open_byte_list(alloc, definition, elements, &element, out),
-        Kind::Numbers(elements) | Kind::List(elements) => {
-            open_items(alloc, definition, elements, &element, out)
-        }
+        Kind::Numbers(elements) => open_items(alloc, definition, elements, &element, out),
+        Kind::List(elements) => open_items(alloc, definition, elements, &element, out),
         Kind::Map(entries, _) => open_map(alloc, definition, entries, &element, out),
         Kind::Row(count) => open_row(alloc, at, count, &element),
         Kind::Newtype(part) => Ok(only(Parts::Newtype(part), element)),

@@ -10,6 +10,16 @@ use Rattle.borsh_json.proofs.FoundLaws.{on_true, on_false, not_true}
 use Rattle.borsh_json.proofs.KindOrders.{key_found}
 use Rattle.borsh_json.proofs.NameLaws.{elements_found, numbers_found, refused, entries_kind, list_kind}
 use Rattle.borsh_json.proofs.kinds.kind_of_list.Goals as goal
+use Rattle.borsh_json.proofs.kinds.kind_of_list.Goals.{then-is_zero_size-via-then-is_zero_size, then-is_zero_size-via-else-is_zero_size+then-has_empty_keys}
+
+pub returns-then-is_zero_size-clause-kind : goal.returns-then-is_zero_size-clause-kind
+returns-then-is_zero_size-clause-kind c = λ w lo hi e q i b x h full.
+    let F = forms_of c.args.definitions.now in
+    let f : F x ≡ Some (sequence w lo hi e) = h.1 ∙ ap (λ f. Some f) q in
+    refused F x full w lo hi e f (elim c.then-is_zero_size.branch [
+      | then-is_zero_size-via-then-is_zero_size v ↦ inl ((c.is_zero_size.ensures e i).0 v.if-is_zero_size.true)
+      | then-is_zero_size-via-else-is_zero_size+then-has_empty_keys v ↦ (let k = on_true _ v.has_empty_keys.result v.if-has_empty_keys.true (v.has_empty_keys.ensures x (c.collection_of-collection.ensures x h)) in inr (k.0, k.1, k.2, k.3))
+    ])
 
 pub returns-in-Some-clause-kind : goal.returns-in-Some-clause-kind
 returns-in-Some-clause-kind c = λ w lo hi e q i b x h full.

@@ -1,12 +1,14 @@
 use Rattle.std.proofs.Common.{[], inl, sym, subst, refl, append-nil}
+use Rattle.json.specs.Json.{Json}
 use Rattle.borsh_plan.specs.Plan.{map_of, names_of as plan_names}
 use Rattle.borsh_json.specs.declared.kinds.Kind.{Kind}
 use Rattle.borsh_json.specs.declared.position.Parts.TheVariants.{Newtype}
 use Rattle.borsh_json.specs.Forms.{form_of, forms_in}
 use Rattle.borsh_json.specs.Orders.{KindHasOrder, KindTellsOrder}
-use Rattle.borsh_json.specs.Places.{IsKindOf}
-use Rattle.borsh_json.specs.Table.{inner}
-use Rattle.borsh_json.proofs.OpeningLaws.{opened, unmoved, only_found}
+use Rattle.borsh_json.specs.NoValue.{SaysOwn, Why}
+use Rattle.borsh_json.specs.Places.{IsKindOf, lengths_of}
+use Rattle.borsh_json.specs.Table.{inner, list}
+use Rattle.borsh_json.proofs.OpeningLaws.{flaw_refuses, opened, unmoved, only_found}
 use Rattle.borsh_json.proofs.PartsLaws.{unsayable}
 use Rattle.borsh_json.proofs.opening.open_kind.Goals as goal
 
@@ -49,7 +51,24 @@ returns-in-ByteList c x j at e h order tells b =
     c.open_byte_list.ensures F ns x j i.0 i.1 i.2 o.0 o.1 (subst (λ (k : Kind). KindTellsOrder F x k) c.in-ByteList.is tells) b
 
 pub returns-in-Numbers : goal.returns-in-Numbers
-returns-in-Numbers c x j at e h order tells b = ?
+returns-in-Numbers c x j at e h order tells b =
+    let F = forms_in (map_of c.args.json.now.plan.now) in
+    let ns = plan_names c.args.json.now.plan.now in
+    let l = lengths_of (form_of c.args.definition.now) in
+    let i = subst (λ (k : Kind). IsKindOf F ns x (form_of c.args.definition.now) k) c.in-Numbers.is h in
+    let o = subst (λ (k : Kind). KindHasOrder F ns x k) c.in-Numbers.is order in
+    let t = subst (λ (k : Kind). KindTellsOrder F x k) c.in-Numbers.is tells in
+    opened F ns x j c.args.out.now.items c.open_items.new.out.items c.open_items.result (c.open_items.ensures F ns x j (list l i.0.0) i.0.0 i.0.1 i.0.2 o t ((l, i.0.0, inl refl), λ own ps. ((λ q. q), (λ q. q))) b)
+
+pub returns-in-List : goal.returns-in-List
+returns-in-List c x j at e h order tells b =
+    let F = forms_in (map_of c.args.json.now.plan.now) in
+    let ns = plan_names c.args.json.now.plan.now in
+    let l = lengths_of (form_of c.args.definition.now) in
+    let i = subst (λ (k : Kind). IsKindOf F ns x (form_of c.args.definition.now) k) c.in-List.is h in
+    let o = subst (λ (k : Kind). KindHasOrder F ns x k) c.in-List.is order in
+    let t = subst (λ (k : Kind). KindTellsOrder F x k) c.in-List.is tells in
+    opened F ns x j c.args.out.now.items c.open_items-in-List.new.out.items c.open_items-in-List.result (c.open_items-in-List.ensures F ns x j (list l i.0.0) i.0.0 i.0.1 i.0.2 o t ((l, i.0.0, inl refl), λ own ps. ((λ q. q), (λ q. q))) b)
 
 pub returns-in-Row : goal.returns-in-Row
 returns-in-Row c x j at e h order tells b =

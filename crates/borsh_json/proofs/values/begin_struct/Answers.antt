@@ -4,8 +4,8 @@ use Rattle.borsh_json.specs.Places.{IsKindOf}
 use Rattle.borsh_json.proofs.BegunLaws.{flaw_refused, parts_begun}
 use Rattle.borsh_json.proofs.values.begin_struct.Goals as goal
 
-pub returns-in_ok-refusal-in-Refused : goal.returns-in_ok-refusal-in-Refused
-returns-in_ok-refusal-in-Refused c F ns x f i d k =
+pub returns-in-Refused : goal.returns-in-Refused
+returns-in-Refused c F ns x f i d k =
     flaw_refused F ns x f c.in-Refused.flaw c.in_ok-refusal.field-0 (subst (λ (k : Kind). IsKindOf F ns x f k) c.in-Refused.is k) c.in_ok-refusal.ensures
 
 pub returns : goal.returns
