@@ -93,9 +93,7 @@ impl Flaw<'_> {
         ensures { IfOk result (λ refusal. IsRefusalOf self.entry refusal) }
     {
         match self {
-            Flaw::RepeatedName(name) => {
-                Ok(Refusal::RepeatedName(String::from_str(alloc, name)?))
-            }
+            Flaw::RepeatedName(name) => Ok(Refusal::RepeatedName(String::from_str(alloc, name)?)),
             Flaw::EmptyElements => Ok(Refusal::EmptyElements),
         }
     }
