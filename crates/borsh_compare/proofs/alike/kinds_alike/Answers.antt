@@ -12,11 +12,6 @@ returns-in-Refused-default c = λ h.
     at_kinds c.args.both.old.now c.args.both.new.now c.args.pairs.now.list.items c.args.at.old c.args.at.new c.args.old.0.now c.args.new.0.now (Refused c.in-Refused-default.field-0-0) c.args.new.1 c.in-Refused-default.is-0 refl
     (λ x y ix iy fx gy p q. unsaid itself p.0)
 
-pub returns-then-lengths_lie : goal.returns-then-lengths_lie
-returns-then-lengths_lie c = λ h.
-    at_kinds c.args.both.old.now c.args.both.new.now c.args.pairs.now.list.items c.args.at.old c.args.at.new c.args.old.0.now c.args.new.0.now (Elements c.in-List-List.a) (Elements c.in-List-List.b) c.in-List-List.is-0 c.in-List-List.is-1
-    (λ x y ix iy fx gy p q. of_lists c.args.both.old.now c.args.both.new.now c.args.pairs.now.list.items c.args.at.old c.args.at.new x y ix iy (form_of c.args.old.0.now) (form_of c.args.new.0.now) fx gy c.in-List-List.a.at c.in-List-List.b.at (c.lengths_lie.ensures c.if-lengths_lie.true) (c.elements_paired.ensures h) p.0 q.0)
-
 pub returns-in-Number-Number : goal.returns-in-Number-Number
 returns-in-Number-Number c = λ h.
     at_kinds c.args.both.old.now c.args.both.new.now c.args.pairs.now.list.items c.args.at.old c.args.at.new c.args.old.0.now c.args.new.0.now (Number c.in-Number-Number.a) (Number c.in-Number-Number.b) c.in-Number-Number.is-0 c.in-Number-Number.is-1
@@ -30,7 +25,7 @@ returns-in-Bool-Bool c = λ h.
 pub returns-in-Text-Text : goal.returns-in-Text-Text
 returns-in-Text-Text c = λ h.
     at_kinds c.args.both.old.now c.args.both.new.now c.args.pairs.now.list.items c.args.at.old c.args.at.new c.args.old.0.now c.args.new.0.now Text Text c.in-Text-Text.is-0 c.in-Text-Text.is-1
-    (λ x y ix iy fx gy p q. of_kinds c.args.both.old.now c.args.both.new.now c.args.pairs.now.list.items c.args.at.old c.args.at.new x y ix iy (form_of c.args.old.0.now) (form_of c.args.new.0.now) fx gy p q (of_utf8 (c.lengths_lie-in-Text-Text.ensures h)))
+    (λ x y ix iy fx gy p q. of_kinds c.args.both.old.now c.args.both.new.now c.args.pairs.now.list.items c.args.at.old c.args.at.new x y ix iy (form_of c.args.old.0.now) (form_of c.args.new.0.now) fx gy p q (of_utf8 (c.lengths_lie.ensures h)))
 
 pub returns-in-Bytes-Bytes : goal.returns-in-Bytes-Bytes
 returns-in-Bytes-Bytes c = λ h.
@@ -42,15 +37,20 @@ returns-in-Float-Float c = λ h.
     at_kinds c.args.both.old.now c.args.both.new.now c.args.pairs.now.list.items c.args.at.old c.args.at.new c.args.old.0.now c.args.new.0.now (Float c.in-Float-Float.k) (Float c.in-Float-Float.l) c.in-Float-Float.is-0 c.in-Float-Float.is-1
     (λ x y ix iy fx gy p q. of_floats c.args.both.old.now c.args.both.new.now c.args.pairs.now.list.items c.args.at.old c.args.at.new x y ix iy (form_of c.args.old.0.now) (form_of c.args.new.0.now) fx gy c.in-Float-Float.k c.in-Float-Float.l c.if-k-l.true p q)
 
+pub returns-then-lengths_lie : goal.returns-then-lengths_lie
+returns-then-lengths_lie c = λ h.
+    at_kinds c.args.both.old.now c.args.both.new.now c.args.pairs.now.list.items c.args.at.old c.args.at.new c.args.old.0.now c.args.new.0.now (ByteList c.in-ByteList-ByteList.a) (ByteList c.in-ByteList-ByteList.b) c.in-ByteList-ByteList.is-0 c.in-ByteList-ByteList.is-1
+    (λ x y ix iy fx gy p q. of_byte_lists c.args.both.old.now c.args.both.new.now c.args.pairs.now.list.items c.args.at.old c.args.at.new x y ix iy (form_of c.args.old.0.now) (form_of c.args.new.0.now) fx gy c.in-ByteList-ByteList.a c.in-ByteList-ByteList.b (c.lengths_lie-in-ByteList-ByteList.ensures c.if-lengths_lie.true) (c.elements_paired.ensures h) p q)
+
 pub returns-then-lengths_lie-2 : goal.returns-then-lengths_lie-2
 returns-then-lengths_lie-2 c = λ h.
-    at_kinds c.args.both.old.now c.args.both.new.now c.args.pairs.now.list.items c.args.at.old c.args.at.new c.args.old.0.now c.args.new.0.now (ByteList c.in-ByteList-ByteList.a) (ByteList c.in-ByteList-ByteList.b) c.in-ByteList-ByteList.is-0 c.in-ByteList-ByteList.is-1
-    (λ x y ix iy fx gy p q. of_byte_lists c.args.both.old.now c.args.both.new.now c.args.pairs.now.list.items c.args.at.old c.args.at.new x y ix iy (form_of c.args.old.0.now) (form_of c.args.new.0.now) fx gy c.in-ByteList-ByteList.a c.in-ByteList-ByteList.b (c.lengths_lie-in-ByteList-ByteList.ensures c.if-lengths_lie-2.true) (c.elements_paired-then-lengths_lie-2.ensures h) p q)
+    at_kinds c.args.both.old.now c.args.both.new.now c.args.pairs.now.list.items c.args.at.old c.args.at.new c.args.old.0.now c.args.new.0.now (Numbers c.in-Numbers-Numbers.a) (Numbers c.in-Numbers-Numbers.b) c.in-Numbers-Numbers.is-0 c.in-Numbers-Numbers.is-1
+    (λ x y ix iy fx gy p q. of_lists c.args.both.old.now c.args.both.new.now c.args.pairs.now.list.items c.args.at.old c.args.at.new x y ix iy (form_of c.args.old.0.now) (form_of c.args.new.0.now) fx gy c.in-Numbers-Numbers.a.at c.in-Numbers-Numbers.b.at (c.lengths_lie-in-Numbers-Numbers.ensures c.if-lengths_lie-2.true) (c.elements_paired-then-lengths_lie-2.ensures h) p.0 q.0)
 
 pub returns-then-lengths_lie-3 : goal.returns-then-lengths_lie-3
 returns-then-lengths_lie-3 c = λ h.
-    at_kinds c.args.both.old.now c.args.both.new.now c.args.pairs.now.list.items c.args.at.old c.args.at.new c.args.old.0.now c.args.new.0.now (Numbers c.in-Numbers-Numbers.a) (Numbers c.in-Numbers-Numbers.b) c.in-Numbers-Numbers.is-0 c.in-Numbers-Numbers.is-1
-    (λ x y ix iy fx gy p q. of_lists c.args.both.old.now c.args.both.new.now c.args.pairs.now.list.items c.args.at.old c.args.at.new x y ix iy (form_of c.args.old.0.now) (form_of c.args.new.0.now) fx gy c.in-Numbers-Numbers.a.at c.in-Numbers-Numbers.b.at (c.lengths_lie-in-Numbers-Numbers.ensures c.if-lengths_lie-3.true) (c.elements_paired-then-lengths_lie-3.ensures h) p.0 q.0)
+    at_kinds c.args.both.old.now c.args.both.new.now c.args.pairs.now.list.items c.args.at.old c.args.at.new c.args.old.0.now c.args.new.0.now (Elements c.in-List-List.a) (Elements c.in-List-List.b) c.in-List-List.is-0 c.in-List-List.is-1
+    (λ x y ix iy fx gy p q. of_lists c.args.both.old.now c.args.both.new.now c.args.pairs.now.list.items c.args.at.old c.args.at.new x y ix iy (form_of c.args.old.0.now) (form_of c.args.new.0.now) fx gy c.in-List-List.a.at c.in-List-List.b.at (c.lengths_lie-in-List-List.ensures c.if-lengths_lie-3.true) (c.elements_paired-then-lengths_lie-3.ensures h) p.0 q.0)
 
 pub returns-then-lengths_lie-4 : goal.returns-then-lengths_lie-4
 returns-then-lengths_lie-4 c = λ h.
