@@ -87,13 +87,10 @@ module _ (old new : Plan) (pairs : List Pair) (i j : ℕ) (x y : List ℕ) (ix :
   pub of_floats : (m n : ℕ) → m ≡ n → (h : Format) × (m ≡ float_size h) × HasKind F x (float h) → (h : Format) × (n ≡ float_size h) × HasKind G y (float h) → AreAlike F G R x y
   of_floats m n e p q = of_kinds p.2 (subst (λ h. HasKind G y (float h)) (format_one q.0 p.0 (sym q.1 ∙ sym e ∙ p.1)) q.2) of_float
 
-  pub of_lists : (a b : ℕ) (m n : Bool) → m ≡ false → n ≡ false → LieIn (lengths_of f) (lengths_of g) → HasPair pairs a b → IsListOf F (names_of old) x f a m → IsListOf G (names_of new) y g b n → AreAlike F G R x y
-  of_lists a b m n s t l h p q =
-      let u = subst (λ r. IsListOf F (names_of old) x f a r) s p in
-      let v = subst (λ r. IsListOf G (names_of new) y g b r) t q in
-      of_kinds u.2 v.2 (of_list l (pairing old new h u.1 v.1))
+  pub of_lists : (a b : ℕ) → LieIn (lengths_of f) (lengths_of g) → HasPair pairs a b → IsListOf F (names_of old) x f a → IsListOf G (names_of new) y g b → AreAlike F G R x y
+  of_lists a b l h p q = of_kinds p.2 q.2 (of_list l (pairing old new h p.1 q.1))
 
-  pub of_byte_lists : (a b : Elements) → LieIn (lengths_of f) (lengths_of g) → HasPair pairs a.at b.at → (e : List ℕ) × IsAt (names_of old) a.at e × HasKind F x (byte_list (lengths_of f) e) × (a.is_refused ≡ false) → (e : List ℕ) × IsAt (names_of new) b.at e × HasKind G y (byte_list (lengths_of g) e) × (b.is_refused ≡ false) → AreAlike F G R x y
+  pub of_byte_lists : (a b : Elements) → LieIn (lengths_of f) (lengths_of g) → HasPair pairs a.at b.at → (e : List ℕ) × IsAt (names_of old) a.at e × HasKind F x (byte_list (lengths_of f) e) → (e : List ℕ) × IsAt (names_of new) b.at e × HasKind G y (byte_list (lengths_of g) e) → AreAlike F G R x y
   of_byte_lists a b l h p q = of_kinds p.2 q.2 (of_byte_list l (pairing old new h p.1 q.1))
 
   pub of_maps : (a b : Entries) → LieIn (lengths_of f) (lengths_of g) → AreKeysAlike a.key_kind b.key_kind → HasPair pairs a.key b.key → HasPair pairs a.value b.value → (k : List ℕ) × (v : List ℕ) × (keys : Keys) × IsAt (names_of old) a.key k × IsAt (names_of old) a.value v × HasKind F x (entries (lengths_of f) keys k v) × AreKeysOf F (names_of old) k (form_of a.key_definition.now) a.key_kind keys → (k : List ℕ) × (v : List ℕ) × (keys : Keys) × IsAt (names_of new) b.key k × IsAt (names_of new) b.value v × HasKind G y (entries (lengths_of g) keys k v) × AreKeysOf G (names_of new) k (form_of b.key_definition.now) b.key_kind keys → AreAlike F G R x y

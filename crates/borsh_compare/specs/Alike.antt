@@ -77,7 +77,7 @@ pub data IsBehind (F : List ℕ → Option Form) : List ℕ → List ℕ → Typ
 module _ (F G : List ℕ → Option Form) (R : List ℕ → List ℕ → Type 0) where
   -- no JSON says a value of x; or what is behind x and y is of kinds that are alike
   pub data AreAlike (x y : List ℕ) : Type 0 where
-    unsaid : {a : List ℕ} → IsBehind F x a → IsUnsayable F [] a → AreAlike x y
+    unsaid : {a : List ℕ} → IsBehind F x a → IsUnsayable F a → AreAlike x y
     alike : {a b : List ℕ} {kind other : Kind} → IsBehind F x a → IsBehind G y b → HasKind F a kind → HasKind G b other → KindsAlike R kind other → AreAlike x y
 
   -- and either both have no bytes or none has

@@ -76,13 +76,8 @@ fn numbers_alike(old: (u8, bool, bool), new: (u8, bool, bool)) -> bool
 
 // Whether the elements are a pair. A list whose elements have to ascend isn't written as one of any order.
 fn elements_paired(pairs: &Pairs, old: Elements, new: Elements) -> bool
-    ensures paired { result ≡ true → HasPair pairs.now.list.items old.at new.at }
-    ensures old { result ≡ true → old.is_refused ≡ false }
-    ensures new { result ≡ true → new.is_refused ≡ false }
+    ensures { result ≡ true → HasPair pairs.now.list.items old.at new.at }
 {
-    if old.is_refused || new.is_refused {
-        return false;
-    }
     old.order.is_some() == new.order.is_some() && pairs.has(old.at, new.at)
 }
 
@@ -234,8 +229,7 @@ fn kinds_alike<'a>(
         at.old at.new old.entry.0.now new.entry.0.now old.entry.1 new.entry.1) }
 {
     match (old.1, new.1) {
-        (Kind::Repeated(_), _) => Ok(true),
-        (Kind::List(elements), _) if elements.is_refused => Ok(true),
+        (Kind::Refused(_), _) => Ok(true),
         (Kind::Number(a), Kind::Number(b)) => Ok(numbers_alike(
             (a.size, a.is_signed, a.is_non_zero),
             (b.size, b.is_signed, b.is_non_zero),

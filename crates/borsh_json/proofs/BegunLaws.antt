@@ -1,10 +1,6 @@
 -- Values of which the beginning was written, by what the code found of their kinds.
-use Rattle.std.proofs.Common.{◌≡◌, ◌⊎◌, inl, inr, ℕ, suc, zero, ◌-◌, ◌<◌, ◌≤◌, List, [], ◌∷◌, ◌++◌, length, map, replicate, drop, Option, Some, None, refl, sym, ◌∙◌, ap, subst, arith, string_bytes}
-use Rattle.std.specs.Prelude.{pos, Bool, true, false, Result, Ok, Err, String, Vec, option_map, slice_get}
-use Rattle.std.specs.Global.{Global}
+use Rattle.std.proofs.Common.{◌≡◌, ◌⊎◌, inl, inr, ℕ, suc, zero, ◌-◌, ◌<◌, ◌≤◌, List, [], ◌∷◌, ◌++◌, length, map, replicate, drop, Option, Some, None, refl, sym, ◌∙◌, ap, subst, arith, string_bytes, pos, Result, Ok, Err, String, Vec, option_map, slice_get, Global, bytes_eq, Bor}
 use Rattle.std.specs.List.{IsDistinct}
-use Rattle.std.specs.Str.{bytes_eq}
-use Rattle.std.specs.Borrow.{Bor}
 use Rattle.json.specs.Token.{Token}
 use Rattle.borsh_walks.specs.Container.{Shape, sequence as sequence_shape, product, tag, references}
 use Rattle.borsh_values.specs.Nodes.{packed_size, Opens, OpensElements, IsCountOf}
@@ -13,11 +9,12 @@ use Rattle.borsh_plan.specs.declared.named.Named.{Named}
 use Rattle.borsh_values.proofs.WalkedLaws.{read_count}
 use Rattle.borsh_json.specs.declared.error.WriteError.{WriteError}
 use Rattle.borsh_json.specs.declared.error.WriteError.TheVariants.{Refused}
-use Rattle.borsh_json.specs.declared.error.Refusal.TheVariants.{EmptyElements, RepeatedName}
+use Rattle.borsh_json.specs.declared.error.Refusal.{Refusal}
 use Rattle.borsh_json.specs.declared.kinds.Elements.{Elements as FoundElements}
 use Rattle.borsh_json.specs.declared.kinds.Entries.{Entries as FoundEntries}
+use Rattle.borsh_json.specs.declared.kinds.Flaw.{Flaw}
 use Rattle.borsh_json.specs.declared.kinds.Kind.{Kind as Found}
-use Rattle.borsh_json.specs.declared.kinds.Kind.TheVariants.{List as ListKind, Map as MapKind, Row as RowKind, Newtype as NewtypeKind, Object as ObjectKind, Repeated}
+use Rattle.borsh_json.specs.declared.kinds.Kind.TheVariants.{List as ListKind, Map as MapKind, Row as RowKind, Newtype as NewtypeKind, Object as ObjectKind, Refused as RefusedKind}
 use Rattle.borsh_json.specs.declared.order.Ordered.{Ordered}
 use Rattle.borsh_json.specs.declared.output.Output.{Output}
 use Rattle.borsh_json.specs.declared.position.Parts.{Parts}
@@ -29,13 +26,13 @@ use Rattle.borsh_json.specs.Frames.{Wanted, name_step}
 use Rattle.borsh_json.specs.InOrder.{element, place}
 use Rattle.borsh_json.specs.Inside.{LeadTo}
 use Rattle.borsh_json.specs.Leaves.{IsOpenedAs, RefusesValue, long_of}
-use Rattle.borsh_json.specs.NoJson.{IsNoJson}
-use Rattle.borsh_json.specs.Places.{IsAt, IsUnsayable, IsListOf, IsKindOf, lengths_of}
-use Rattle.borsh_json.specs.Table.{Lengths, list, entries, row, inner, fields, RepeatsName}
+use Rattle.borsh_json.specs.NoJson.{IsAbout, IsNoJson}
+use Rattle.borsh_json.specs.Places.{IsAt, IsUnsayable, IsKindOf, IsRefusalOf, lengths_of}
+use Rattle.borsh_json.specs.Table.{Lengths, list, entries, row, inner, fields}
 use Rattle.borsh_json.specs.Writes.{Rest, items_rest, members_rest, value_rest, entries_rest, names_of_rest, IsFront, BeginsAt, AreCalled, begins_of, IsRestOf, IsRest, WritesValue, WritesStruct, ArePartsOf}
 use Rattle.borsh_json.proofs.FormKinds.{form_known}
 use Rattle.borsh_json.proofs.FrontLaws.{copies, front_written, row_front, newtype_front, object_front, list_front, map_front}
-use Rattle.borsh_json.proofs.OpeningLaws.{second_map, second_copies}
+use Rattle.borsh_json.proofs.OpeningLaws.{flaw_refuses, second_map, second_copies}
 use Rattle.borsh_json.proofs.PartsLaws.{names_of}
 use Rattle.borsh_json.proofs.ReaderLaws.{uncons}
 
@@ -66,12 +63,12 @@ field_leads fs i l = let h = there fs i l in (h.0, h.1, ap (λ k. name_step (sli
 
 module _ (F : List ℕ → Option Form) (ns : List Named) (x : List ℕ) (f : Form) where
   -- no JSON says a value of a name that none can be said of
-  pub none_says : (own : List ℕ) → IsUnsayable F ns x → IsNoJson F x own
+  none_says : (own : List ℕ) → IsUnsayable F x → IsNoJson F x own
   none_says own u j ps bs b = let s = uncons F b in let k = s.4 in u k.0 j s.0 s.1 k.1 k.2
 
-  -- a name comes twice
-  pub name_refused : (name : Bor (List ℕ)) (text : String Global) → IsKindOf F ns x f (Repeated name) → string_bytes text ≡ name.now → RefusesValue F x [] (Refused (RepeatedName text))
-  name_refused name text k e = (subst (λ n. RepeatsName F x n) (sym e) k.1, none_says [] k.0)
+  -- whose values have no JSON, for a flaw of their definition
+  pub flaw_refused : (flaw : Flaw) (refusal : Refusal) → IsKindOf F ns x f (RefusedKind flaw) → IsRefusalOf flaw refusal → RefusesValue F x [] (Refused refusal)
+  flaw_refused flaw refusal k e = (flaw_refuses F x (λ r. IsAbout F r x) (λ text n. n) (λ n. n) flaw refusal k.1 e, none_says [] k.0)
 
   new_place : (parts : Parts) (p : Place) (r : Rest) → p.parts ≡ parts → p.begun ≡ 0 → p.last ≡ None → IsRestOf F ns parts 0 None r → IsRest F ns p r
   new_place parts p r a b c i =
@@ -80,15 +77,15 @@ module _ (F : List ℕ → Option Form) (ns : List Named) (x : List ℕ) (f : Fo
       (subst (λ (l : Option EntryKey). IsRestOf F ns parts 0 l r) (sym c) i))
 
   -- the bracket of a place was written, or there was no memory for it
-  pub value_begun : (kind : Found) (own : List ℕ) (parts : Parts) (r : Rest) (old new : Output) (result : Result (Option Place) WriteError) → ((es : FoundEntries) (n : ℕ) → parts ≡ MapEntries es n → (order : Ordered) × (kind ≡ MapKind es order)) → ((es : FoundElements) → kind ≡ ListKind es → es.is_refused ≡ false) → IsRestOf F ns parts 0 None r → IsFront F (long_of old) x own r (begins_of parts) → Opens (shapes F) (shape_of_form f) own (names_of_rest r) → AreCalled f own parts (names_of_rest r) → BeginsAt parts old new result → WritesValue F ns kind x f own old new result
-  value_begun kind own parts r old new (Ok None) m l i w o a b = absurd b
-  value_begun kind own parts r old new (Ok (Some p)) m l i w o a b = (r, new_place parts p r b.0 b.1 b.2 i, front_written F x own r (begins_of parts) old new w b.3, o, (b.4, b.2, (λ es n e. m es n (sym b.0 ∙ e)), l, b.1), subst (λ (q : Parts). AreCalled f own q (names_of_rest r)) (sym b.0) a)
-  value_begun kind own parts r old new (Err e) m l i w o a b = subst (λ (e : WriteError). RefusesValue F x own e) (sym b) tt
+  pub value_begun : (kind : Found) (own : List ℕ) (parts : Parts) (r : Rest) (old new : Output) (result : Result (Option Place) WriteError) → ((es : FoundEntries) (n : ℕ) → parts ≡ MapEntries es n → (order : Ordered) × (kind ≡ MapKind es order)) → IsRestOf F ns parts 0 None r → IsFront F (long_of old) x own r (begins_of parts) → Opens (shapes F) (shape_of_form f) own (names_of_rest r) → AreCalled f own parts (names_of_rest r) → BeginsAt parts old new result → WritesValue F ns kind x f own old new result
+  value_begun kind own parts r old new (Ok None) m i w o a b = absurd b
+  value_begun kind own parts r old new (Ok (Some p)) m i w o a b = (r, new_place parts p r b.0 b.1 b.2 i, front_written F x own r (begins_of parts) old new w b.3, o, (b.4, b.2, (λ es n e. m es n (sym b.0 ∙ e)), b.1), subst (λ (q : Parts). AreCalled f own q (names_of_rest r)) (sym b.0) a)
+  value_begun kind own parts r old new (Err e) m i w o a b = subst (λ (e : WriteError). RefusesValue F x own e) (sym b) tt
 
-  struct_begun : (kind : Found) (parts : Parts) (r : Rest) (old new : Output) (result : Result (Option Place) WriteError) → ((es : FoundEntries) (n : ℕ) → parts ≡ MapEntries es n → ⊥) → ((es : FoundElements) → kind ≡ ListKind es → ⊥) → IsRestOf F ns parts 0 None r → IsFront F (long_of old) x [] r (begins_of parts) → shape_of_form f ≡ product (names_of_rest r) → AreCalled f [] parts (names_of_rest r) → BeginsAt parts old new result → WritesStruct F ns x f kind old new result
-  struct_begun kind parts r old new (Ok None) m l i w s a b = absurd b
-  struct_begun kind parts r old new (Ok (Some p)) m l i w s a b = (r, new_place parts p r b.0 b.1 b.2 i, front_written F x [] r (begins_of parts) old new w b.3, s, (b.4, b.2, (λ es n e. absurd (m es n (sym b.0 ∙ e))), (λ es e. absurd (l es e)), b.1), subst (λ (q : Parts). AreCalled f [] q (names_of_rest r)) (sym b.0) a)
-  struct_begun kind parts r old new (Err e) m l i w s a b = subst (λ (e : WriteError). RefusesValue F x [] e) (sym b) tt
+  struct_begun : (kind : Found) (parts : Parts) (r : Rest) (old new : Output) (result : Result (Option Place) WriteError) → ((es : FoundEntries) (n : ℕ) → parts ≡ MapEntries es n → ⊥) → IsRestOf F ns parts 0 None r → IsFront F (long_of old) x [] r (begins_of parts) → shape_of_form f ≡ product (names_of_rest r) → AreCalled f [] parts (names_of_rest r) → BeginsAt parts old new result → WritesStruct F ns x f kind old new result
+  struct_begun kind parts r old new (Ok None) m i w s a b = absurd b
+  struct_begun kind parts r old new (Ok (Some p)) m i w s a b = (r, new_place parts p r b.0 b.1 b.2 i, front_written F x [] r (begins_of parts) old new w b.3, s, (b.4, b.2, (λ es n e. absurd (m es n (sym b.0 ∙ e))), b.1), subst (λ (q : Parts). AreCalled f [] q (names_of_rest r)) (sym b.0) a)
+  struct_begun kind parts r old new (Err e) m i w s a b = subst (λ (e : WriteError). RefusesValue F x [] e) (sym b) tt
 
   -- ---- structs and tuples
   module _ (at : ℕ) (i : IsAt ns at x) (d : F x ≡ Some f) (old new : Output) (result : Result (Option Place) WriteError) where
@@ -98,7 +95,7 @@ module _ (F : List ℕ → Option Form) (ns : List Named) (x : List ℕ) (f : Fo
         let r = items_rest (map (λ (w : Wanted). w.1) (map (λ y. ([], y)) refs)) in
         let same = second_map refs in
         let t = form_known F (row refs) f k.0 d (λ e. cc) in
-        struct_begun (RowKind n) (Row at n) r old new result (λ es n e. cc) (λ es e. cc)
+        struct_begun (RowKind n) (Row at n) r old new result (λ es n e. cc)
         (map (λ y. ([], y)) refs, (x, f, i, d, k.1, refl), refl)
         (subst (λ (xs : List (List ℕ)). IsFront F (long_of old) x [] (items_rest xs) (Token.begin_array ∷ [])) (sym same) (row_front F x [] refs k.0 refl))
         (row_shape f refs t ∙ ap product (sym same)) (λ i z. row_leads f refs [] i t) b
@@ -106,7 +103,7 @@ module _ (F : List ℕ → Option Form) (ns : List Named) (x : List ℕ) (f : Fo
     newtype_begun : (p : ℕ) → IsKindOf F ns x f (NewtypeKind p) → BeginsAt (Newtype p) old new result → WritesStruct F ns x f (NewtypeKind p) old new result
     newtype_begun p k b =
         let t = form_known F (inner k.0) f k.2 d (λ e. cc) in
-        struct_begun (NewtypeKind p) (Newtype p) (value_rest (k.0 ∷ [])) old new result (λ es n e. cc) (λ es e. cc)
+        struct_begun (NewtypeKind p) (Newtype p) (value_rest (k.0 ∷ [])) old new result (λ es n e. cc)
         (([], k.0) ∷ [], (k.0, k.1, refl), refl)
         (newtype_front F x [] k.0 k.2 refl)
         (ap shape_of_form t) (λ i z. subst (λ (f : Form). LeadTo f [] i (place (suc i - 1) ∷ [])) (sym t) (ap (λ n. place n ∷ []) (taken i))) b
@@ -116,7 +113,7 @@ module _ (F : List ℕ → Option Form) (ns : List Named) (x : List ℕ) (f : Fo
         let all : List Wanted = map field_bytes fs.now.items in
         let g = form_known F (fields all) f k.0 d (λ e. cc) in
         let u = subst (λ (l : List (List ℕ)). IsDistinct bytes_eq l) (sym (names_of (λ (f : String Global × String Global). string_bytes f.0) (λ f. string_bytes f.1) fs.now.items)) k.1 in
-        struct_begun (ObjectKind fs) (Object at fs) (members_rest all) old new result (λ es n e. cc) (λ es e. cc)
+        struct_begun (ObjectKind fs) (Object at fs) (members_rest all) old new result (λ es n e. cc)
         (all, (x, i, d ∙ ap (λ f. Some f) g, refl), refl)
         (object_front F x [] all k.0 u refl)
         (ap shape_of_form g) (λ i z. subst (λ (f : Form). LeadTo f [] i (name_step (slice_get all (suc i - 1)))) (sym g) (field_leads all i z)) b
@@ -143,21 +140,17 @@ module _ (F : List ℕ → Option Form) (ns : List Named) (x : List ℕ) (f : Fo
         let u = subst (λ (n : ℕ). OpensElements n e t.0 (drop l.width own) parts) z t.5 in
         (t.0, t.1, t.2, t.3, t.4 ∙ ap (λ bs. tag l.width (pos t.0) ++ bs) u.0, subst (λ (ps : List (List ℕ)). Opens (shapes F) (shape_of_form f) own ps) u.1 o.1)
 
-    pub list_begun : (es : FoundElements) (count : ℕ) (found : Option ℕ) (old new : Output) (result : Result (Option Place) WriteError) → IsKindOf F ns x f (ListKind es) → es.is_refused ≡ false → IsCountOf (shape_of_form f) own found → ((k : ℕ) → found ≡ Some k → count ≡ k) → BeginsAt (Elements es.at count) old new result → WritesValue F ns (ListKind es) x f own old new result
-    list_begun es count found old new result k off c same b =
+    pub list_begun : (es : FoundElements) (count : ℕ) (found : Option ℕ) (old new : Output) (result : Result (Option Place) WriteError) → IsKindOf F ns x f (ListKind es) → IsCountOf (shape_of_form f) own found → ((k : ℕ) → found ≡ Some k → count ≡ k) → BeginsAt (Elements es.at count) old new result → WritesValue F ns (ListKind es) x f own old new result
+    list_begun es count found old new result k c same b =
         let l = lengths_of f in
-        let t = subst (λ (r : Bool). IsListOf F ns x f es.at r) off k.0 in
-        let e = t.0 in
-        let g = form_known F (list l e) f t.2 o.0 (λ e. cc) in
-        let m = counted l e found g (k.1 off e t.1) c in
+        let e = k.0.0 in
+        let g = form_known F (list l e) f k.0.2 o.0 (λ e. cc) in
+        let m = counted l e found g (k.1 e k.0.1) c in
         let copies : map (λ (w : Wanted). w.1) (replicate count ([], e)) ≡ replicate m.0 e = second_copies count e ∙ ap (λ (i : ℕ). replicate i e) (same m.0 m.1) in
         let none : count ≡ count - 0 = omega arith in
-        value_begun (ListKind es) own (Elements es.at count) (items_rest (replicate m.0 e)) old new result (λ es n e. cc) (λ fs q. (let s : fs ≡ es = cc in subst (λ (es : FoundElements). es.is_refused ≡ false) (sym s) off))
-        (replicate count ([], e), (e, t.1, ap (λ (i : ℕ). replicate i ([], e)) none), ap items_rest (sym copies))
-        (list_front F x own l e m.0 t.2 m.2 m.3 m.4) m.5 (λ i z. element_leads f own l e i g) b
-
-    pub list_refused : (es : FoundElements) (old new : Output) → IsKindOf F ns x f (ListKind es) → es.is_refused ≡ true → WritesValue F ns (ListKind es) x f own old new (Err (Refused EmptyElements))
-    list_refused es old new k on = let r = subst (λ (r : Bool). IsListOf F ns x f es.at r) on k.0 in (r.1, none_says own r.0)
+        value_begun (ListKind es) own (Elements es.at count) (items_rest (replicate m.0 e)) old new result (λ es n e. cc)
+        (replicate count ([], e), (e, k.0.1, ap (λ (i : ℕ). replicate i ([], e)) none), ap items_rest (sym copies))
+        (list_front F x own l e m.0 k.0.2 m.2 m.3 m.4) m.5 (λ i z. element_leads f own l e i g) b
 
     pub map_begun : (es : FoundEntries) (order : Ordered) (count : ℕ) (found : Option ℕ) (old new : Output) (result : Result (Option Place) WriteError) → IsKindOf F ns x f (MapKind es order) → IsCountOf (shape_of_form f) own found → ((k : ℕ) → found ≡ Some k → count ≡ k) → BeginsAt (MapEntries es count) old new result → WritesValue F ns (MapKind es order) x f own old new result
     map_begun es order count found old new result h c same b =
@@ -171,6 +164,6 @@ module _ (F : List ℕ → Option Form) (ns : List Named) (x : List ℕ) (f : Fo
         let ws : List Wanted = replicate count ([], v) in
         let many : length ws ≡ m.0 = copies count ([], v) ∙ same m.0 m.1 in
         let none : count ≡ count - 0 = omega arith in
-        value_begun (MapKind es order) own (MapEntries es count) (entries_rest keys k v g.0 m.0 None) old new result (λ fs n e. (let q : es ≡ fs = cc in (order, ap (λ es. MapKind es order) q))) (λ es e. cc)
+        value_begun (MapKind es order) own (MapEntries es count) (entries_rest keys k v g.0 m.0 None) old new result (λ fs n e. (let q : es ≡ fs = cc in (order, ap (λ es. MapKind es order) q)))
         (k, v, g.0, keys, None, ws, h.3, h.4, g.2, h.6, refl, (v, h.4, ap (λ (i : ℕ). replicate i ([], v)) none), ap (λ (i : ℕ). entries_rest keys k v g.0 i None) (sym many))
         (map_front F x own l keys k v g.0 m.0 h.5 m.2 m.3 m.4) m.5 (λ i z. element_leads f own l g.0 i g.1) b

@@ -1,9 +1,7 @@
 -- Sets of bytes as digits, of which two neighbours don't ascend; and sets and maps as arrays, which have to ascend.
-use Rattle.std.proofs.Common.{◌≡◌, inl, inr, ℕ, suc, ◌<◌, ◌≤◌, ◌*◌, ◌%◌, ◌^◌, List, [], ◌∷◌, ◌++◌, length, append-nil, false, Option, Some, None, OnOk, refl, sym, ◌∙◌, ap, subst, arith}
-use Rattle.std.specs.Prelude.{ℤ, ◌<ℤ◌, pos, negsuc, codes, Result, Ok, Err, All, MatchOption}
+use Rattle.std.proofs.Common.{◌≡◌, inl, inr, ℕ, suc, ◌<◌, ◌≤◌, ◌*◌, ◌%◌, ◌^◌, List, [], ◌∷◌, ◌++◌, length, append-nil, false, Option, Some, None, OnOk, refl, sym, ◌∙◌, ap, subst, arith, ℤ, ◌<ℤ◌, pos, negsuc, Result, Ok, Err, All, MatchOption, Less, Equal, Greater}
 use Rattle.std.specs.Cmp.{int_cmp_is, int_ranks}
 use Rattle.std.specs.Ordering.{int_cmp, MatchOrdering}
-use Rattle.std.specs.declared.cmp.Ordering.TheVariants.{Less, Equal, Greater}
 use Rattle.std.proofs.lemmas.Bool.{cases_lt}
 use Rattle.std.proofs.lemmas.Int.{ints}
 use Rattle.hex.proofs.HexLemmas.{decode_of-ok}
@@ -13,7 +11,7 @@ use Rattle.borsh_values.proofs.Bytes.{small_bytes}
 use Rattle.borsh_values.proofs.MemberLaws.{same_front}
 use Rattle.borsh_plan.specs.declared.named.Named.{Named}
 use Rattle.borsh_json.specs.declared.error.ReadError.{ReadError}
-use Rattle.borsh_json.specs.declared.error.ReadError.TheVariants.{OutOfMemory, Refused, Descends as DescendsAt}
+use Rattle.borsh_json.specs.declared.error.ReadError.TheVariants.{Descends as DescendsAt}
 use Rattle.borsh_json.specs.declared.kinds.Elements.{Elements}
 use Rattle.borsh_json.specs.declared.order.Ascent.{Ascent}
 use Rattle.borsh_json.specs.declared.order.Ordered.{Ordered}
@@ -48,10 +46,8 @@ if_ok (Ok a) p = p
 if_ok (Err e) p = tt
 
 pub adds_or : {A : Type 0} (es : Elements) (l : Lengths) (bs old new : List ℕ) (r : Result A ReadError) → AddsList l bs old new r → AddsOrFalls es l bs old new r
-adds_or es l bs old new (Ok a) h = h
-adds_or es l bs old new (Err OutOfMemory) h = h
-adds_or es l bs old new (Err (Refused r)) h = h
 adds_or es l bs old new (Err (DescendsAt i)) h = absurd h
+adds_or es l bs old new e h = h
 
 -- ---- bytes
 -- a byte is ordered as a number without a sign

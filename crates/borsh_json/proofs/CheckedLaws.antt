@@ -1,5 +1,5 @@
 -- Bytes whose sets and maps ascend, as the writer goes through them.
-use Rattle.std.proofs.Common.{◌≡◌, inl, inr, ℕ, suc, zero, List, [], ◌∷◌, ◌++◌, length, map, replicate, drop, Bool, false, Option, Some, None, refl, sym, ◌∙◌, ap, subst}
+use Rattle.std.proofs.Common.{◌≡◌, inl, inr, ℕ, suc, zero, List, [], ◌∷◌, ◌++◌, length, map, replicate, drop, Option, Some, None, refl, sym, ◌∙◌, ap, subst}
 use Rattle.std.specs.Prelude.{IfSome, MatchOption, option_map}
 use Rattle.borsh_walks.specs.Container.{Shape, sequence as sequence_shape, product, IsIn, first, later}
 use Rattle.borsh_plan.specs.declared.named.Named.{Named}
@@ -8,7 +8,7 @@ use Rattle.borsh_values.specs.Cursor.{OpensOnce}
 use Rattle.borsh_json.specs.declared.definitions.Definitions.{Definitions}
 use Rattle.borsh_json.specs.declared.kinds.Elements.{Elements as FoundElements}
 use Rattle.borsh_json.specs.declared.kinds.Kind.{Kind as Found}
-use Rattle.borsh_json.specs.declared.kinds.Kind.TheVariants.{Number, Bool as Truth, Text, Bytes, Float, ByteList, Numbers, List as ListKind, Map, Row as RowKind, Newtype as NewtypeKind, Object as ObjectKind, Optional, Choice, Repeated}
+use Rattle.borsh_json.specs.declared.kinds.Kind.TheVariants.{Number, Bool as Truth, Text, Bytes, Float, ByteList, Numbers, List as ListKind, Map, Row as RowKind, Newtype as NewtypeKind, Object as ObjectKind, Optional, Choice, Refused}
 use Rattle.borsh_json.specs.declared.order.Ordered.{Ordered}
 use Rattle.borsh_json.specs.declared.position.Parts.{Parts}
 use Rattle.borsh_json.specs.declared.position.Parts.TheVariants.{Root}
@@ -19,7 +19,7 @@ use Rattle.borsh_json.specs.Frames.{IsListKind}
 use Rattle.borsh_json.specs.Ordered.{a_value, IsAtLeast}
 use Rattle.borsh_json.specs.Orders.{ArePrimitives, HasKeyOrder, KindHasOrder, KindTellsOrder, OrderedBy}
 use Rattle.borsh_json.specs.Descents.{HasKeys, PrimitivesDescend}
-use Rattle.borsh_json.specs.Places.{IsKindOf, IsListOf, lengths_of}
+use Rattle.borsh_json.specs.Places.{IsKindOf, lengths_of}
 use Rattle.borsh_json.specs.Table.{Lengths, Kind, truth, whole, float, raw, utf8, byte_list, list, optional, variants, entries, HasKind}
 use Rattle.borsh_json.specs.Writes.{HasNode, Mark, Rest, value_rest, names_of_rest, one_more, AreOwed, none_owed, names_owed, elements_owed, IsCheckedTo, NoneFallsIn}
 use Rattle.borsh_json.proofs.FallLaws.{byte_there, positive}
@@ -184,7 +184,7 @@ module _ (d : Definitions) (x : List ℕ) (f : Form) (own : List ℕ) (parts : L
         )
 
     pub value_due : (kind : Found) (o : Option Ordered) → HasNode kind → IsKindOf F ns x f kind → KindHasOrder F ns x kind → KindTellsOrder F x kind
-        → ((es : FoundElements) → kind ≡ ByteList es → NoneFallsIn es f own) → ((es : FoundElements) → kind ≡ Numbers es → NoneFallsIn es f own) → ((es : FoundElements) → kind ≡ ListKind es → (es.is_refused ≡ false) × (o ≡ es.order)) → IsDueIn o
+        → ((es : FoundElements) → kind ≡ ByteList es → NoneFallsIn es f own) → ((es : FoundElements) → kind ≡ Numbers es → NoneFallsIn es f own) → ((es : FoundElements) → kind ≡ ListKind es → o ≡ es.order) → IsDueIn o
     value_due (Number n) o has k h t b c l = other_due o (whole n.size n.is_signed n.is_non_zero) k (λ l e q. cc) (λ l e q. cc)
     value_due Truth o has k h t b c l = other_due o truth k (λ l e q. cc) (λ l e q. cc)
     value_due Text o has k h t b c l = other_due o (utf8 (lengths_of f)) k (λ l e q. cc) (λ l e q. cc)
@@ -196,23 +196,17 @@ module _ (d : Definitions) (x : List ℕ) (f : Form) (own : List ℕ) (parts : L
         numbers_due o es 0 l.width l.least l.greatest k.0 s.0 (byte_there F x l k.0 k.2) h.0 h.1 (λ q kind g z. t q) (b es refl)
     value_due (Numbers es) o has k h t b c l =
         let l = lengths_of f in
-        let u = subst (λ (r : Bool). IsListOf F ns x f es.at r) k.1 k.0 in
-        let n = positive es.size k.2 in
-        numbers_due o es n.0 l.width l.least l.greatest u.0 (form_known F (list l u.0) f u.2 there (λ e. cc)) (k.3 u.0 u.1 ∙ ap (λ n. Some (primitive_form n)) n.1) n.1 h (λ q kind g z. t q) (c es refl)
-    value_due (ListKind es) o has k h t b c l = by o (l es refl).1
+        let n = positive es.size k.1 in
+        numbers_due o es n.0 l.width l.least l.greatest k.0.0 (form_known F (list l k.0.0) f k.0.2 there (λ e. cc)) (k.2 k.0.0 k.0.1 ∙ ap (λ n. Some (primitive_form n)) n.1) n.1 h (λ q kind g z. t q) (c es refl)
+    value_due (ListKind es) o has k h t b c l = by o (l es refl)
       where
-        off : es.is_refused ≡ false
-        off = (l es refl).0
-
         by : (o : Option Ordered) → o ≡ es.order → IsDueIn o
-        by None q = free_due None (λ kind g z. t off (sym q))
-        by (Some found) q =
-            let u = subst (λ (r : Bool). IsListOf F ns x f es.at r) off k.0 in
-            elements_due found u.0 u.2 (k.1 off u.0 u.1) (subst (λ (o : Option Ordered). HasKeyOrder F ns x o) (sym q) h)
+        by None q = free_due None (λ kind g z. t (sym q))
+        by (Some found) q = elements_due found k.0.0 k.0.2 (k.1 k.0.0 k.0.1) (subst (λ (o : Option Ordered). HasKeyOrder F ns x o) (sym q) h)
     value_due (Map es order) o has k h t b c l = other_due o (entries (lengths_of f) k.2 k.0 k.1) k.5 (λ l e q. cc) (λ l e q. cc)
     value_due (RowKind n) o has k h t b c l = absurd has
     value_due (NewtypeKind at) o has k h t b c l = absurd has
     value_due (ObjectKind fs) o has k h t b c l = absurd has
     value_due (Optional at) o has k h t b c l = other_due o (optional k.0) k.2 (λ l e q. cc) (λ l e q. cc)
     value_due (Choice w vs) o has k h t b c l = other_due o (variants w _) k.0 (λ l e q. cc) (λ l e q. cc)
-    value_due (Repeated name) o has k h t b c l = absurd has
+    value_due (Refused flaw) o has k h t b c l = absurd has

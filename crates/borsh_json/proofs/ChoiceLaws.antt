@@ -1,11 +1,6 @@
 -- Options and variants of which the beginning was written.
-use Rattle.std.proofs.Common.{◌≡◌, ◌⊎◌, inl, inr, ℕ, suc, zero, ◌<◌, ◌≤◌, List, [], ◌∷◌, length, map, get_or, Option, Some, None, refl, sym, ◌∙◌, ap, subst, arith, string_bytes}
-use Rattle.std.specs.Prelude.{ℤ, pos, Result, slice_get, String, Vec, codes}
-use Rattle.std.specs.Borrow.{Bor}
-use Rattle.std.specs.Global.{Global}
+use Rattle.std.proofs.Common.{◌≡◌, ◌⊎◌, inl, inr, ℕ, suc, zero, ◌<◌, ◌≤◌, List, [], ◌∷◌, length, map, get_or, Option, Some, None, refl, sym, ◌∙◌, ap, subst, arith, string_bytes, ℤ, pos, Result, slice_get, String, Vec, codes, Bor, Global, unwrap_or, bytes_eq}
 use Rattle.std.specs.List.{IsDistinct}
-use Rattle.std.specs.Option.{unwrap_or}
-use Rattle.std.specs.Str.{bytes_eq}
 use Rattle.json.specs.Json.{null, string}
 use Rattle.borsh_walks.specs.Container.{Shape, choice as choice_shape, tag, references, IsIn, first, later}
 use Rattle.borsh_values.specs.Nodes.{Opens, IsVariantOf}
@@ -104,7 +99,7 @@ module _ (F : List ℕ → Option Form) (ns : List Named) (x : List ℕ) (f : Fo
     pub some_begun : (old new : Output) (result : Result (Option Place) WriteError) → (index ≡ 0 → ⊥) → BeginsAt (Present at) old new result → WritesValue F ns (OptionKind at) x f own old new result
     some_begun old new result n b = elim (option_found k.0 k.2 found v) [
       | inl a ↦ absurd (n (q ∙ ap (λ o. unwrap_or o most) a.0))
-      | inr a ↦ value_begun F ns x f (OptionKind at) own (Present at) (value_rest (k.0 ∷ [])) old new result (λ es n e. cc) (λ es e. cc) (([], k.0) ∷ [], (k.0, k.1, refl), refl) (some_front F x own k.0 k.2 a.1) a.2 (λ i z. some_leads k.0 k.2 a.1 i) b
+      | inr a ↦ value_begun F ns x f (OptionKind at) own (Present at) (value_rest (k.0 ∷ [])) old new result (λ es n e. cc) (([], k.0) ∷ [], (k.0, k.1, refl), refl) (some_front F x own k.0 k.2 a.1) a.2 (λ i z. some_leads k.0 k.2 a.1 i) b
     ]
 
   -- ---- variants
@@ -162,4 +157,4 @@ module _ (F : List ℕ → Option Form) (ns : List Named) (x : List ℕ) (f : Fo
       name_written old new z l = (l, string_bytes u.2 ∷ [], c.1, one_in F (string_bytes u.2) z, λ es e. cc)
 
       pub variant_begun : (name : Bor (List ℕ)) (at : ℕ) (old new : Output) (result : Result (Option Place) WriteError) → name.now ≡ string_bytes u.1 → IsAt ns at (string_bytes u.2) → (HasNoBytes F (string_bytes u.2) → ⊥) → BeginsAt (Variant name at) old new result → WritesValue F ns (ChoiceKind w vs) x f own old new result
-      variant_begun name at old new result n i z b = value_begun F ns x f (ChoiceKind w vs) own (Variant name at) (members_rest ((string_bytes u.1, string_bytes u.2) ∷ [])) old new result (λ es n e. cc) (λ es e. cc) (([], string_bytes u.2) ∷ [], (string_bytes u.2, i, refl), ap (λ s. members_rest ((s, string_bytes u.2) ∷ [])) (sym n)) (variant_front F x own w listed u.0 (string_bytes u.1) (string_bytes u.2) k.0 distinct c.2 z c.0) c.1 (λ i l. subst (λ (f : Form). LeadTo f own i (variant name.now ∷ [])) (sym (form_known F (variants w listed) f k.0 o.0 (λ e. cc))) (u.0, string_bytes u.1, string_bytes u.2, c.2, c.0, ap (λ v. variant v ∷ []) n)) b
+      variant_begun name at old new result n i z b = value_begun F ns x f (ChoiceKind w vs) own (Variant name at) (members_rest ((string_bytes u.1, string_bytes u.2) ∷ [])) old new result (λ es n e. cc) (([], string_bytes u.2) ∷ [], (string_bytes u.2, i, refl), ap (λ s. members_rest ((s, string_bytes u.2) ∷ [])) (sym n)) (variant_front F x own w listed u.0 (string_bytes u.1) (string_bytes u.2) k.0 distinct c.2 z c.0) c.1 (λ i l. subst (λ (f : Form). LeadTo f own i (variant name.now ∷ [])) (sym (form_known F (variants w listed) f k.0 o.0 (λ e. cc))) (u.0, string_bytes u.1, string_bytes u.2, c.2, c.0, ap (λ v. variant v ∷ []) n)) b

@@ -1,8 +1,7 @@
 -- The parts of a value whose order isn't told, as its own bytes say them.
-use Rattle.std.proofs.Common.{◌≡◌, ℕ, suc, zero, ◌≤◌, List, [], ◌∷◌, length, map, take, replicate, Option, Some, None, refl, sym, ◌∙◌, ap, subst}
-use Rattle.std.specs.Prelude.{ℤ, slice_get, string_bytes}
+use Rattle.std.proofs.Common.{◌≡◌, ℕ, suc, zero, ◌≤◌, List, [], ◌∷◌, length, map, take, replicate, Option, Some, None, refl, sym, ◌∙◌, ap, subst, ℤ, slice_get, string_bytes}
 use Rattle.std.proofs.Math.Seq.{take-length}
-use Rattle.borsh_walks.specs.Container.{Shape, sequence, product, choice, references, variant_names}
+use Rattle.borsh_walks.specs.Container.{sequence, product, choice, references, variant_names}
 use Rattle.borsh_walks.specs.declared.definition.Fields.{Fields}
 use Rattle.borsh_walks.specs.declared.definition.Fields.TheVariants.{NamedFields, UnnamedFields, Empty}
 use Rattle.borsh_plan.specs.declared.named.Named.{Named}

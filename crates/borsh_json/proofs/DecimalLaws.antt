@@ -1,10 +1,8 @@
 -- Texts without a zero in front are what their numbers print.
-use Rattle.std.proofs.Common.{◌≡◌, ◌⊎◌, inl, inr, ℕ, suc, zero, ◌+◌, ◌*◌, ◌/◌, ◌%◌, ◌<◌, ◌≤◌, ◌^◌, List, [], ◌∷◌, ◌++◌, drop, Bool, true, false, cond, eqb, refl, sym, ◌∙◌, ap, subst, arith, append_assoc}
-use Rattle.std.specs.Prelude.{ℤ, pos, negsuc, neg_ℤ, Option, Result, Ok, Err, MatchOption}
+use Rattle.std.proofs.Common.{◌≡◌, ◌⊎◌, inl, inr, ℕ, suc, zero, ◌+◌, ◌*◌, ◌/◌, ◌%◌, ◌<◌, ◌≤◌, ◌^◌, List, [], ◌∷◌, ◌++◌, drop, Bool, true, false, cond, eqb, refl, sym, ◌∙◌, ap, subst, arith, append_assoc, ℤ, pos, negsuc, neg_ℤ, Option, Result, Ok, Err, MatchOption, FitsSigned, append-nil}
 use Rattle.std.specs.Fmt.{decimal, signed_decimal}
 use Rattle.std.specs.Char.{digit_value}
 use Rattle.std.specs.Int.{w128}
-use Rattle.std.specs.Int.RustNames.{FitsSigned}
 use Rattle.std.specs.Result.{result_ok}
 use Rattle.std.specs.Str.Parse.{AllDigits, IsNumeral, digits_value, digits_value_after, signed_digits_value, without_leading_plus, without_leading_sign, ParsesUnsigned, ParsesSigned}
 use Rattle.std.proofs.lemmas.Fmt.{decimal_is_IsNumeral_wide, decimal_digit, decimal_step_wide, decimal_by_steps_wide, parse-decimal_wide}
@@ -36,11 +34,7 @@ after_more n [] = omega arith
 after_more n (c ∷ cs) = omega (arith, after_more (n * 10 + digit_value c) cs)
 
 after_is : (n : ℕ) (cs : List ℕ) → 0 < n → AllDigits 10 cs → digits_value_after 10 n cs < 10 ^ 64 → decimal (digits_value_after 10 n cs) ≡ decimal n ++ cs
-after_is n [] h d l = sym (end (decimal n))
-  where
-    end : (xs : List ℕ) → xs ++ [] ≡ xs
-    end [] = refl
-    end (x ∷ xs) = ap (λ l. x ∷ l) (end xs)
+after_is n [] h d l = sym (append-nil (decimal n))
 after_is n (c ∷ cs) h d l =
     let v = digit_value c in
     let m = n * 10 + v in

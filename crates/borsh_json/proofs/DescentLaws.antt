@@ -1,12 +1,8 @@
 -- Neighbours of a set or a map that don't ascend.
-use Rattle.std.proofs.Common.{◌≡◌, ◌⊎◌, inl, inr, ℕ, suc, zero, ◌+◌, ◌-◌, ◌*◌, ◌<◌, ◌≤◌, ◌^◌, List, [], ◌∷◌, ◌++◌, length, map, take, drop, Bool, Option, Some, refl, sym, ◌∙◌, ap, subst, arith, append_assoc, append-nil, length-append, length-drop, length-take-le, take-append-drop}
-use Rattle.std.specs.Prelude.{ℤ, pos, All, Decides, true, false}
-use Rattle.std.specs.Ordering.{nat_cmp, int_cmp}
+use Rattle.std.proofs.Common.{◌≡◌, ◌⊎◌, inl, inr, ℕ, suc, zero, ◌+◌, ◌-◌, ◌*◌, ◌<◌, ◌≤◌, ◌^◌, List, [], ◌∷◌, ◌++◌, length, map, take, drop, Bool, Option, Some, refl, sym, ◌∙◌, ap, subst, arith, append_assoc, append-nil, length-append, length-drop, length-take-le, take-append-drop, ℤ, pos, All, Decides, true, false, nat_cmp, int_cmp, Ordering, Less, Equal, Greater}
 use Rattle.std.specs.Cmp.Lexicographic.{slice_cmp}
-use Rattle.std.specs.declared.cmp.Ordering.{Ordering}
-use Rattle.std.specs.declared.cmp.Ordering.TheVariants.{Less, Equal, Greater}
 use Rattle.std.proofs.Math.Nat.{suc-mul, zero-mul, mul-le-mul_left, mul-le-mul_right}
-use Rattle.borsh_walks.specs.Container.{Member, of_primitive, Members, tag}
+use Rattle.borsh_walks.specs.Container.{of_primitive, tag}
 use Rattle.borsh_walks.specs.Container as shape
 use Rattle.borsh_values.proofs.MemberLaws.{copies_of, same_front}
 use Rattle.borsh_json.specs.Descents.{PrimitivesDescend, HasKeys, HasDescent}

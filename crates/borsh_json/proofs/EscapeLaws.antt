@@ -104,20 +104,11 @@ four a b c d f s e =
 
 begins_unit : (t s : List ℕ) → content after_u t ≡ Some s → Begins 4 t
 unfolding content
-begins_unit [] s e = not_found s e
-begins_unit (a ∷ []) s e = not_found s e
-begins_unit (a ∷ b ∷ []) s e = not_found s e
-begins_unit (a ∷ b ∷ c ∷ []) s e = not_found s e
 begins_unit (a ∷ b ∷ c ∷ d ∷ r) s e = (a ∷ b ∷ c ∷ d ∷ [], r, refl, four a b c d _ s e, refl)
+begins_unit n s e = not_found s e
 
 begins_pair : (h : ℕ) (t s : List ℕ) → content (after_high h) t ≡ Some s → Begins 6 t
 unfolding content
-begins_pair h [] s e = not_found s e
-begins_pair h (x ∷ []) s e = not_found s e
-begins_pair h (x ∷ u ∷ []) s e = not_found s e
-begins_pair h (x ∷ u ∷ a ∷ []) s e = not_found s e
-begins_pair h (x ∷ u ∷ a ∷ b ∷ []) s e = not_found s e
-begins_pair h (x ∷ u ∷ a ∷ b ∷ c ∷ []) s e = not_found s e
 begins_pair h (x ∷ u ∷ a ∷ b ∷ c ∷ d ∷ r) s e = by ((x == 92) && (u == 117)) refl e
   where
     by : (t : Bool) → ((x == 92) && (u == 117)) ≡ t
@@ -127,6 +118,7 @@ begins_pair h (x ∷ u ∷ a ∷ b ∷ c ∷ d ∷ r) s e = by ((x == 92) && (u 
         let p = and_parts (x == 92) (u == 117) g in
         let both : Printed (x ∷ u ∷ a ∷ b ∷ c ∷ d ∷ []) = and_from _ _ (ap is_printable (eqb-true x 92 p.0)) (and_from _ _ (ap is_printable (eqb-true u 117 p.1)) (four a b c d _ s e)) in
         (x ∷ u ∷ a ∷ b ∷ c ∷ d ∷ [], r, refl, both, refl)
+begins_pair h n s e = not_found s e
 
 -- ---- the lexemes of JSON are good
 

@@ -1,10 +1,7 @@
 -- Two neighbours that don't ascend, where the writer is.
-use Rattle.std.proofs.Common.{◌≡◌, inr, ℕ, suc, zero, ◌+◌, ◌<◌, ◌≤◌, List, [], ◌∷◌, ◌++◌, length, replicate, drop, Option, Some, None, refl, sym, ◌∙◌, ap, subst, arith, append_assoc, append-nil, length-append}
+use Rattle.std.proofs.Common.{◌≡◌, inr, ℕ, suc, zero, ◌+◌, ◌<◌, ◌≤◌, List, [], ◌∷◌, ◌++◌, length, replicate, drop, Option, Some, None, refl, sym, ◌∙◌, ap, subst, arith, append_assoc, append-nil, length-append, pos, Bool, true, false, Decides, Result, Ok, Err, IfErr, IfOk, OnOk, MatchBool, MatchOption}
 use Rattle.std.proofs.Math.Seq.{drop-append_seam}
-use Rattle.std.specs.Prelude.{pos, option_map, Bool, true, false, Decides, Result, Ok, Err, IfErr, IfOk, OnOk, MatchBool, MatchOption}
-use Rattle.std.specs.declared.cmp.Ordering.TheVariants.{Less}
-use Rattle.json.specs.Json.{null}
-use Rattle.borsh_walks.specs.Container.{Shape, primitive, sequence, product, choice, tag, Member, Members, more_members}
+use Rattle.borsh_walks.specs.Container.{Shape, primitive, sequence, product, choice, tag, Member, Members}
 use Rattle.borsh_plan.specs.Plan.{root_of}
 use Rattle.borsh_values.specs.Nodes.{packed_size, Opens, OpensElements, AreElementsOf}
 use Rattle.borsh_json.specs.declared.definitions.Definitions.{Definitions}
@@ -33,10 +30,10 @@ use Rattle.borsh_json.specs.InOrder.{Step, element as element_step}
 use Rattle.borsh_json.specs.Inside.{LeadTo}
 use Rattle.borsh_json.specs.Leaves.{IsOpenedAs}
 use Rattle.borsh_json.specs.Orders.{KeysAscend, HasKeyOrder, OrderedBy, KindHasOrder, IsNotBelow, ArePrimitives}
-use Rattle.borsh_json.specs.Places.{IsAt, AreKeysOf, IsKindOf, IsListOf, lengths_of}
+use Rattle.borsh_json.specs.Places.{IsAt, AreKeysOf, IsKindOf, lengths_of}
 use Rattle.borsh_json.specs.Represents.{SaysFirst}
-use Rattle.borsh_json.specs.Table.{Lengths, Keys, byte_list, list, entries, AreKeys, HasKind, key_json, key_order}
-use Rattle.borsh_json.specs.Writes.{IsFullOrFalls, TellsAscent, names_of_rest, names_of_all, opened, steps_to, Nested, IsLast, IsAbove, IsMapOf, IsLastKey, IsWritingAt, NoneFallsIn}
+use Rattle.borsh_json.specs.Table.{Lengths, Keys, byte_list, list, entries, AreKeys, HasKind, key_json}
+use Rattle.borsh_json.specs.Writes.{IsFullOrFalls, TellsAscent, names_of_rest, opened, steps_to, Nested, IsLast, IsAbove, IsMapOf, IsLastKey, IsWritingAt, NoneFallsIn}
 use Rattle.borsh_json.proofs.FormKinds.{form_found, form_known}
 use Rattle.borsh_json.proofs.NestedLaws.{IsLastPart, last_part}
 use Rattle.borsh_json.proofs.KeyRanks.{keys_at_least}
@@ -223,10 +220,9 @@ module _ (F : List ℕ → Option Form) (ns : List Named) (x own after bytes : L
     pub numbers_falls : (error : PartError) → IsKindOf F ns x f (Numbers es) → KindHasOrder F ns x (Numbers es) → IsOf Descends error → IsElementFall root steps es bytes error → IsFullOrFalls root steps depth (HasDescent F x (own ++ after)) error
     numbers_falls error k h d g =
         let l = lengths_of f in
-        let t = subst (λ (r : Bool). IsListOf F ns x f es.at r) k.1 k.0 in
-        let s = form_known F (list l t.0) f t.2 o.0 (λ e. cc) in
-        let n = positive es.size k.2 in
-        list_falls n.0 l.width l.least l.greatest t.0 error h s (k.3 t.0 t.1 ∙ ap (λ n. Some (primitive_form n)) n.1) n.1 d g
+        let s = form_known F (list l k.0.0) f k.0.2 o.0 (λ e. cc) in
+        let n = positive es.size k.1 in
+        list_falls n.0 l.width l.least l.greatest k.0.0 error h s (k.2 k.0.0 k.0.1 ∙ ap (λ n. Some (primitive_form n)) n.1) n.1 d g
 
 -- elements that don't fall are those in the own bytes
 elements_one : (s : Shape) (own cs bs : List ℕ) → AreElementsOf s own cs → AreElementsOf s own bs → cs ≡ bs

@@ -1,11 +1,6 @@
 -- Whether one primitive isn't below another.
-use Rattle.std.proofs.Common.{◌≡◌, ◌⊎◌, inl, inr, ℕ, suc, zero, ◌<◌, List, [], ◌∷◌, ◌++◌, length, Bool, true, false, Option, Some, refl, sym, ◌∙◌, ap, subst, arith, append-nil}
-use Rattle.std.specs.Prelude.{ℤ, All, Decides}
-use Rattle.std.specs.Ordering.{int_cmp, is_lt}
-use Rattle.std.specs.Str.{bytes_eq}
+use Rattle.std.proofs.Common.{◌≡◌, inl, inr, ℕ, suc, ◌<◌, List, [], ◌∷◌, length, Bool, true, false, Option, Some, refl, sym, ◌∙◌, subst, arith, append-nil, ℤ, Decides, int_cmp, is_lt, bytes_eq, Ordering, Less, Equal, Greater}
 use Rattle.std.proofs.lemmas.Slice.Eq.{bytes_eq-Decides}
-use Rattle.std.specs.declared.cmp.Ordering.{Ordering}
-use Rattle.std.specs.declared.cmp.Ordering.TheVariants.{Less, Equal, Greater}
 use Rattle.borsh_walks.specs.Container.{tag}
 use Rattle.borsh_plan.specs.declared.named.Named.{Named}
 use Rattle.borsh_values.proofs.MemberLaws.{same_front}
@@ -17,7 +12,7 @@ use Rattle.borsh_json.specs.Orders.{FindsOrder, IsOrderOf, DecidesFall}
 use Rattle.borsh_json.specs.Table.{InRange}
 use Rattle.borsh_json.proofs.DescentLaws.{packed_order}
 use Rattle.borsh_json.proofs.FoundLaws.{full_primitive}
-use Rattle.borsh_json.proofs.OrderLaws.{clash, Tells, numbers_tell, other_copy, node_tells, differ_tells}
+use Rattle.borsh_json.proofs.OrderLaws.{Tells, numbers_tell, other_copy, node_tells, differ_tells}
 
 -- a number that was found
 number_of_order : (F : List ℕ → Option Form) (e : List ℕ) (k n : ℕ) (signed : Bool) → HasOrder F e (numbers k signed) → F e ≡ Some (primitive n) → k ≡ n

@@ -1,10 +1,6 @@
 -- Fields that come in their order.
-use Rattle.std.proofs.Common.{◌≡◌, ℕ, suc, List, [], ◌∷◌, ◌++◌, length, map, Bool, true, false, Some, None, refl, sym, ◌∙◌, ap, subst, arith, append_assoc, append-nil, string_bytes}
-use Rattle.std.specs.Prelude.{cond, String}
-use Rattle.std.specs.Global.{Global}
-use Rattle.std.specs.Str.{bytes_eq}
+use Rattle.std.proofs.Common.{◌≡◌, ℕ, suc, List, [], ◌∷◌, ◌++◌, length, map, Bool, true, false, Some, None, refl, sym, ◌∙◌, ap, subst, arith, append_assoc, append-nil, string_bytes, cond, String, Global, bytes_eq, Bor}
 use Rattle.std.specs.List.{AllByRecursion, IsDistinct}
-use Rattle.std.specs.Borrow.{Bor}
 use Rattle.std.proofs.lemmas.Map.Keys.{IsDistinct-head, IsDistinct-tail}
 use Rattle.std.proofs.lemmas.Slice.Eq.{bytes_eq-Decides}
 use Rattle.json.specs.Token.{Token}
@@ -15,6 +11,7 @@ use Rattle.borsh_json.specs.Frames.{Wanted, AreNext, HasFields}
 use Rattle.borsh_json.specs.Table.{Entry, entries_of}
 use Rattle.borsh_json.proofs.FrameLaws.{length_map}
 use Rattle.borsh_json.proofs.PartsLaws.{names_of}
+use Rattle.borsh_json.proofs.ReaderLaws.{object_one}
 
 abbrev pub keys_of : Members → List (List ℕ)
 keys_of ms = map (λ (e : Entry). e.0) (entries_of ms)
@@ -30,9 +27,6 @@ pub past_more : (ms : Members) (ts new : List Token) (past next : List (List ℕ
 past_more ms ts new past next key name e v q n p =
     let t = v p.0 p.1 in
     (t.1, t.4, p.2 ∙ ap (λ ms. past ++ keys_of ms) t.2 ∙ sym (append_assoc past (key ∷ []) (keys_of t.1)) ∙ ap (λ l. l ++ keys_of t.1) (ap (λ k. past ++ k ∷ []) q ∙ sym n))
-
-object_one : (j : Json) (ms ns : Members) → j ≡ object ms → j ≡ object ns → ms ≡ ns
-object_one j ms ns e f = let q : object ms ≡ object ns = sym e ∙ f in cc
 
 pub past_all : (j : Json) (ms os : Members) (ts us : List Token) (names : List (List ℕ)) → j ≡ object os → InMembers us os → j ≡ object ms → ((ms : Members) → InMembers ts ms → ms ≡ no_members) → ArePast names ms ts → (ns : Members) × (j ≡ object ns) × InMembers us ns × (keys_of ns ≡ names)
 past_all j ms os ts us names f i e v p =

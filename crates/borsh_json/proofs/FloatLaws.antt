@@ -1,13 +1,10 @@
 -- Floats, their bits and their texts.
-use Rattle.std.proofs.Common.{◌≡◌, inl, inr, ◌∷◌, ◌++◌, [], ℕ, ◌+◌, ◌*◌, ◌^◌, ◌<◌, List, length, Bool, true, false, true≢false, Option, Some, None, refl, sym, ◌∙◌, ap, subst, arith}
-use Rattle.std.specs.Prelude.{if◌then◌else◌, not, codes, T, from_bits, to_bits, option_map, MatchOption, MatchResult, Result, Ok, Err, IsTrue, IsFalse}
-use Rattle.std.specs.Borrow.{Bor}
+use Rattle.std.proofs.Common.{◌≡◌, inl, inr, ◌∷◌, ◌++◌, [], ℕ, ◌+◌, ◌*◌, ◌^◌, ◌<◌, List, length, Bool, true, false, true≢false, Option, Some, None, refl, sym, ◌∙◌, ap, subst, arith, if◌then◌else◌, not, codes, T, from_bits, to_bits, option_map, MatchOption, MatchResult, Result, Ok, Err, IsTrue, IsFalse, Bor, bytes_eq, Contains}
 use Rattle.std.specs.Float.{Float, Format, nan, inf, fin, binary32, binary64, float_is_finite}
 use Rattle.std.specs.Float.Ieee.{top}
 use Rattle.std.specs.Float.Numeral.{scan_numeral}
 use Rattle.std.specs.Float.Parse.{parse_float, read_float}
 use Rattle.std.specs.Result.{result_ok}
-use Rattle.std.specs.Str.{bytes_eq}
 use Rattle.std.proofs.lemmas.Slice.Eq.{bytes_eq-Decides}
 use lib.Ieee.{is_nan}
 use lib.Ieee.Bits.{to_bits-of_bits}
@@ -16,7 +13,6 @@ use Rattle.json.specs.Find.{as_number, as_str}
 use Rattle.json.proofs.Printed.Floats.{IsNumber-plain}
 use Rattle.std.specs.Float.Numeral.{Parts, exponent_text, text_of}
 use Rattle.std.specs.Fmt.{sign_text}
-use Rattle.std.specs.List.{Contains}
 use Rattle.std.proofs.lemmas.List.Elements.{Contains-append_right}
 use Rattle.json.specs.Print.{IsNumber}
 use Rattle.json.specs.Word.{after_number}
@@ -110,11 +106,6 @@ pub shortest_is : (f : Format) (bs : List ℕ) (bits : ℕ) (v : Float) (r : Opt
 shortest_is f bs bits v None e l p h = (bits, e, l, ap (λ v. is_nan v) (sym p) ∙ h)
 shortest_is f bs bits v (Some s) e l p h = (v, (bits, e, l, sym p, h.0), h.1)
 
--- of four bytes, and of eight
-pub shortest_4 : (f : Format) (bs : List ℕ) (bits : ℕ) (v : Float) (r : Option (Bor (List ℕ))) → length bs ≡ 4 → length bs ≡ float_size f → bs ≡ little_endian 4 bits → bits < 256 ^ 4 → v ≡ from_bits binary32 bits → MatchOption r (is_nan v ≡ true) (λ s. (is_nan v ≡ false) × ReadsBack binary32 v s.now) → MatchOption r (IsNan f bs) (λ s. IsFloatText f bs s.now)
-shortest_4 binary32 bs bits v r n l e b p h = shortest_is binary32 bs bits v r e b p h
-shortest_4 binary64 bs bits v r n l e b p h = absurd (omega (arith, n, l))
-
 pub shortest_8 : (f : Format) (bs : List ℕ) (bits : ℕ) (v : Float) (r : Option (Bor (List ℕ))) → length bs ≡ 8 → length bs ≡ float_size f → bs ≡ little_endian 8 bits → bits < 256 ^ 8 → v ≡ from_bits binary64 bits → MatchOption r (is_nan v ≡ true) (λ s. (is_nan v ≡ false) × ReadsBack binary64 v s.now) → MatchOption r (IsNan f bs) (λ s. IsFloatText f bs s.now)
 shortest_8 binary32 bs bits v r n l e b p h = absurd (omega (arith, n, l))
 shortest_8 binary64 bs bits v r n l e b p h = shortest_is binary64 bs bits v r e b p h
@@ -149,17 +140,9 @@ no_float f (array js) n s = refl
 no_float f (object ms) n s = refl
 
 pub number_float : (f : Format) (j : Json) (s : List ℕ) → as_number j ≡ Some s → float_of f j ≡ parse_float f s
-number_float f null s e = cc
-number_float f (boolean b) s e = cc
 number_float f (number t) s e = (let q : t ≡ s = cc in ap (λ t. parse_float f t) q)
-number_float f (string t) s e = cc
-number_float f (array js) s e = cc
-number_float f (object ms) s e = cc
+number_float f json s e = cc
 
 pub word_float : (f : Format) (j : Json) (s : List ℕ) → as_str j ≡ Some s → float_of f j ≡ infinity_of s
-word_float f null s e = cc
-word_float f (boolean b) s e = cc
-word_float f (number t) s e = cc
 word_float f (string t) s e = (let q : t ≡ s = cc in ap (λ t. infinity_of t) q)
-word_float f (array js) s e = cc
-word_float f (object ms) s e = cc
+word_float f json s e = cc

@@ -1,11 +1,9 @@
 -- The definition that a name of a kind has.
-use Rattle.std.proofs.Common.{◌≡◌, ◌⊎◌, inl, inr, ℕ, List, [], ◌∷◌, Bool, true, false, Option, Some, refl, sym, ◌∙◌, ap, subst}
+use Rattle.std.proofs.Common.{◌≡◌, ◌⊎◌, inl, inr, ℕ, List, [], ◌∷◌, Bool, true, false, Option, Some, refl, sym, ◌∙◌, ap, subst, bytes_eq}
 use Rattle.std.specs.Prelude.{⊤, ◌&&◌, ◌==◌, if◌then◌else◌, codes, option_map}
 use Rattle.std.specs.Float.{binary32, binary64}
-use Rattle.std.specs.Str.{bytes_eq}
-use Rattle.borsh_walks.specs.Container.{product}
 use Rattle.borsh_json.specs.Forms.{Form, primitive, sequence, tuple, choice, named, unnamed, no_fields, shape_of_form, IsByte, IsMap}
-use Rattle.borsh_json.specs.Table.{Lengths, Kind, no_bytes, truth, whole, float, raw, utf8, byte_list, list, row, inner, fields, optional, variants, entries, number_types, number_kind, primitive_kind, unnamed_kind, a_text, some_bytes, an_object, some_elements, IsNullable, nullable, by_name, AreKeys, DefinedKind, HasKind}
+use Rattle.borsh_json.specs.Table.{Lengths, Kind, no_bytes, truth, whole, float, utf8, byte_list, list, row, inner, fields, optional, variants, entries, number_types, number_kind, primitive_kind, unnamed_kind, a_text, some_bytes, an_object, some_elements, IsNullable, nullable, by_name, AreKeys, DefinedKind, HasKind}
 
 pub shaped : (o : Option Form) {f : Form} → o ≡ Some f → option_map shape_of_form o ≡ Some (shape_of_form f)
 shaped o e = ap (λ o. option_map shape_of_form o) e
@@ -24,10 +22,6 @@ module _ (F : List ℕ → Option Form) where
   -- the definition is one of a name of this kind that has bytes
   abbrev pub IsFormOf : List ℕ → Kind → Form → Type 0
   IsFormOf x no_bytes d = ⊥
-  IsFormOf x truth d = ⊤
-  IsFormOf x (whole n signed non_zero) d = ⊤
-  IsFormOf x (float g) d = ⊤
-  IsFormOf x (raw n) d = ⊤
   IsFormOf x (utf8 l) d = (e : List ℕ) × IsSequence l e d
   IsFormOf x (byte_list l e) d = IsSequence l e d × IsByte F e
   IsFormOf x (list l e) d = IsSequence l e d
@@ -37,6 +31,7 @@ module _ (F : List ℕ → Option Form) where
   IsFormOf x (optional p) d = IsNullable F x p
   IsFormOf x (variants w vs) d = d ≡ choice w vs
   IsFormOf x (entries l keys k v) d = (e : List ℕ) × IsSequence l e d × (F e ≡ Some (tuple (k ∷ v ∷ []))) × AreKeys F k keys
+  IsFormOf x kind d = ⊤
 
   formed_if : (x : List ℕ) (d : Form) (b : Bool) (k l : Kind) → IsFormOf x k d → IsFormOf x l d → IsFormOf x (if b then k else l) d
   formed_if x d true k l p q = p

@@ -1,17 +1,13 @@
 -- Names that are composed, and definitions that were found.
-use Rattle.std.proofs.Common.{◌≡◌, ◌⊎◌, inl, inr, ℕ, suc, zero, ◌+◌, ◌<◌, ◌≤◌, List, [], ◌∷◌, ◌++◌, length, map, take, Bool, true, false, get_or, Decides, MatchBool, Option, Some, None, refl, sym, ◌∙◌, ap, subst, arith, append_assoc, append-nil, eqb, string_bytes}
-use Rattle.std.specs.Prelude.{ℤ, pos, codes, option_map, slice_get, String, MatchOption, Result, Ok, Err, IfOk}
-use Rattle.std.specs.Option.{option_copied}
-use Rattle.std.specs.List.{HoldsAt}
+use Rattle.std.proofs.Common.{◌≡◌, inl, inr, ℕ, suc, zero, ◌+◌, ◌<◌, ◌≤◌, List, [], ◌∷◌, ◌++◌, length, map, take, Bool, true, false, get_or, Decides, MatchBool, Option, Some, None, refl, sym, ◌∙◌, ap, subst, arith, append_assoc, append-nil, eqb, string_bytes, ℤ, pos, codes, option_map, slice_get, String, MatchOption, option_copied, HoldsAt, Bor, Global}
 use Rattle.std.specs.Str.Pattern.{FindsTextPrefix, StripsPrefix}
 use Rattle.std.proofs.lemmas.Option.{slice_get-get_or}
 use Rattle.std.proofs.lemmas.Bool.Decides.{nat_tests}
-use Rattle.std.specs.Borrow.{Bor}
-use Rattle.std.specs.Global.{Global}
-use Rattle.borsh_walks.specs.Container.{Shape, IsIn, references, IsZeroSize, zeroed, zero_size_references}
+use Rattle.borsh_walks.specs.Container.{IsIn, references, zeroed, zero_size_references}
 use Rattle.borsh_walks.specs.Container as shape
 use Rattle.borsh_json.specs.Forms.{Form, primitive, sequence, tuple, choice, unnamed, shape_of_form, HasNoBytes, IsList, IsByte, IsUnit, IsOption, IsMap}
 use Rattle.borsh_json.specs.Found.{joined, IsMapName, IsSetName}
+use Rattle.std.proofs.lemmas.List.{append_cancel_left}
 
 pub newtype_is : (ps : List (List ℕ)) → MatchBool (eqb (length ps) 1) ((p : List ℕ) × (unnamed ps ≡ unnamed (p ∷ []))) ((p : List ℕ) → unnamed ps ≡ unnamed (p ∷ []) → ⊥)
 newtype_is [] = λ p e. cc
@@ -49,13 +45,6 @@ on_some P Q o x e m = subst (λ o. MatchOption o P Q) e m
 pub on_none : {X : Type 0} (P : Type 0) (Q : X → Type 0) (o : Option X) → o ≡ None → MatchOption o P Q → P
 on_none P Q o e m = subst (λ o. MatchOption o P Q) e m
 
-pub if_ok : {A E : Type 0} (P : A → Type 0) (r : Result A E) → ((a : A) → r ≡ Ok a → P a) → IfOk r P
-if_ok P (Ok a) f = f a refl
-if_ok P (Err e) f = tt
-
-pub at_ok : {A E : Type 0} (P : A → Type 0) (r : Result A E) (a : A) → r ≡ Ok a → IfOk r P → P a
-at_ok P r a e m = subst (λ r. IfOk r P) e m
-
 pub on_true : {P : Type 0} (Q : Type 0) (r : Bool) → r ≡ true → MatchBool r P Q → P
 on_true {P = P} Q r e m = subst (λ b. MatchBool b P Q) e m
 
@@ -90,11 +79,7 @@ joined_not name rest ps i p d h e n not_here after q =
     let s = joined_split ps i p d h e in
     let front = joined (take i ps) in
     let l : front ++ rest ≡ front ++ (p.now ++ (s.0 ++ after)) = sym n ∙ q ∙ ap (λ l. l ++ after) s.1 ∙ append_assoc (front ++ p.now) s.0 after ∙ append_assoc front p.now (s.0 ++ after) in
-    not_here (s.0 ++ after) (append-cancel front rest (p.now ++ (s.0 ++ after)) l)
-  where
-    append-cancel : (xs ys zs : List ℕ) → xs ++ ys ≡ xs ++ zs → ys ≡ zs
-    append-cancel [] ys zs e = e
-    append-cancel (x ∷ xs) ys zs e = append-cancel xs ys zs cc
+    not_here (s.0 ++ after) (append_cancel_left front rest (p.now ++ (s.0 ++ after)) l)
 
 -- a prefix of a text, by the clause of `strip_prefix`
 pub stripped : (p s : List ℕ) (x : List ℕ) → StripsPrefix (FindsTextPrefix p) s x → s ≡ p ++ x
@@ -146,12 +131,6 @@ module _ (F : List ℕ → Option Form) (x : List ℕ) (vs : List (ℤ × List �
   none_first p none e = ap (λ vs. slice_get (references (shape_of_form (choice 1 vs))) 0) e
 
 -- ---- the names of options, sets and maps
-pub option_name : (name p : List ℕ) (r : Bool) → Decides r (name ≡ codes "Option<" ++ (p ++ codes ">")) → Decides r (name ≡ codes "Option<" ++ p ++ codes ">")
-option_name name p r d = d
-
-pub decides_either : {P Q : Type 0} (r : Bool) → Decides r Q → (P → ⊥) → Decides r (P ⊎ Q)
-decides_either r d n = ((λ e. inr (d.0 e)), (λ c. elim c [ inl p ↦ absurd (n p) | inr q ↦ d.1 q ]))
-
 pub not_true : {P : Type 0} (r : Bool) → Decides r P → r ≡ false → P → ⊥
 not_true r d e p = let q = d.1 p in cc
 
@@ -194,17 +173,6 @@ module _ (F : List ℕ → Option Form) (x : List ℕ) (vs : List (ℤ × List �
   abbrev IsFound : Bool → Type 0
   IsFound r = MatchBool r ((p : List ℕ) × (slice_get (map (λ v. v.2) vs) 1 ≡ Some p) × IsOption F x p) ((p : List ℕ) → IsOption F x p → ⊥)
 
-  -- a variant that isn't that of an option
-  pub not_option : (a b : ℤ × List ℕ × List ℕ) → vs ≡ a ∷ b ∷ [] → ((a.0 ≡ pos 0) × (a.1 ≡ codes "None") → ⊥) ⊎ ((b.0 ≡ pos 1) × (b.1 ≡ codes "Some") → ⊥) → (p : List ℕ) → IsOption F x p → ⊥
-  not_option a b e n p o =
-      let q = option_needs F x vs h p o in
-      let first : ℤ × List ℕ × List ℕ = (pos 0, codes "None", q.0) in
-      let second : ℤ × List ℕ × List ℕ = (pos 1, codes "Some", p) in
-      let g : a ∷ b ∷ [] ≡ first ∷ second ∷ [] = sym e ∙ q.1 in
-      let i : a ≡ first = cc in
-      let j : b ≡ second = cc in
-      elim n [ inl m ↦ m (ap (λ (v : ℤ × List ℕ × List ℕ). v.0) i, ap (λ (v : ℤ × List ℕ × List ℕ). v.1) i) | inr m ↦ m (ap (λ (v : ℤ × List ℕ × List ℕ). v.0) j, ap (λ (v : ℤ × List ℕ × List ℕ). v.1) j) ]
-
   pub option_found : (none p : List ℕ) → vs ≡ (pos 0, codes "None", none) ∷ (pos 1, codes "Some", p) ∷ [] → IsUnit F none → (r : Bool) → Decides r (x ≡ codes "Option<" ++ p ++ codes ">") → IsFound r
   option_found none p e z true d = (p, ap (λ vs. slice_get (map (λ v. v.2) vs) 1) e, (none, h ∙ ap (λ vs. Some (choice 1 vs)) e, z, d.0 refl))
   option_found none p e z false d = λ q o.
@@ -221,9 +189,6 @@ module _ (F : List ℕ → Option Form) (x : List ℕ) (vs : List (ℤ × List �
 module _ (F : List ℕ → Option Form) (x e : List ℕ) (w lo hi : ℕ) (h : F x ≡ Some (sequence w lo hi e)) where
   pub list_element : (f : List ℕ) → IsList F x f → f ≡ e
   list_element f l = let g : Some (sequence w lo hi e) ≡ Some (sequence 4 0 4294967295 f) = sym h ∙ l in cc
-
-  pub no_list : ((f : List ℕ) → sequence w lo hi e ≡ sequence 4 0 4294967295 f → ⊥) → (f : List ℕ) → IsList F x f → ⊥
-  no_list n f l = let g : Some (sequence w lo hi e) ≡ Some (sequence 4 0 4294967295 f) = sym h ∙ l in n f cc
 
   pub no_map : (o : Option Form) → o ≡ F e → ((k v : List ℕ) → o ≡ Some (tuple (k ∷ v ∷ [])) → IsMapName x k v → ⊥) → (k v : List ℕ) → IsMap F x k v → ⊥
   no_map o q n k v m = n k v (q ∙ ap F (sym (list_element m.0 m.1)) ∙ m.2) m.3

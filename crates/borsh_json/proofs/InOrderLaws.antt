@@ -1,13 +1,12 @@
 -- JSON in which what has to ascend does.
-use Rattle.std.proofs.Common.{◌≡◌, ◌⊎◌, inl, inr, ℕ, suc, zero, ◌*◌, ◌<◌, List, [], ◌∷◌, ◌++◌, length, get_or, Option, Some, None, refl, sym, ◌∙◌, ap, subst, arith, length-append}
-use Rattle.std.specs.Prelude.{codes}
+use Rattle.std.proofs.Common.{◌≡◌, ◌⊎◌, inl, inr, ℕ, suc, zero, ◌*◌, ◌<◌, List, [], ◌∷◌, ◌++◌, length, get_or, Option, Some, None, refl, sym, ◌∙◌, ap, subst, arith, length-append, codes}
 use Rattle.json.specs.Json.{Json, array, string, object, Items}
 use Rattle.borsh_walks.specs.Container.{Member}
 use Rattle.borsh_plan.specs.declared.named.Named.{Named}
 use Rattle.borsh_json.specs.declared.error.JsonError.{JsonError}
 use Rattle.borsh_json.specs.declared.error.JsonError.TheVariants.{OutOfMemory, NoMember, NoValue, Ambiguous, NotJson, Refused}
 use Rattle.borsh_json.specs.declared.error.Refusal.{Refusal}
-use Rattle.borsh_json.specs.declared.error.Refusal.TheVariants.{TooDeep, RepeatedName, EmptyElements, NotBool, NotUtf8, Zero, NotNumber, Descends, Expected, MissingField, UnknownName, RepeatedKey, Undefined}
+use Rattle.borsh_json.specs.declared.error.Refusal.TheVariants.{TooDeep, Descends}
 use Rattle.borsh_json.specs.declared.kinds.Entries.{Entries as FoundEntries}
 use Rattle.borsh_json.specs.declared.position.Parts.{Parts}
 use Rattle.borsh_json.specs.declared.position.Parts.TheVariants.{Root, List as Elements, Row, Object, Entries as MapEntries, Newtype, Some as Present, Variant}
@@ -129,14 +128,8 @@ module _ (F : List ℕ → Option Form) where
   key_at keys k v (e ∷ es) (a ∷ c ∷ ds) q rest (suc b) l h = let g : ds ++ q ∷ rest ≡ entry_parts keys k v es = cc in key_at keys k v es ds q rest b (omega (arith, l)) g
 
   map_parts : (p : Parts) → IsMapPlace p → (m : FoundEntries) × (n : ℕ) × (p ≡ MapEntries m n)
-  map_parts Root h = absurd h
-  map_parts (Elements at n) h = absurd h
-  map_parts (Row at n) h = absurd h
-  map_parts (Object at fs) h = absurd h
   map_parts (MapEntries m n) h = (m, n, refl)
-  map_parts (Newtype at) h = absurd h
-  map_parts (Present at) h = absurd h
-  map_parts (Variant v at) h = absurd h
+  map_parts p h = absurd h
 
   pub key_in_order : (ns : List Named) (d : ℕ) (p : Place) (x : List ℕ) (kind : Kind) (i : Json) (own : List ℕ) (ds rest : List Part) (k : List ℕ) (u : Json) (key : List ℕ) → IsMapPlace p.parts → IsPlaceIn F ns d p x kind i ds → Says F kind i own (ds ++ (k, u) ∷ rest) → SaysFirst F k u key [] → InOrder F k u
   key_in_order ns zero p x kind i own ds rest k u key m is says s = absurd (subst (λ (p : Parts). IsMapPlace p) is.0 m)
@@ -188,18 +181,8 @@ module _ (F : List ℕ → Option Form) where
 module _ (F : List ℕ → Option Form) (root text bytes : List ℕ) where
   no_refusal : (j : Json) (path : List Step) (r : Refusal) → SaysSome F root j → InOrder F root j → FailsAt F root j path r → SaysNothing F root j r → r ≡ TooDeep
   no_refusal j path TooDeep s o f n = refl
-  no_refusal j path (RepeatedName name) s o f n = absurd (n s)
-  no_refusal j path EmptyElements s o f n = absurd (n s)
-  no_refusal j path NotBool s o f n = absurd (n s)
-  no_refusal j path NotUtf8 s o f n = absurd (n s)
-  no_refusal j path Zero s o f n = absurd (n s)
-  no_refusal j path NotNumber s o f n = absurd (n s)
   no_refusal j path Descends s o f n = absurd (o f.0 f.1 f.3 f.4 f.5 f.7 f.2 f.8)
-  no_refusal j path (Expected wanted) s o f n = absurd (n s)
-  no_refusal j path MissingField s o f n = absurd (n s)
-  no_refusal j path (UnknownName name) s o f n = absurd (n s)
-  no_refusal j path (RepeatedKey name) s o f n = absurd (n s)
-  no_refusal j path (Undefined name) s o f n = absurd (n s)
+  no_refusal j path refusal s o f n = absurd (n s)
 
   pub given_up : (e : JsonError) → TextRepresents F root text bytes → ShowsNoValue F root text e → IsGivenUp e
   given_up OutOfMemory t s = tt

@@ -1,8 +1,5 @@
 -- The order of the keys of objects is that of their bytes.
-use Rattle.std.proofs.Common.{◌≡◌, inl, inr, ℕ, ◌<◌, ◌^◌, List, [], ◌∷◌, ◌++◌, length, Bool, true, false, Option, refl, sym, ◌∙◌, ap, subst, arith}
-use Rattle.std.specs.Prelude.{ℤ, pos, codes, nat_le, if◌then◌else◌}
-use Rattle.std.specs.Ordering.{int_cmp}
-use Rattle.std.specs.declared.cmp.Ordering.TheVariants.{Less}
+use Rattle.std.proofs.Common.{◌≡◌, inl, inr, ℕ, ◌<◌, ◌^◌, List, [], ◌∷◌, ◌++◌, length, Bool, true, false, Option, refl, sym, ◌∙◌, ap, subst, arith, ℤ, pos, codes, nat_le, if◌then◌else◌, int_cmp, Less}
 use Rattle.std.specs.Str.Parse.{signed_digits_value}
 use Rattle.json.specs.Json.{null, number, string}
 use Rattle.borsh_walks.specs.Container.{tag}

@@ -1,22 +1,19 @@
 -- The orders of sets and maps, as they are found with kinds.
-use Rattle.std.proofs.Common.{◌≡◌, ◌⊎◌, inl, inr, ℕ, List, [], ◌∷◌, ◌++◌, length, true, false, Option, Some, None, IfSome, refl, sym, ◌∙◌, subst}
-use Rattle.std.specs.Prelude.{Bool, slice_get}
-use Rattle.std.specs.Borrow.{Bor}
+use Rattle.std.proofs.Common.{◌≡◌, inl, inr, ℕ, List, [], ◌∷◌, ◌++◌, length, Option, Some, None, IfSome, refl, sym, ◌∙◌, subst, Bool, slice_get, Bor}
 use Rattle.borsh_walks.specs.declared.definition.Definition.{Definition}
 use Rattle.borsh_plan.specs.declared.named.Named.{Named}
 use Rattle.borsh_json.specs.declared.formats.Collection.TheVariants.{List as Elements, Set}
 use Rattle.borsh_json.specs.declared.kinds.KeyKind.TheVariants.{Text as TextKeys, Number as NumberKeys}
 use Rattle.borsh_json.specs.declared.kinds.Kind.{Kind}
-use Rattle.borsh_json.specs.declared.kinds.Kind.TheVariants.{Number, Bool as Truth, Text as TextKind, Bytes, Float, ByteList, Numbers, List as ListKind, Map, Row, Newtype, Object, Optional, Choice, Repeated}
 use Rattle.borsh_json.specs.declared.numbers.Number.{Number as FoundNumber}
 use Rattle.borsh_json.specs.declared.order.Ordered.{Ordered}
 use Rattle.borsh_json.specs.declared.order.Ordered.TheVariants.{Text, Number as NumberOrder}
 use Rattle.borsh_json.specs.Forms.{Form, primitive, sequence, HasNoBytes, IsList, IsMap}
-use Rattle.borsh_json.specs.Found.{IsCollection, IsPrimitiveKind, IsRefusedList, IsSetName}
+use Rattle.borsh_json.specs.Found.{IsCollection, IsSetName}
 use Rattle.borsh_json.specs.Ordered.{numbers, text, HasOrder}
 use Rattle.borsh_json.specs.Orders.{FindsOrder, AreOrders, KeysAscend, HasKeyOrder, KindHasOrder, KnowsNoOrder, KindTellsOrder, IsFoundKind, AreFoundKinds}
 use Rattle.borsh_json.specs.Places.{AreKeysOf, IsAt, IsKindAt}
-use Rattle.borsh_json.specs.Table.{Keys, AreKeys, Kind as TableKind, whole, primitive_kind, HasKind, DefinedKind, texts, numbers as number_keys}
+use Rattle.borsh_json.specs.Table.{Keys, AreKeys, whole, primitive_kind, HasKind, DefinedKind, texts, numbers as number_keys}
 use Rattle.borsh_json.proofs.FoundLaws.{full_list}
 use Rattle.borsh_json.proofs.PlaceLaws.{get_pushed}
 
@@ -40,10 +37,6 @@ module _ (F : List ℕ → Option Form) where
   pub list_none : (ns : List Named) (x : List ℕ) → IsCollection F ns x Elements → KnowsNoOrder F x
   list_none ns x c p k keys = elim keys.1 [ inl s ↦ c.0 p (keys.0, s.0) | inr m ↦ c.1 k m.0 (p, keys.0, m.1, m.2) ]
 
-  -- a refused list tells nothing
-  pub refused_tells : (x : List ℕ) (kind : Kind) → IsRefusedList kind → KindTellsOrder F x kind
-  refused_tells x kind r = subst (λ (k : Kind). KindTellsOrder F x k) (sym r.1) (λ f. (let e : true ≡ false = sym r.2 ∙ f in absurd cc))
-
 module _ (F : List ℕ → Option Form) (ns : List Named) where
   pub keys_text : (k : List ℕ) (f : Form) (keys : Keys) → AreKeys F k keys → AreKeysOf F ns k f TextKeys keys → FindsOrder F ns k Text
   keys_text k f keys a o = (text, text_order F k (subst (λ (q : Keys). AreKeys F k q) o.0 a), refl)
@@ -63,28 +56,8 @@ module _ (F : List ℕ → Option Form) (ns : List Named) where
   key_found x k v found m o = (m.0, (m.1, inr (v, m.2, m.3)), o)
 
   -- ---- kinds without orders
-  pub refused_order : (x : List ℕ) (kind : Kind) → IsRefusedList kind → KindHasOrder F ns x kind
-  refused_order x kind r = subst (λ (k : Kind). KindHasOrder F ns x k) (sym r.1) (subst (λ (o : Option Ordered). HasKeyOrder F ns x o) (sym r.3) tt)
-
   abbrev HasOrderIn : List ℕ → Kind → Type 0
   HasOrderIn x kind = KindHasOrder F ns x kind × KindTellsOrder F x kind
-
-  pub primitive_order : (x : List ℕ) (kind : Kind) (k : TableKind) → IsPrimitiveKind kind k → HasOrderIn x kind
-  primitive_order x (Number n) k p = (tt, tt)
-  primitive_order x Truth k p = (tt, tt)
-  primitive_order x TextKind k p = (tt, tt)
-  primitive_order x (Bytes n) k p = (tt, tt)
-  primitive_order x (Float n) k p = (tt, tt)
-  primitive_order x (ByteList es) k p = absurd p
-  primitive_order x (Numbers es) k p = absurd p
-  primitive_order x (ListKind es) k p = absurd p
-  primitive_order x (Map es order) k p = absurd p
-  primitive_order x (Row n) k p = (tt, tt)
-  primitive_order x (Newtype at) k p = (tt, tt)
-  primitive_order x (Object fs) k p = (tt, tt)
-  primitive_order x (Optional at) k p = (tt, tt)
-  primitive_order x (Choice w vs) k p = (tt, tt)
-  primitive_order x (Repeated name) k p = (tt, tt)
 
   -- ---- one kind or order more was found
   pub kinds_pushed : (kinds all : List (Option (Bor Definition × Kind))) (at : ℕ) (found : Option (Bor Definition × Kind)) → AreFoundKinds F ns kinds → all ≡ kinds ++ found ∷ [] → length kinds ≡ at → IsKindAt F ns at found → ((x : List ℕ) → IsAt ns at x → IfSome found (λ r. HasOrderIn x r.1)) → AreFoundKinds F ns all

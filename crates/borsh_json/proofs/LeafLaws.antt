@@ -1,10 +1,9 @@
 -- Values that are written whole: primitives, texts and lists of primitives.
-use Rattle.std.proofs.Common.{◌≡◌, inl, inr, ℕ, suc, zero, ◌+◌, ◌-◌, ◌/◌, ◌^◌, ◌<◌, ◌≤◌, List, [], ◌∷◌, ◌++◌, length, map, Bool, true, false, true≢false, Option, Some, refl, sym, ◌∙◌, ap, subst, arith, pow-suc}
+use Rattle.std.proofs.Common.{◌≡◌, inl, inr, ℕ, suc, zero, ◌+◌, ◌-◌, ◌/◌, ◌^◌, ◌<◌, ◌≤◌, List, [], ◌∷◌, ◌++◌, length, map, Bool, true, false, true≢false, Option, Some, refl, sym, ◌∙◌, ap, subst, arith, pow-suc, bytes_eq}
 use Rattle.std.specs.Prelude.{⊤, ℤ, pos, negsuc, ◌&&◌, ◌==◌, if◌then◌else◌, codes, Result, Ok, Err, is_nan, from_bits}
 use Rattle.std.specs.Float.{Float as FloatValue, Format, binary32, binary64}
 use Rattle.std.specs.Fmt.{signed_decimal}
 use Rattle.std.specs.List.{AllByRecursion}
-use Rattle.std.specs.Str.{bytes_eq}
 use Rattle.std.proofs.Math.Nat.{pow-le-pow_right}
 use Rattle.std.proofs.lemmas.Bool.Decides.{nat_tests}
 use Rattle.json.specs.Token as token
@@ -19,7 +18,7 @@ use Rattle.borsh_plan.specs.declared.named.Named.{Named}
 use Rattle.borsh_json.specs.declared.error.Refusal.TheVariants.{Zero}
 use Rattle.borsh_json.specs.declared.error.WriteError.{WriteError}
 use Rattle.borsh_json.specs.declared.kinds.Kind.{Kind as Found}
-use Rattle.borsh_json.specs.declared.kinds.Kind.TheVariants.{Number, Bool as Truth, Text, Bytes, Float, ByteList, Numbers, List as ElementList, Map as Entries, Row, Newtype, Object, Optional, Choice, Repeated}
+use Rattle.borsh_json.specs.declared.kinds.Kind.TheVariants.{Number, Bool as Truth, Bytes, Float}
 use Rattle.borsh_json.specs.declared.numbers.Number.{Number as NumberOf}
 use Rattle.borsh_json.specs.declared.output.LongNumbers.{LongNumbers}
 use Rattle.borsh_json.specs.declared.output.LongNumbers.TheVariants.{Plain, Quoted}
@@ -31,13 +30,14 @@ use Rattle.borsh_json.specs.Leaves.{Adds, HasSize, IsOpenedAs, IsWritten, Refuse
 use Rattle.borsh_json.specs.NoJson.{IsNoJson, RefusesOwn}
 use Rattle.borsh_json.specs.Places.{IsKindOf}
 use Rattle.borsh_json.specs.Represents.{SaysFirst, HaveBytes}
-use Rattle.borsh_json.specs.Table.{Kind, no_bytes, truth, whole, float, float_size, raw, utf8, byte_list, list, row, inner, fields, optional, variants, entries, a_text, some_bytes, an_object, some_elements, nullable, by_name, number_types, number_kind, primitive_kind, DefinedKind, HasKind, InRange, IsFloat, IsHex, IsNumber, Part, Says}
+use Rattle.borsh_json.specs.Table.{Kind, no_bytes, truth, whole, float, float_size, raw, a_text, some_bytes, an_object, some_elements, nullable, by_name, number_types, number_kind, primitive_kind, DefinedKind, HasKind, InRange, IsFloat, IsHex, IsNumber, Part, Says}
 use Rattle.borsh_json.specs.Floats.{IsNan}
 use Rattle.borsh_json.proofs.FloatLaws.{format_one}
 use Rattle.borsh_json.proofs.FormKinds.{unnamed_is}
 use Rattle.borsh_json.proofs.ReaderLaws.{uncons}
 use Rattle.borsh_json.proofs.RepresentsLaws.{kind_one}
 use Rattle.borsh_json.proofs.WrittenLaws.{IsFormed, next_written}
+use Rattle.borsh_walks.proofs.Laws.{length-tag}
 
 -- ---- lists and bytes
 pub front_one : (xs bs cs ds : List ℕ) → xs ++ bs ≡ cs ++ ds → length xs ≡ length cs → (xs ≡ cs) × (bs ≡ ds)
@@ -49,18 +49,6 @@ front_one (x ∷ xs) bs (c ∷ cs) ds e l =
     let t : xs ++ bs ≡ cs ++ ds = cc in
     let r = front_one xs bs cs ds t (omega arith) in
     (ap (λ y. y ∷ xs) h ∙ ap (λ ys. c ∷ ys) r.0, r.1)
-
-low_length : (w n : ℕ) → length (little_endian w n) ≡ w
-low_length zero n = refl
-low_length (suc w) n = ap suc (low_length w (n / 256))
-
-map_length : (f : ℕ → ℕ) (bs : List ℕ) → length (map f bs) ≡ length bs
-map_length f [] = refl
-map_length f (b ∷ bs) = ap suc (map_length f bs)
-
-pub tag_length : (w : ℕ) (z : ℤ) → length (tag w z) ≡ w
-tag_length w (pos n) = low_length w n
-tag_length w (negsuc n) = map_length (λ b. 255 - b) (little_endian w n) ∙ low_length w n
 
 value_low : (w n : ℕ) → n < 256 ^ w → number_of (little_endian w n) ≡ n
 value_low zero n h = omega arith
@@ -160,7 +148,7 @@ module _ (F : List ℕ → Option Form) (x own : List ℕ) (kind : Kind) (h : Ha
 
 -- how many bytes a float has, and that they are no NaN's
 pub float_length : (f : Format) (v : FloatValue) (a : List ℕ) → IsFloat f v a → length a ≡ float_size f
-float_length f v a p = ap (λ l. length l) p.1 ∙ tag_length (float_size f) (pos p.0)
+float_length f v a p = ap (λ l. length l) p.1 ∙ length-tag (float_size f) (pos p.0)
 
 nan_or_float : (f : Format) (v : FloatValue) (a : List ℕ) → IsNan f a → IsFloat f v a → ⊥
 nan_or_float f v a n p =
@@ -176,7 +164,7 @@ module _ (F : List ℕ → Option Form) (x own : List ℕ) where
       each false e = p e
 
   pub no_zero : (n : ℕ) (signed non_zero : Bool) → HasKind F x (whole n signed non_zero) → non_zero ≡ true → HasSize (whole n signed non_zero) (length own) → own ≡ tag n (pos 0) → IsNoJson F x own
-  no_zero n signed non_zero h t l e = no_leaf F x own (whole n signed non_zero) h (λ j a qs s. let w = s.2 in l.0 ∙ sym (ap (λ l. length l) w.2 ∙ tag_length n w.0)) (λ j qs s. let w = s.2 in w.4 t (not_zero n signed w.0 l.1 w.3 (sym w.2 ∙ e)))
+  no_zero n signed non_zero h t l e = no_leaf F x own (whole n signed non_zero) h (λ j a qs s. let w = s.2 in l.0 ∙ sym (ap (λ l. length l) w.2 ∙ length-tag n w.0)) (λ j qs s. let w = s.2 in w.4 t (not_zero n signed w.0 l.1 w.3 (sym w.2 ∙ e)))
 
   pub no_nan : (f : Format) → HasKind F x (float f) → length own ≡ float_size f → IsNan f own → IsNoJson F x own
   no_nan f h l n = no_leaf F x own (float f) h (λ j a qs s. l ∙ sym (float_length f s.0 a s.2)) (λ j qs s. nan_or_float f s.0 own n s.2)
@@ -215,55 +203,26 @@ module _ (F : List ℕ → Option Form) (x own : List ℕ) (old new : Output) (n
 -- ---- definitions by what was found of them
 -- the kinds of primitives
 abbrev pub IsBare : Kind → Type 0
-IsBare no_bytes = ⊥
 IsBare truth = ⊤
 IsBare (whole n signed non_zero) = ⊤
 IsBare (float g) = ⊤
 IsBare (raw n) = ⊤
-IsBare (utf8 l) = ⊥
-IsBare (byte_list l e) = ⊥
-IsBare (list l e) = ⊥
-IsBare (row xs) = ⊥
-IsBare (inner x) = ⊥
-IsBare (fields fs) = ⊥
-IsBare (optional x) = ⊥
-IsBare (variants w vs) = ⊥
-IsBare (entries l keys k v) = ⊥
+IsBare kind = ⊥
 
 pub bare : (kind : Found) (k : Kind) → IsPrimitiveKind kind k → IsBare k
 bare (Number n) k e = subst IsBare (sym e) tt
 bare Truth k e = subst IsBare (sym e) tt
-bare Text k e = absurd e
 bare (Bytes n) k e = subst IsBare (sym e) tt
 bare (Float n) k e = subst IsBare (sym e.2) tt
-bare (ByteList es) k e = absurd e
-bare (Numbers es) k e = absurd e
-bare (ElementList es) k e = absurd e
-bare (Entries es order) k e = absurd e
-bare (Row n) k e = absurd e
-bare (Newtype at) k e = absurd e
-bare (Object fs) k e = absurd e
-bare (Optional at) k e = absurd e
-bare (Choice w vs) k e = absurd e
-bare (Repeated name) k e = absurd e
+bare kind k e = absurd e
 
 -- the other kinds of primitives than numbers, `bool` and floats
 pub raw_kind : (kind : Found) (k : Kind) → IsPrimitiveKind kind k → ((n : NumberOf) → kind ≡ Number n → ⊥) → (kind ≡ Truth → ⊥) → ((n : ℕ) → kind ≡ Float n → ⊥) → (n : ℕ) × (k ≡ raw n)
 raw_kind (Number n) k e f g h = absurd (f n refl)
 raw_kind Truth k e f g h = absurd (g refl)
-raw_kind Text k e f g h = absurd e
 raw_kind (Bytes n) k e f g h = (n, e)
 raw_kind (Float n) k e f g h = absurd (h n refl)
-raw_kind (ByteList es) k e f g h = absurd e
-raw_kind (Numbers es) k e f g h = absurd e
-raw_kind (ElementList es) k e f g h = absurd e
-raw_kind (Entries es order) k e f g h = absurd e
-raw_kind (Row n) k e f g h = absurd e
-raw_kind (Newtype at) k e f g h = absurd e
-raw_kind (Object fs) k e f g h = absurd e
-raw_kind (Optional at) k e f g h = absurd e
-raw_kind (Choice w vs) k e f g h = absurd e
-raw_kind (Repeated name) k e f g h = absurd e
+raw_kind kind k e f g h = absurd e
 
 module _ (F : List ℕ → Option Form) (ns : List Named) (x : List ℕ) where
   -- the definition tells the kind
@@ -278,19 +237,9 @@ module _ (F : List ℕ → Option Form) (ns : List Named) (x : List ℕ) where
   pub found_kind : (f : Form) (kind : Found) (k : Kind) → IsPrimitiveKind kind k → IsKindOf F ns x f kind → HasKind F x k
   found_kind f (Number n) k e h = subst (λ k. HasKind F x k) (sym e) h
   found_kind f Truth k e h = subst (λ k. HasKind F x k) (sym e) h
-  found_kind f Text k e h = absurd e
   found_kind f (Bytes n) k e h = subst (λ k. HasKind F x k) (sym e) h
   found_kind f (Float n) k e h = subst (λ k. HasKind F x k) (ap (λ g. float g) (format_one n h.0 e.0 h.1 e.1) ∙ sym e.2) h.2
-  found_kind f (ByteList es) k e h = absurd e
-  found_kind f (Numbers es) k e h = absurd e
-  found_kind f (ElementList es) k e h = absurd e
-  found_kind f (Entries es order) k e h = absurd e
-  found_kind f (Row n) k e h = absurd e
-  found_kind f (Newtype at) k e h = absurd e
-  found_kind f (Object fs) k e h = absurd e
-  found_kind f (Optional at) k e h = absurd e
-  found_kind f (Choice w vs) k e h = absurd e
-  found_kind f (Repeated name) k e h = absurd e
+  found_kind f kind k e h = absurd e
 
   bare_form : (k : Kind) (f : Form) (own : List ℕ) (parts : List (List ℕ)) → DefinedKind F x f k → IsBare k → Opens (shapes F) (shape_of_form f) own parts → (parts ≡ []) × HasSize k (length own)
   bare_form k (primitive n) own parts d b o = (o.2, subst (λ (k : Kind). HasSize k (length own)) (sym d) (subst (λ m. HasSize (primitive_kind x n) m) (sym o.0) (primitive_sized x n)))

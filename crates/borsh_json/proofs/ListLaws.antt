@@ -25,14 +25,15 @@ use Rattle.borsh_json.specs.Leaves.{Adds, HasSize, Holds, IsOpenedAs, RefusesAt,
 use Rattle.borsh_json.specs.NoJson.{IsNoJson}
 use Rattle.borsh_json.specs.Places.{IsAt, IsKindOf, IsListOf, lengths_of}
 use Rattle.borsh_json.specs.Represents.{SaysFirst, HaveBytes}
-use Rattle.borsh_json.specs.Table.{Lengths, Kind, no_bytes, truth, whole, float, raw, utf8, byte_list, list, row, inner, fields, optional, variants, entries, a_text, some_bytes, an_object, some_elements, nullable, by_name, primitive_kind, DefinedKind, HasKind, IsHex, IsPrefixed, Part, Says, list_parts}
+use Rattle.borsh_json.specs.Table.{Lengths, Kind, truth, whole, float, raw, utf8, byte_list, list, a_text, some_bytes, an_object, some_elements, nullable, by_name, primitive_kind, DefinedKind, HasKind, IsHex, IsPrefixed, Part, Says, list_parts}
 use Rattle.borsh_json.proofs.FormKinds.{unnamed_is}
 use Rattle.borsh_walks.proofs.Forms.{shape_is}
 use Rattle.borsh_json.proofs.FoundLaws.{full_primitive}
-use Rattle.borsh_json.proofs.LeafLaws.{defined, float_length, front_one, no_json, primitive_sized, tag_length, tag_one}
+use Rattle.borsh_json.proofs.LeafLaws.{defined, float_length, front_one, no_json, primitive_sized, tag_one}
 use Rattle.borsh_json.proofs.ReaderLaws.{uncons}
 use Rattle.borsh_json.proofs.RepresentsLaws.{kind_one}
 use Rattle.borsh_json.proofs.WrittenLaws.{next_written}
+use Rattle.borsh_walks.proofs.Laws.{length-tag}
 
 drop_front : (xs ys : List ℕ) (n : ℕ) → length xs ≡ n → drop n (xs ++ ys) ≡ ys
 drop_front [] ys zero e = refl
@@ -53,13 +54,8 @@ abbrev pub TellsCount : Lengths → Type 0
 TellsCount l = ((l.width ≡ 0) × (l.least ≡ l.greatest)) ⊎ ((l.width ≤ 8) × (l.greatest < 256 ^ l.width))
 
 pub tells_count : (f : Form) → IsCounted (shape_of_form f) → TellsCount (lengths_of f)
-tells_count (primitive n) c = inr (omega arith, omega arith)
 tells_count (sequence w lo hi e) c = c
-tells_count (tuple ps) c = inr (omega arith, omega arith)
-tells_count (choice w vs) c = inr (omega arith, omega arith)
-tells_count (named fs) c = inr (omega arith, omega arith)
-tells_count (unnamed ps) c = inr (omega arith, omega arith)
-tells_count no_fields c = inr (omega arith, omega arith)
+tells_count kind c = inr (omega arith, omega arith)
 
 count_one : (l : Lengths) (k m : ℕ) → TellsCount l → l.least ≤ k → k ≤ l.greatest → l.least ≤ m → m ≤ l.greatest → tag l.width (pos k) ≡ tag l.width (pos m) → k ≡ m
 count_one l k m (inl c) a b p q e = let s = c.1 in omega (arith, s, a, b, p, q)
@@ -75,64 +71,34 @@ listed_one l k m own es ts bs cs a c p q r s d f e =
     let x = tag l.width (pos k) in
     let y = tag l.width (pos m) in
     let g : x ++ (es ++ bs) ≡ y ++ (ts ++ cs) = sym (append_assoc x es bs) ∙ ap (λ o. o ++ bs) (sym d) ∙ e ∙ ap (λ o. o ++ cs) f ∙ append_assoc y ts cs in
-    let h = front_one x (es ++ bs) y (ts ++ cs) g (tag_length l.width (pos k) ∙ sym (tag_length l.width (pos m))) in
+    let h = front_one x (es ++ bs) y (ts ++ cs) g (length-tag l.width (pos k) ∙ sym (length-tag l.width (pos m))) in
     (count_one l k m c p q r s h.0, h.1)
 
 -- ---- definitions of texts and lists
 abbrev pub IsListKind : Kind → Type 0
-IsListKind no_bytes = ⊥
-IsListKind truth = ⊥
-IsListKind (whole n signed non_zero) = ⊥
-IsListKind (float g) = ⊥
-IsListKind (raw n) = ⊥
 IsListKind (utf8 l) = ⊤
 IsListKind (byte_list l e) = ⊤
 IsListKind (list l e) = ⊤
-IsListKind (row xs) = ⊥
-IsListKind (inner x) = ⊥
-IsListKind (fields fs) = ⊥
-IsListKind (optional x) = ⊥
-IsListKind (variants w vs) = ⊥
-IsListKind (entries l keys k v) = ⊥
+IsListKind kind = ⊥
 
 pub no_size : (k : Kind) (n : ℕ) → HasSize k n → IsListKind k → ⊥
-no_size no_bytes n h i = i
-no_size truth n h i = i
-no_size (whole m signed non_zero) n h i = i
-no_size (float g) n h i = i
-no_size (raw m) n h i = i
 no_size (utf8 l) n h i = h
 no_size (byte_list l e) n h i = h
 no_size (list l e) n h i = h
-no_size (row xs) n h i = i
-no_size (inner x) n h i = i
-no_size (fields fs) n h i = i
-no_size (optional x) n h i = i
-no_size (variants w vs) n h i = i
-no_size (entries l keys k v) n h i = i
+no_size kind n h i = i
 
 module _ (F : List ℕ → Option Form) (x own es : List ℕ) (parts : List (List ℕ)) where
   -- the elements of the kind have this name
   abbrev pub HasElements : Kind → List ℕ → Type 0
-  HasElements no_bytes e = ⊥
-  HasElements truth e = ⊥
-  HasElements (whole n signed non_zero) e = ⊥
-  HasElements (float g) e = ⊥
-  HasElements (raw n) e = ⊥
   HasElements (utf8 l) e = IsByte F e
   HasElements (byte_list l d) e = IsByte F e
   HasElements (list l d) e = d ≡ e
-  HasElements (row xs) e = ⊥
-  HasElements (inner y) e = ⊥
-  HasElements (fields fs) e = ⊥
-  HasElements (optional y) e = ⊥
-  HasElements (variants w vs) e = ⊥
-  HasElements (entries l keys k v) e = ⊥
+  HasElements kind e = ⊥
 
   listed : (w lo hi : ℕ) (e : List ℕ) (n : ℕ) → F e ≡ Some (primitive (suc n)) → Opens (shapes F) (shape.sequence w lo hi e) own parts → es ≡ drop w own → (parts ≡ []) × IsListed (lengths_of (sequence w lo hi e)) own es (suc n)
   listed w lo hi e n q o t =
       let s = subst (λ (c : Option Form). OpensElements (packed_size (option_map shape_of_form c)) e o.0 o.1 parts) q o.5 in
-      let d : es ≡ o.1 = t ∙ ap (λ l. drop w l) o.4 ∙ drop_front (tag w (pos o.0)) o.1 w (tag_length w (pos o.0)) in
+      let d : es ≡ o.1 = t ∙ ap (λ l. drop w l) o.4 ∙ drop_front (tag w (pos o.0)) o.1 w (length-tag w (pos o.0)) in
       (s.2, (o.0, o.2, o.3, o.4 ∙ ap (λ l. tag w (pos o.0) ++ l) (sym d), ap (λ l. length l) d ∙ s.0))
 
   list_form : (k : Kind) (f : Form) (n : ℕ) → DefinedKind F x f k → IsListKind k → ((e : List ℕ) → HasElements k e → F e ≡ Some (primitive (suc n))) → Opens (shapes F) (shape_of_form f) own parts → AreElementsOf (shape_of_form f) own es → (parts ≡ []) × IsListed (lengths_of f) own es (suc n)
@@ -186,20 +152,11 @@ items_more : (F : List ℕ → Option Form) (e : List ℕ) (k : Kind) (size : �
 items_more F e k size h l j a qs s = sized k l (subst (λ k. Says F k j a qs) (kind_one F s.1 h) s.2)
   where
     sized : (k : Kind) → HasSize k size → Says F k j a qs → (length a ≡ size) × (qs ≡ [])
-    sized no_bytes l s = absurd l
     sized truth l s = (ap (λ l. length l) s.2 ∙ sym l, s.3)
-    sized (whole n signed non_zero) l s = let w = s.2 in (ap (λ l. length l) w.2 ∙ tag_length n w.0 ∙ sym l.0, s.3)
+    sized (whole n signed non_zero) l s = let w = s.2 in (ap (λ l. length l) w.2 ∙ length-tag n w.0 ∙ sym l.0, s.3)
     sized (float g) l s = (float_length g s.0 a s.2 ∙ sym l, s.3)
     sized (raw n) l s = (s.1 ∙ sym l, s.2)
-    sized (utf8 m) l s = absurd l
-    sized (byte_list m d) l s = absurd l
-    sized (list m d) l s = absurd l
-    sized (row xs) l s = absurd l
-    sized (inner y) l s = absurd l
-    sized (fields fs) l s = absurd l
-    sized (optional y) l s = absurd l
-    sized (variants w vs) l s = absurd l
-    sized (entries m keys d v) l s = absurd l
+    sized kind l s = absurd l
 
 -- these bytes are elements, so many of all; behind what was written any items that may follow make an array
 pub record IsArrayWith (F : List ℕ → Option Form) (long : LongNumbers) (e done : List ℕ) (n : ℕ) (written : List Token) (js : Items) : Type 0 where
@@ -336,7 +293,7 @@ module _ (F : List ℕ → Option Form) (e : List ℕ) (k : Kind) (size : ℕ) (
       let first = tag w.width (pos i.0) in (
         first ++ g.done,
         i.3 ∙ ap (λ l. first ++ l) (g.whole ∙ ap (λ l. g.done ++ l) r) ∙ sym (append_assoc first g.done (piece ++ after)),
-        length-append first g.done ∙ (let a = tag_length w.width (pos i.0) in let b = g.size_of ∙ ap (λ s. n * s) (sym p) in omega (arith, a, b)),
+        length-append first g.done ∙ (let a = length-tag w.width (pos i.0) in let b = g.size_of ∙ ap (λ s. n * s) (sym p) in omega (arith, a, b)),
       )
 
   -- an element that no JSON says, in a list
@@ -362,14 +319,14 @@ module _ (F : List ℕ → Option Form) (e : List ℕ) (k : Kind) (size : ℕ) (
 -- a list of primitives that was found, and its elements
 pub numbers_there : (F : List ℕ → Option Form) (ns : List Named) (x own es : List ℕ) (parts : List (List ℕ)) (d : Definition) (at : Elements) (size : ℕ) → IsOpenedAs F x (form_of d) own parts → IsKindOf F ns x (form_of d) (Numbers at) → AreElementsOf (shape_of d) own es → size ≡ at.size
     → (parts ≡ []) × (e : List ℕ) × IsAt ns at.at e × HasKind F x (list (lengths_of (form_of d)) e) × HasKind F e (primitive_kind e size) × IsListed (lengths_of (form_of d)) own es size × (1 ≤ size)
-numbers_there F ns x own es parts d at size o i a q = found size q (i.2)
+numbers_there F ns x own es parts d at size o i a q = found size q i.1
   where
-    t : (e : List ℕ) × IsAt ns at.at e × HasKind F x (list (lengths_of (form_of d)) e)
-    t = subst (λ b. IsListOf F ns x (form_of d) at.at b) i.1 i.0
+    t : IsListOf F ns x (form_of d) at.at
+    t = i.0
 
     found : (n : ℕ) → n ≡ at.size → 0 < at.size → (parts ≡ []) × (e : List ℕ) × IsAt ns at.at e × HasKind F x (list (lengths_of (form_of d)) e) × HasKind F e (primitive_kind e n) × IsListed (lengths_of (form_of d)) own es n × (1 ≤ n)
     found zero e h = absurd (omega arith)
     found (suc n) e h =
-        let p : F t.0 ≡ Some (primitive (suc n)) = i.3 t.0 t.1 ∙ ap (λ k. Some (primitive k)) (sym e) in
+        let p : F t.0 ≡ Some (primitive (suc n)) = i.2 t.0 t.1 ∙ ap (λ k. Some (primitive k)) (sym e) in
         let b = list_node F x own es parts (list (lengths_of (form_of d)) t.0) d n (defined F ns x (form_of d) (list (lengths_of (form_of d)) t.0) o.0 (λ e. cc) t.2) tt (λ y z. ap (λ (y : List ℕ). F y) (sym z) ∙ p) o.1 a in
         (b.0, t.0, t.1, t.2, inr (full_primitive F {x = t.0} {n = n} p, primitive (suc n), p, refl), b.1, omega arith)

@@ -1,8 +1,5 @@
 -- The reader's next part.
-use Rattle.std.proofs.Common.{◌≡◌, inl, inr, ℕ, suc, zero, ◌+◌, ◌-◌, ◌<◌, List, [], ◌∷◌, ◌++◌, length, map, false, Option, Some, None, refl, sym, ◌∙◌, ap, subst, arith, append_assoc, append-nil, length-append, string_bytes}
-use Rattle.std.specs.Prelude.{IsSome, MatchOption, Result, Ok, Err, MatchResult, slice_get}
-use Rattle.std.specs.Borrow.{Bor}
-use Rattle.std.specs.Str.{bytes_eq}
+use Rattle.std.proofs.Common.{◌≡◌, inl, inr, ℕ, suc, zero, ◌+◌, ◌-◌, ◌<◌, List, [], ◌∷◌, ◌++◌, length, map, false, Option, Some, None, refl, sym, ◌∙◌, ap, subst, arith, append_assoc, append-nil, length-append, IsSome, MatchOption, Result, Ok, Err, MatchResult, slice_get, Bor, bytes_eq}
 use Rattle.std.specs.List.{IsDistinct, list_any}
 use Rattle.json.specs.Token.{Token}
 use Rattle.json.specs.Json.{Json, object, Items, no_items, item, Members}
@@ -35,35 +32,17 @@ use Rattle.borsh_json.proofs.StepLaws.{item_front, fields_end, left_there, items
 
 -- a key that isn't that of an entry is of no map
 no_map : (p : Parts) (key : Key) (f : List ℕ) → ((es : FoundEntries) → key ≡ EntryOf es → ⊥) → IsKey p key f → IsMapPlace p → ⊥
-no_map Root key f n k m = absurd m
-no_map (Elements at c) key f n k m = absurd m
-no_map (Row at c) key f n k m = absurd m
-no_map (Object at fs) key f n k m = absurd m
 no_map (MapEntries es c) key f n k m = n es k
-no_map (Newtype at) key f n k m = absurd m
-no_map (Present at) key f n k m = absurd m
-no_map (Variant v at) key f n k m = absurd m
+no_map parts key f n k m = absurd m
 
 map_place : (F : List ℕ → Option Form) (ns : List Named) (p : Parts) (s : Source) (keys : Keys) (k v : List ℕ) (es : List Entry) → AreEntriesOf F ns p s keys k v es → IsMapPlace p
-map_place F ns Root s keys k v es a = absurd a
-map_place F ns (Elements at c) s keys k v es a = absurd a
-map_place F ns (Row at c) s keys k v es a = absurd a
-map_place F ns (Object at fs) s keys k v es a = absurd a
 map_place F ns (MapEntries m c) s keys k v es a = tt
-map_place F ns (Newtype at) s keys k v es a = absurd a
-map_place F ns (Present at) s keys k v es a = absurd a
-map_place F ns (Variant w at) s keys k v es a = absurd a
+map_place F ns parts s keys k v es a = absurd a
 
 -- the field's name
 field_is : (p : Parts) (key : Key) (f field : List ℕ) → ((name : Bor (List ℕ)) → key ≡ Name name → field ≡ name.now) → IsObject p → IsKey p key f → field ≡ f
-field_is Root key f field n o k = absurd o
-field_is (Elements at c) key f field n o k = absurd o
-field_is (Row at c) key f field n o k = absurd o
 field_is (Object at fs) key f field n o k = n k.0 k.1 ∙ k.2
-field_is (MapEntries es c) key f field n o k = absurd o
-field_is (Newtype at) key f field n o k = absurd o
-field_is (Present at) key f field n o k = absurd o
-field_is (Variant v at) key f field n o k = absurd o
+field_is parts key f field n o k = absurd o
 
 no_rows : (x : List ℕ) (xs : List (List ℕ)) (ps : List JsonPart) → row_parts (x ∷ xs) no_items ≡ Some ps → ⊥
 no_rows x xs ps e = cc
@@ -80,30 +59,18 @@ of_map (Present at) key f m e k = let q : NoKey ≡ EntryOf m = sym k ∙ e in c
 of_map (Variant v at) key f m e k = let q : Name v ≡ EntryOf m = sym k ∙ e in cc
 
 object_or_map : (p : Parts) → IsObject p → IsMapPlace p → ⊥
-object_or_map Root o m = o
-object_or_map (Elements at c) o m = o
-object_or_map (Row at c) o m = o
 object_or_map (Object at fs) o m = m
-object_or_map (MapEntries es c) o m = o
-object_or_map (Newtype at) o m = o
-object_or_map (Present at) o m = o
-object_or_map (Variant v at) o m = o
+object_or_map parts o m = o
 
 module _ (F : List ℕ → Option Form) (ns : List Named) where
   -- the entries of the place are those of its key
   entries_here : (p : Parts) (key : Key) (f : List ℕ) (m : FoundEntries) (s : Source) (keys : Keys) (k v : List ℕ) (es : List Entry) → key ≡ EntryOf m → IsKey p key f → AreEntriesOf F ns p s keys k v es → IsAt ns m.key k × IsAt ns m.value v × AreKeysOf F ns k (form_of m.key_definition.now) m.key_kind keys × HasEntries m.key_kind s es × ((t : Source) (rest : List Entry) → HasEntries m.key_kind t rest → AreEntriesOf F ns p t keys k v rest)
-  entries_here Root key f m s keys k v es e q a = absurd a
-  entries_here (Elements at c) key f m s keys k v es e q a = absurd a
-  entries_here (Row at c) key f m s keys k v es e q a = absurd a
-  entries_here (Object at fs) key f m s keys k v es e q a = absurd a
   entries_here (MapEntries n c) key f m s keys k v es e q a =
       let r : EntryOf n ≡ EntryOf m = sym q ∙ e in
       let d : n ≡ m = cc in
       subst (λ (m : FoundEntries). IsAt ns m.key k × IsAt ns m.value v × AreKeysOf F ns k (form_of m.key_definition.now) m.key_kind keys × HasEntries m.key_kind s es × ((t : Source) (rest : List Entry) → HasEntries m.key_kind t rest → AreEntriesOf F ns (MapEntries n c) t keys k v rest)) d
       (a.0, a.1, a.2, a.3, λ t rest h. (a.0, a.1, a.2, h))
-  entries_here (Newtype at) key f m s keys k v es e q a = absurd a
-  entries_here (Present at) key f m s keys k v es e q a = absurd a
-  entries_here (Variant w at) key f m s keys k v es e q a = absurd a
+  entries_here parts key f m s keys k v es e q a = absurd a
 
 no_length : (w : Wanted) (rest ws : List Wanted) (es : List Entry) → ws ≡ w ∷ rest → length ws ≡ length es → es ≡ [] → ⊥
 no_length w rest ws es e l z = let a = ap (λ (l : List Wanted). length l) e in let b = ap (λ (l : List Entry). length l) z in absurd (omega (arith, a, b, l))
@@ -115,7 +82,7 @@ get_behind : (gs : List Wanted) (f : Wanted) (fs : List Wanted) → slice_get (g
 get_behind [] f fs = refl
 get_behind (g ∷ gs) f fs = get_behind gs f fs
 
-fields_same : (fs gs : List Wanted) → fields fs ≡ fields gs → fs ≡ gs
+pub fields_same : (fs gs : List Wanted) → fields fs ≡ fields gs → fs ≡ gs
 fields_same fs gs e = cc
 
 -- ---- one more part was begun
@@ -135,14 +102,8 @@ module _ (F : List ℕ → Option Form) (ns : List Named) where
 
   -- of a map, behind its key
   begun_entry : (p : Parts) (b c : ℕ) (kind : Kind) (i : Json) (ds : List JsonPart) (k z : JsonPart) → IsMapPlace p → c ≡ b + 1 → IsPlaceOf F ns p b kind i ds → IsPlaceOf F ns p c kind i (ds ++ k ∷ z ∷ [])
-  begun_entry Root b c kind i ds k z m e h = absurd m
-  begun_entry (Elements at n) b c kind i ds k z m e h = absurd m
-  begun_entry (Row at n) b c kind i ds k z m e h = absurd m
-  begun_entry (Object at fs) b c kind i ds k z m e h = absurd m
   begun_entry (MapEntries es n) b c kind i ds k z m e h = (h.0, h.1, h.2, h.3, h.4, (let l = length-append ds (k ∷ z ∷ []) in let t = h.5 in omega (arith, l, e, t)))
-  begun_entry (Newtype at) b c kind i ds k z m e h = absurd m
-  begun_entry (Present at) b c kind i ds k z m e h = absurd m
-  begun_entry (Variant v at) b c kind i ds k z m e h = absurd m
+  begun_entry parts b c kind i ds k z m e h = absurd m
 
   part_begun : (d : ℕ) (p q : Place) (x : List ℕ) (kind : Kind) (i : Json) (ds : List JsonPart) (z : JsonPart) → q.parts ≡ p.parts → q.begun ≡ p.begun + 1 → (IsMapPlace p.parts → ⊥) → IsPlaceIn F ns d p x kind i ds → IsPlaceIn F ns d q x kind i (ds ++ z ∷ [])
   part_begun zero p q x kind i ds z e b n h = (e ∙ h.0, h.1)
@@ -172,31 +133,19 @@ module _ (F : List ℕ → Option Form) (ns : List Named) where
 
   -- the step to a field that is missing
   missing_step : (p : Parts) (b c : ℕ) (kind : Kind) (i : Json) (ds : List JsonPart) (gs : List Wanted) (f : Wanted) (fs : List Wanted) → IsObject p → c ≡ b + 1 → length gs ≡ length ds → kind ≡ fields (gs ++ f ∷ fs) → IsPlaceOf F ns p b kind i ds → first_steps p c ++ last_steps p ≡ field_step f.0 ∷ []
-  missing_step Root b c kind i ds gs f fs o e l k h = absurd o
-  missing_step (Elements at n) b c kind i ds gs f fs o e l k h = absurd o
-  missing_step (Row at n) b c kind i ds gs f fs o e l k h = absurd o
   missing_step (Object at os) b c kind i ds gs f fs o e l k h =
       let names : List Wanted = map field_bytes os.now.items in
       let all = fields_same names (gs ++ f ∷ fs) (sym h.0 ∙ k) in
       let n : c - 1 ≡ length gs = (let t = h.1 in omega (arith, t, e, l)) in
       ap (λ n. name_step (slice_get names n) ++ []) n ∙ ap (λ (l : List Wanted). name_step (slice_get l (length gs)) ++ []) all ∙ ap (λ (o : Option Wanted). name_step o ++ []) (get_behind gs f fs)
-  missing_step (MapEntries es n) b c kind i ds gs f fs o e l k h = absurd o
-  missing_step (Newtype at) b c kind i ds gs f fs o e l k h = absurd o
-  missing_step (Present at) b c kind i ds gs f fs o e l k h = absurd o
-  missing_step (Variant v at) b c kind i ds gs f fs o e l k h = absurd o
+  missing_step parts b c kind i ds gs f fs o e l k h = absurd o
 
   -- the steps to the key of an entry
   key_steps : (p : Parts) (b c : ℕ) (kind : Kind) (i : Json) (ds : List JsonPart) → IsMapPlace p → c ≡ b + 1 → IsPlaceOf F ns p b kind i ds → AreSteps kind i (length ds) (first_steps p c ++ place_step 0 ∷ [])
-  key_steps Root b c kind i ds m e h = absurd m
-  key_steps (Elements at n) b c kind i ds m e h = absurd m
-  key_steps (Row at n) b c kind i ds m e h = absurd m
-  key_steps (Object at fs) b c kind i ds m e h = absurd m
   key_steps (MapEntries es n) b c kind i ds m e h =
       let t : c - 1 ≡ b = omega (arith, e) in
       subst (λ (k : Kind). AreSteps k i (length ds) (element_step (c - 1) ∷ place_step 0 ∷ [])) (sym h.4) (b, inl (sym h.5, ap (λ n. element_step n ∷ place_step 0 ∷ []) t))
-  key_steps (Newtype at) b c kind i ds m e h = absurd m
-  key_steps (Present at) b c kind i ds m e h = absurd m
-  key_steps (Variant v at) b c kind i ds m e h = absurd m
+  key_steps parts b c kind i ds m e h = absurd m
 
   -- ---- the end of a place
   says_all : (d : ℕ) (p : Place) (x : List ℕ) (kind : Kind) (i : Json) (own : List ℕ) (ds : List JsonPart) → IsPlaceIn F ns d p x kind i ds → Says F kind i own ds → SaysAll F ns d x i own ds
@@ -235,14 +184,8 @@ module _ (F : List ℕ → Option Form) (ns : List Named) (d : ℕ) (x : List �
       (λ n. says_all F ns d p x kind i own ds is t, λ name l. absurd (none_there name l p.parts h.3))
     where
       none_there : (name : List ℕ) → IsLeft s name → (q : Parts) → AreEntriesOf F ns q s keys k v es → ⊥
-      none_there name l Root a = a
-      none_there name l (Elements at n) a = a
-      none_there name l (Row at n) a = a
-      none_there name l (Object at fs) a = a
       none_there name l (MapEntries m n) a = entries_left_none m.key_kind s es name a.3 l
-      none_there name l (Newtype at) a = a
-      none_there name l (Present at) a = a
-      none_there name l (Variant w at) a = a
+      none_there name l parts a = a
 
   module _ (out : List ℕ) (p q : Place) (s t : Source) (part : FoundPart)
       (wanted : (ws : List Wanted) → IsWanted F ns p.parts p.begun ws → (w : Wanted) × (rest : List Wanted) × (ws ≡ w ∷ rest) × IsAt ns part.at w.1 × IsKey p.parts part.key w.0 × IsWanted F ns q.parts q.begun rest)

@@ -1,15 +1,10 @@
 -- Maps whose values are objects.
-use Rattle.std.proofs.Common.{◌≡◌, ◌⊎◌, ℕ, suc, zero, ◌+◌, ◌-◌, ◌≤◌, List, [], ◌∷◌, ◌++◌, inl, inr, length, replicate, false, Option, Some, None, refl, sym, ◌∙◌, ap, subst, arith, append-nil, append_assoc, length-append}
-use Rattle.std.specs.Prelude.{Ok, pos, nat_le}
+use Rattle.std.proofs.Common.{◌≡◌, ◌⊎◌, ℕ, suc, zero, ◌+◌, ◌-◌, ◌≤◌, List, [], ◌∷◌, ◌++◌, inl, inr, length, replicate, false, Option, Some, None, refl, sym, ◌∙◌, ap, subst, arith, append-nil, append_assoc, length-append, Ok, pos, nat_le, Bor, nat_cmp, is_ge, Ordering, Less, Equal, Greater}
 use Rattle.std.specs.Option.{option_cmp}
-use Rattle.std.specs.Borrow.{Bor}
 use Rattle.std.specs.BTreeMap.{BTreeMap, IsOrdered, btree_map_len}
 use Rattle.std.specs.Cmp.Lexicographic.{slice_cmp}
 use Rattle.std.specs.List.{AllByRecursion}
 use Rattle.std.specs.List.Sorted.{IsPermutation, IsStrictlySortedBy}
-use Rattle.std.specs.Ordering.{nat_cmp, is_ge}
-use Rattle.std.specs.declared.cmp.Ordering.{Ordering}
-use Rattle.std.specs.declared.cmp.Ordering.TheVariants.{Less, Equal, Greater}
 use Rattle.std.proofs.lemmas.Cmp.{nat_list_cmp_total}
 use Rattle.std.proofs.lemmas.List.Sorted.{IsPermutation-refl, length_permutation}
 use Rattle.json.specs.Token.{Token}
@@ -36,12 +31,9 @@ use Rattle.borsh_json.proofs.KeyJson.{key_number, tells}
 use Rattle.borsh_json.proofs.MemberLaws.{keyed_length, sorted_keyed, text_cmp}
 use Rattle.borsh_json.proofs.NumberLaws.{ranks_compare}
 use Rattle.borsh_json.proofs.OpeningLaws.{key_why, no_ascent, framed, said, shows_or, refuses_plain}
-use Rattle.borsh_json.proofs.ReaderLaws.{split, uncons}
+use Rattle.borsh_json.proofs.ReaderLaws.{split, uncons, object_one}
 use Rattle.borsh_json.proofs.RepresentsLaws.{IsAmong, moved, kind_one, number_one}
 use Rattle.borsh_json.specs.NoValue.{SaysOwn, FailsHere}
-
-pub object_one : (j : Json) (ms ns : Members) → j ≡ object ms → j ≡ object ns → ms ≡ ns
-object_one j ms ns e f = let q : object ms ≡ object ns = sym e ∙ f in cc
 
 among_middle : (e : Entry) (xs ys : List Entry) → IsAmong e (xs ++ e ∷ ys)
 among_middle e [] ys = inl refl

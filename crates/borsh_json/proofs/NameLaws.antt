@@ -1,9 +1,7 @@
 -- The kinds of names.
-use Rattle.std.proofs.Common.{◌≡◌, ◌⊎◌, inl, inr, ℕ, suc, zero, ◌<◌, List, [], ◌∷◌, Bool, true, false, Option, Some, None, refl, sym, ◌∙◌, ap, subst, arith, map, length}
-use Rattle.std.specs.Prelude.{◌==◌, ◌&&◌, ◌||◌, if◌then◌else◌, codes, not, option_map, ℤ}
+use Rattle.std.proofs.Common.{◌≡◌, ◌⊎◌, inl, inr, ℕ, suc, zero, ◌<◌, List, [], ◌∷◌, Bool, true, false, Option, Some, None, refl, sym, ◌∙◌, ap, subst, arith, map, ◌==◌, ◌&&◌, ◌||◌, if◌then◌else◌, codes, not, option_map, ℤ, bytes_eq}
 use Rattle.borsh_walks.specs.Container.{first, zeroed}
 use Rattle.std.specs.Float.{Format, binary32, binary64}
-use Rattle.std.specs.Str.{bytes_eq}
 use Rattle.std.specs.List.{AllByRecursion, IsDistinct}
 use Rattle.std.proofs.lemmas.Bool.{or_cases}
 use Rattle.std.proofs.lemmas.Bool.Decides.{nat_tests}
@@ -13,14 +11,13 @@ use Rattle.borsh_json.specs.declared.formats.Collection.{Collection}
 use Rattle.borsh_json.specs.declared.formats.Collection.TheVariants.{List as AList, Set, Map}
 use Rattle.borsh_values.specs.Nodes.{packed_size}
 use Rattle.borsh_json.specs.declared.kinds.Elements.{Elements}
-use Rattle.borsh_json.specs.declared.kinds.Kind.{Kind as Found}
-use Rattle.borsh_json.specs.declared.kinds.Kind.TheVariants.{Number as NumberKind, Bool as Truth, Text, Bytes, Float, ByteList, Numbers, List as ElementList, Map as Entries, Row, Newtype, Object, Optional, Choice, Repeated}
+use Rattle.borsh_json.specs.declared.kinds.Kind.TheVariants.{Numbers, List as ElementList}
 use Rattle.borsh_json.specs.declared.numbers.Number.{Number}
-use Rattle.borsh_json.specs.Forms.{Form, primitive, sequence, tuple, choice, named, unnamed, no_fields, HasNoBytes, IsByte, IsOption, IsMap, shape_of_form, shapes}
+use Rattle.borsh_json.specs.Forms.{Form, primitive, sequence, choice, named, unnamed, HasNoBytes, IsByte, IsOption, IsMap, shape_of_form, shapes}
 use Rattle.borsh_json.specs.Table.{Lengths, IsString, Keys, texts, numbers, Kind, truth, whole, float, float_size, utf8, byte_list, list, fields, variants, optional, entries, inner, DefinedKind, number_types, number_kind, primitive_kind, AreKeys, SequenceKind, a_text, some_bytes, an_object, some_elements, nullable, by_name, HasKind, IsNullable, MayBeNull, without_bytes, an_option, in_newtype, Says, ComesTwice, HasEmptyElements, RepeatsName}
 use Rattle.borsh_json.specs.Ranks.{number_found}
-use Rattle.borsh_json.specs.Places.{IsAt, IsKindOf, IsListOf, IsUnsayable, lengths_of}
-use Rattle.borsh_json.specs.Found.{IsCollection, IsPrimitiveKind, IsRefusedList}
+use Rattle.borsh_json.specs.Places.{IsAt, IsKindOf, IsUnsayable, lengths_of}
+use Rattle.borsh_json.specs.Found.{IsCollection}
 use Rattle.borsh_json.proofs.FoundLaws.{full_primitive, full_list, byte_full, zero_part}
 use Rattle.borsh_json.proofs.RepresentsLaws.{byte_or_map, kind_one, map_one}
 
@@ -120,31 +117,11 @@ module _ (F : List ℕ → Option Form) where
 
   -- ---- what each definition is
   module _ (x : List ℕ) (full : HasNoBytes F x → ⊥) where
-    of_primitive : (n : ℕ) (kind : Kind) → F x ≡ Some (primitive n) → kind ≡ primitive_kind x n → HasKind F x kind
-    of_primitive n kind e k = inr (full, primitive n, e, k)
-
-    pub primitive_found : (ns : List Named) (n : ℕ) (found : Found) → F x ≡ Some (primitive n) → IsPrimitiveKind found (primitive_kind x n) → IsKindOf F ns x (primitive n) found
-    primitive_found ns n (NumberKind t) e k = of_primitive n _ e (sym k)
-    primitive_found ns n Truth e k = of_primitive n _ e (sym k)
-    primitive_found ns n Text e k = absurd k
-    primitive_found ns n (Bytes m) e k = of_primitive n _ e (sym k)
-    primitive_found ns n (Float m) e k = (k.0, k.1, of_primitive n _ e (sym k.2))
-    primitive_found ns n (ByteList es) e k = absurd k
-    primitive_found ns n (Numbers es) e k = absurd k
-    primitive_found ns n (ElementList es) e k = absurd k
-    primitive_found ns n (Entries es order) e k = absurd k
-    primitive_found ns n (Row m) e k = absurd k
-    primitive_found ns n (Newtype at) e k = absurd k
-    primitive_found ns n (Object fs) e k = absurd k
-    primitive_found ns n (Optional at) e k = absurd k
-    primitive_found ns n (Choice w vs) e k = absurd k
-    primitive_found ns n (Repeated name) e k = absurd k
-
     pub fields_kind : (fs : List (List ℕ × List ℕ)) → F x ≡ Some (named fs) → HasKind F x (fields fs)
     fields_kind fs e = inr (full, named fs, e, refl)
 
-    pub fields_repeated : (ns : List Named) (fs : List (List ℕ × List ℕ)) (name : List ℕ) → F x ≡ Some (named fs) → (IsDistinct bytes_eq (map (λ f. f.0) fs) → ⊥) → ComesTwice name (map (λ f. f.0) fs) → IsUnsayable F ns x × RepeatsName F x name
-    fields_repeated ns fs name e n t = ((λ kind j own ps k s. n (subst (λ k. Says F k j own ps) (kind_one F k (fields_kind fs e)) s).0), inl (fs, fields_kind fs e, t))
+    pub fields_repeated : (fs : List (List ℕ × List ℕ)) (name : List ℕ) → F x ≡ Some (named fs) → (IsDistinct bytes_eq (map (λ f. f.0) fs) → ⊥) → ComesTwice name (map (λ f. f.0) fs) → IsUnsayable F x × RepeatsName F x name
+    fields_repeated fs name e n t = ((λ kind j own ps k s. n (subst (λ k. Says F k j own ps) (kind_one F k (fields_kind fs e)) s).0), inl (fs, fields_kind fs e, t))
 
     pub newtype_kind : (p : List ℕ) → F x ≡ Some (unnamed (p ∷ [])) → HasKind F x (inner p)
     newtype_kind p e = inr (full, unnamed (p ∷ []), e, refl)
@@ -155,8 +132,8 @@ module _ (F : List ℕ → Option Form) where
     pub variants_kind : (w : ℕ) (vs : List (ℤ × List ℕ × List ℕ)) → F x ≡ Some (choice w vs) → ((p : List ℕ) → IsNullable F x p → ⊥) → HasKind F x (variants w vs)
     variants_kind w vs e n = inr (full, choice w vs, e, by_name n)
 
-    pub variants_repeated : (ns : List Named) (w : ℕ) (vs : List (ℤ × List ℕ × List ℕ)) (name : List ℕ) → F x ≡ Some (choice w vs) → ((p : List ℕ) → IsNullable F x p → ⊥) → (IsDistinct bytes_eq (map (λ v. v.1) vs) → ⊥) → ComesTwice name (map (λ v. v.1) vs) → IsUnsayable F ns x × RepeatsName F x name
-    variants_repeated ns w vs name e o n t = ((λ kind j own ps k s. n (subst (λ k. Says F k j own ps) (kind_one F k (variants_kind w vs e o)) s).0), inr (w, vs, variants_kind w vs e o, t))
+    pub variants_repeated : (w : ℕ) (vs : List (ℤ × List ℕ × List ℕ)) (name : List ℕ) → F x ≡ Some (choice w vs) → ((p : List ℕ) → IsNullable F x p → ⊥) → (IsDistinct bytes_eq (map (λ v. v.1) vs) → ⊥) → ComesTwice name (map (λ v. v.1) vs) → IsUnsayable F x × RepeatsName F x name
+    variants_repeated w vs name e o n t = ((λ kind j own ps k s. n (subst (λ k. Says F k j own ps) (kind_one F k (variants_kind w vs e o)) s).0), inr (w, vs, variants_kind w vs e o, t))
 
     -- sequences
     module _ (w lo hi : ℕ) (e : List ℕ) (d : F x ≡ Some (sequence w lo hi e)) where
@@ -186,10 +163,10 @@ module _ (F : List ℕ → Option Form) where
       no_kind (inr n) kind (an_object {k = k} {keys = keys} m a) = keys_full k keys a (subst (λ k. HasNoBytes F k) (map_one F n.2 m).0 n.3)
       no_kind (inr n) kind (some_elements b m y k) = k n.0 n.1 n.2 n.3
 
-      pub refused : (ns : List Named) → (HasNoBytes F e) ⊎ ((k : List ℕ) × (v : List ℕ) × IsMap F x k v × HasNoBytes F k) → IsUnsayable F ns x × HasEmptyElements F x
-      refused ns z = (unsaid, (w, lo, hi, e, d, z))
+      pub refused : (HasNoBytes F e) ⊎ ((k : List ℕ) × (v : List ℕ) × IsMap F x k v × HasNoBytes F k) → IsUnsayable F x × HasEmptyElements F x
+      refused z = (unsaid, (w, lo, hi, e, d, z))
         where
-          unsaid : IsUnsayable F ns x
+          unsaid : IsUnsayable F x
           unsaid kind j own ps (inl k) s = full k.0
           unsaid kind j own ps (inr k) s =
               let g : Some k.1 ≡ Some (sequence w lo hi e) = sym k.2 ∙ d in
@@ -212,27 +189,18 @@ module _ (F : List ℕ → Option Form) where
   null_inner n x p e full o (an_option q r) = absurd (o q r)
   null_inner n x p e full o (in_newtype q g m) = let h : Some (unnamed (q ∷ [])) ≡ Some (unnamed (p ∷ [])) = sym g ∙ e in let i : q ≡ p = cc in subst (λ p. MayBeNull F n p) i m
 
-  pub refused_is : (ns : List Named) (x : List ℕ) (f : Form) (kind : Found) → IsRefusedList kind → IsUnsayable F ns x × HasEmptyElements F x → IsKindOf F ns x f kind
-  refused_is ns x f kind r u = subst (λ k. IsKindOf F ns x f k) (sym r.1) (subst (λ b. IsListOf F ns x f r.0.at b) (sym r.2) u, λ n. (let t = r.2 in cc))
-
   -- elements that are packed are primitives, and others are not
   pub packed_primitive : (e : List ℕ) (n m : ℕ) → n ≡ packed_size (shapes F e) → n ≡ suc m → F e ≡ Some (primitive n)
   packed_primitive e n m p h = there (F e) p
     where
       there : (o : Option Form) → n ≡ packed_size (option_map shape_of_form o) → o ≡ Some (primitive n)
-      there None q = cc
       there (Some (primitive k)) q = ap (λ k. Some (primitive k)) (sym q)
-      there (Some (sequence w lo hi y)) q = cc
-      there (Some (tuple ps)) q = cc
-      there (Some (choice w vs)) q = cc
-      there (Some (named fs)) q = cc
-      there (Some (unnamed ps)) q = cc
-      there (Some no_fields) q = cc
+      there form q = cc
 
-  pub numbers_found : (ns : List Named) (x : List ℕ) (f : Form) (e : List ℕ) (es : Elements) → IsAt ns es.at e → HasKind F x (list (lengths_of f) e) → es.is_refused ≡ false → (n : ℕ) → es.size ≡ suc n → es.size ≡ packed_size (shapes F e) → IsKindOf F ns x f (Numbers es)
-  numbers_found ns x f e es i h r n s p =
+  pub numbers_found : (ns : List Named) (x : List ℕ) (f : Form) (e : List ℕ) (es : Elements) → IsAt ns es.at e → HasKind F x (list (lengths_of f) e) → (n : ℕ) → es.size ≡ suc n → es.size ≡ packed_size (shapes F e) → IsKindOf F ns x f (Numbers es)
+  numbers_found ns x f e es i h n s p =
       let k = packed_primitive e es.size n p s in
-      (subst (λ b. IsListOf F ns x f es.at b) (sym r) (e, i, h), r, omega (arith, s), λ d j. (let g : Some d ≡ Some e = sym j ∙ i in let q : d ≡ e = cc in ap (λ (e : List ℕ). F e) q ∙ k))
+      ((e, i, h), omega (arith, s), λ d j. (let g : Some d ≡ Some e = sym j ∙ i in let q : d ≡ e = cc in ap (λ (e : List ℕ). F e) q ∙ k))
 
-  pub elements_found : (ns : List Named) (x : List ℕ) (f : Form) (e : List ℕ) (es : Elements) → IsAt ns es.at e → HasKind F x (list (lengths_of f) e) → es.is_refused ≡ false → packed_size (shapes F e) ≡ 0 → IsKindOf F ns x f (ElementList es)
-  elements_found ns x f e es i h r p = (subst (λ b. IsListOf F ns x f es.at b) (sym r) (e, i, h), λ t d j. (let g : Some d ≡ Some e = sym j ∙ i in let q : d ≡ e = cc in ap (λ (e : List ℕ). packed_size (shapes F e)) q ∙ p))
+  pub elements_found : (ns : List Named) (x : List ℕ) (f : Form) (e : List ℕ) (es : Elements) → IsAt ns es.at e → HasKind F x (list (lengths_of f) e) → packed_size (shapes F e) ≡ 0 → IsKindOf F ns x f (ElementList es)
+  elements_found ns x f e es i h p = ((e, i, h), λ d j. (let g : Some d ≡ Some e = sym j ∙ i in let q : d ≡ e = cc in ap (λ (e : List ℕ). packed_size (shapes F e)) q ∙ p))

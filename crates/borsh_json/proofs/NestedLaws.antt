@@ -1,11 +1,9 @@
 -- Where in a value the writer is.
-use Rattle.std.proofs.Common.{◌≡◌, ℕ, suc, ◌+◌, ◌<◌, ◌≤◌, List, [], ◌∷◌, ◌++◌, length, Option, Some, refl, sym, ◌∙◌, ap, subst, arith, append_assoc, append-nil, length-append}
-use Rattle.std.specs.Prelude.{option_map}
+use Rattle.std.proofs.Common.{◌≡◌, ℕ, suc, ◌+◌, ◌<◌, ◌≤◌, List, [], ◌∷◌, ◌++◌, length, Option, Some, refl, sym, ◌∙◌, ap, subst, arith, append_assoc, append-nil, length-append, option_map}
 use Rattle.borsh_walks.specs.Container.{IsIn, first, later, Member, Members, no_members, more_members}
 use Rattle.borsh_walks.proofs.Laws.{zero_member}
 use Rattle.borsh_values.specs.Nodes.{Opens}
 use Rattle.borsh_values.proofs.MemberLaws.{opens_member, members_head, whole, joined}
-use Rattle.borsh_json.specs.declared.position.Parts.TheVariants.{Root}
 use Rattle.borsh_json.specs.declared.position.Place.{Place}
 use Rattle.borsh_json.specs.Forms.{Form, shape_of_form, shapes, HasNoBytes}
 use Rattle.borsh_json.specs.Frames.{first_steps, last_steps, steps_at, steps_through}

@@ -1,19 +1,13 @@
 -- Whole numbers below a power of 256, and their bytes.
-use Rattle.std.proofs.Common.{◌≡◌, ℕ, suc, zero, ◌+◌, ◌-◌, ◌*◌, ◌/◌, ◌%◌, ◌<◌, ◌≤◌, ◌^◌, List, [], ◌∷◌, ◌++◌, map, take, min, replicate, inl, inr, Bool, true, false, ltb, MatchBool, refl, sym, ◌∙◌, ap, subst, arith, append_assoc, SFits}
-use Rattle.std.specs.Prelude.{ℤ, pos, negsuc, neg_ℤ, ◌<ℤ◌, Result, Ok, Err}
-use Rattle.std.specs.Result.{OnOk}
+use Rattle.std.proofs.Common.{◌≡◌, ℕ, suc, zero, ◌+◌, ◌-◌, ◌*◌, ◌/◌, ◌%◌, ◌<◌, ◌≤◌, ◌^◌, List, [], ◌∷◌, ◌++◌, map, take, min, replicate, inl, inr, Bool, true, false, refl, sym, ◌∙◌, ap, subst, arith, append_assoc, SFits, ℤ, pos, negsuc, neg_ℤ, ◌<ℤ◌, Result, Ok, Err, OnOk, FitsSigned, pow-add, pow_pos, Ordering, Less, Equal, Greater, append-nil}
 use Rattle.std.specs.Int.Signed.{lt_z}
-use Rattle.std.specs.Int.RustNames.{FitsSigned}
 use Rattle.std.specs.Int.{byte_at, bytes_low_first, cast_signed, cast_unsigned, to_le_bytes, w64, w128}
 use Rattle.std.specs.Ordering.{nat_cmp, int_cmp, is_eq, MatchOrdering}
-use Rattle.std.specs.declared.cmp.Ordering.{Ordering}
-use Rattle.std.specs.declared.cmp.Ordering.TheVariants.{Less, Equal, Greater}
 use Rattle.std.specs.Cmp.{nat_cmp_is, int_ranks, Equal-is}
 use Rattle.std.specs.Fmt.{decimal, signed_decimal}
 use Rattle.std.specs.Str.Parse.{signed_digits_value}
 use Rattle.std.proofs.lemmas.Fmt.{decimal_digit, decimal_is_IsNumeral_wide}
-use Rattle.std.proofs.lemmas.Nat.{pow-add, pow_pos, div-add-mod', mod_below, mod-mul-add}
-use Rattle.std.proofs.Math.Nat.{pow-suc, pow-succ', pow-le-pow_right, div-lt_iff_lt-mul, div-div-eq-div-mul}
+use Rattle.std.proofs.Math.Nat.{pow-suc, div-lt_iff_lt-mul, div-div-eq-div-mul}
 use Rattle.borsh_walks.specs.Container.{tag, little_endian}
 use Rattle.borsh_json.specs.Table.{InRange, IsWhole}
 use Rattle.borsh_json.specs.Ranks.{rank_of, HasRank}
@@ -80,17 +74,13 @@ low_more (suc j) k n h =
     let e : suc j + k ≡ suc (j + k) = omega arith in
     ap (λ i. little_endian i n) e ∙ ap (λ l. n % 256 ∷ l) (low_more j k (n / 256) (omega (arith, p)))
 
-nothing_after : (xs : List ℕ) → xs ++ [] ≡ xs
-nothing_after [] = refl
-nothing_after (x ∷ xs) = ap (λ l. x ∷ l) (nothing_after xs)
-
 taken : (w n : ℕ) → w ≤ 8 → take w (to_le_bytes w64 n) ≡ little_endian w n
 taken w n h = take_low 0 8 w n h ∙ low_whole w n
 
 pub count_bytes : (w n : ℕ) → n < 2 ^ 64 → take (min w 8) (to_le_bytes w64 n) ++ replicate (w - 8) 0 ≡ tag w (pos n)
 count_bytes w n h = elim (cases_lt w 9) [
   | inl l ↦ (let a : min w 8 ≡ w = omega arith in let b : w - 8 ≡ 0 = omega arith in
-      ap (λ i. take i (to_le_bytes w64 n) ++ replicate (w - 8) 0) a ∙ ap (λ i. take w (to_le_bytes w64 n) ++ replicate i 0) b ∙ nothing_after (take w (to_le_bytes w64 n)) ∙ taken w n (omega arith))
+      ap (λ i. take i (to_le_bytes w64 n) ++ replicate (w - 8) 0) a ∙ ap (λ i. take w (to_le_bytes w64 n) ++ replicate i 0) b ∙ append-nil (take w (to_le_bytes w64 n)) ∙ taken w n (omega arith))
   | inr l ↦ (let a : min w 8 ≡ 8 = omega arith in let b : 8 + (w - 8) ≡ w = omega arith in
       ap (λ i. take i (to_le_bytes w64 n) ++ replicate (w - 8) 0) a ∙ ap (λ l. l ++ replicate (w - 8) 0) (taken 8 n (omega arith)) ∙ sym (low_more 8 (w - 8) n (omega arith)) ∙ ap (λ i. little_endian i n) b)
 ]
@@ -111,7 +101,7 @@ ones (suc k) = ap (λ l. 255 ∷ l) (ones k)
 pub tag_bytes : (w m : ℕ) → m < 2 ^ 63 → take (min w 8) (to_le_bytes w64 (2 ^ 64 - suc m)) ++ replicate (w - 8) 255 ≡ tag w (negsuc m)
 tag_bytes w m h = elim (cases_lt w 9) [
   | inl l ↦ (let a : min w 8 ≡ w = omega arith in let b : w - 8 ≡ 0 = omega arith in
-      ap (λ i. take i (to_le_bytes w64 (2 ^ 64 - suc m)) ++ replicate (w - 8) 255) a ∙ ap (λ i. take w (to_le_bytes w64 (2 ^ 64 - suc m)) ++ replicate i 255) b ∙ nothing_after (take w (to_le_bytes w64 (2 ^ 64 - suc m))) ∙ taken w (2 ^ 64 - suc m) (omega arith) ∙ complement w 8 m (omega arith) (omega arith))
+      ap (λ i. take i (to_le_bytes w64 (2 ^ 64 - suc m)) ++ replicate (w - 8) 255) a ∙ ap (λ i. take w (to_le_bytes w64 (2 ^ 64 - suc m)) ++ replicate i 255) b ∙ append-nil (take w (to_le_bytes w64 (2 ^ 64 - suc m))) ∙ taken w (2 ^ 64 - suc m) (omega arith) ∙ complement w 8 m (omega arith) (omega arith))
   | inr l ↦ (let a : min w 8 ≡ 8 = omega arith in let b : 8 + (w - 8) ≡ w = omega arith in
       ap (λ i. take i (to_le_bytes w64 (2 ^ 64 - suc m)) ++ replicate (w - 8) 255) a ∙ ap (λ l. l ++ replicate (w - 8) 255) (taken 8 (2 ^ 64 - suc m) (omega arith) ∙ complement 8 8 m (omega arith) (omega arith))
       ∙ ap (λ l. map (λ b. 255 - b) (little_endian 8 m) ++ l) (sym (ones (w - 8))) ∙ sym (map_both (little_endian 8 m) (replicate (w - 8) 0)) ∙ ap (λ l. map (λ b. 255 - b) l) (sym (low_more 8 (w - 8) m (omega arith)) ∙ ap (λ i. little_endian i m) b))
@@ -151,7 +141,7 @@ tag_taken d n bs f low e =
     let a : min n 8 ≡ n = omega (arith, low) in
     let b : n - 8 ≡ 0 = omega (arith, low) in
     let number = to_le_bytes w64 (cast_unsigned w64 (cast_signed w64 (cast_unsigned w64 d))) in
-    ap (λ l. take n l) e ∙ sym (nothing_after (take n number)) ∙ ap (λ k. take n number ++ replicate k (fill_of d)) (sym b) ∙ ap (λ k. take k number ++ replicate (n - 8) (fill_of d)) (sym a) ∙ tag_is d n (fill_of d) f refl
+    ap (λ l. take n l) e ∙ sym (append-nil (take n number)) ∙ ap (λ k. take n number ++ replicate k (fill_of d)) (sym b) ∙ ap (λ k. take k number ++ replicate (n - 8) (fill_of d)) (sym a) ∙ tag_is d n (fill_of d) f refl
 
 replicate_more : (k f : ℕ) → replicate (suc k) f ≡ replicate k f ++ f ∷ []
 replicate_more zero f = refl

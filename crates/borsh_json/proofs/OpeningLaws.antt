@@ -1,14 +1,15 @@
 -- What JSON of a kind opens.
-use Rattle.std.proofs.Common.{◌≡◌, inl, inr, ℕ, suc, zero, List, [], ◌∷◌, ◌++◌, length, map, replicate, drop, Bool, true, Option, Some, None, refl, sym, ◌∙◌, ap, subst, arith, append-nil}
-use Rattle.std.specs.Prelude.{Result, Ok, Err, ℤ, slice_get, MatchOption, String}
+use Rattle.std.proofs.Common.{◌≡◌, inl, inr, ℕ, suc, zero, List, [], ◌∷◌, ◌++◌, length, map, replicate, drop, Bool, true, Option, Some, None, refl, sym, ◌∙◌, ap, subst, arith, append-nil, Result, Ok, Err, ℤ, slice_get, MatchOption, String, string_bytes, Global}
 use Rattle.json.specs.Token.{Token}
-use Rattle.json.specs.Json.{Json, null, boolean, number, string, array, object, Items, no_items, item}
+use Rattle.json.specs.Json.{Json, null, boolean, number, string, Items, no_items, item}
 use Rattle.json.specs.Find.{BeginsWith, is_null, as_bool, as_str, as_number}
 use Rattle.borsh_plan.specs.declared.named.Named.{Named}
 use Rattle.borsh_json.specs.declared.error.ReadError.{ReadError}
 use Rattle.borsh_json.specs.declared.error.ReadError.TheVariants.{OutOfMemory, Refused, Descends as DescendsAt}
 use Rattle.borsh_json.specs.declared.error.Refusal.{Refusal}
-use Rattle.borsh_json.specs.declared.error.Refusal.TheVariants.{TooDeep, RepeatedName, EmptyElements, NotBool, NotUtf8, Zero, NotNumber, Descends, Expected, MissingField, UnknownName, RepeatedKey, Undefined}
+use Rattle.borsh_json.specs.declared.error.Refusal.TheVariants.{RepeatedName, EmptyElements, Expected, RepeatedKey}
+use Rattle.borsh_json.specs.declared.kinds.Flaw.{Flaw}
+use Rattle.borsh_json.specs.declared.kinds.Flaw.TheVariants.{RepeatedName as NameTwice, EmptyElements as NoElements}
 use Rattle.borsh_json.specs.declared.opening.Frame.{Frame}
 use Rattle.borsh_json.specs.declared.order.Ascent.{Ascent}
 use Rattle.borsh_json.specs.declared.position.Parts.{Parts}
@@ -19,45 +20,35 @@ use Rattle.borsh_json.specs.Forms.{Form}
 use Rattle.borsh_json.specs.Frames.{ShowsOr, ShowsRead, DeniesRead, FailsRead, Left, items_left, IsExpected, SaysOn, IsPlaceOf, AscendIn, IsUnbegun, IsFound, IsOpened, IsOpenedOrFalls, HasLeft, IsWanted, IsListPlace, IsMapPlace, Wanted, DeniesOr, IsUnexpected, IsKeyReason}
 use Rattle.borsh_json.specs.InOrder.{DigitsFall, ItemsFall}
 use Rattle.borsh_json.specs.NoValue.{SaysOwn, FailsHere, Why}
-use Rattle.borsh_json.specs.Table.{Lengths, Kind, byte_list, HasKind, Part, row_parts, list_parts, IsVariant, this, that, Says}
+use Rattle.borsh_json.specs.Places.{HasFlaw, IsRefusalOf}
+use Rattle.borsh_json.specs.Table.{Lengths, Kind, byte_list, HasEmptyElements, HasKind, Part, row_parts, list_parts, IsVariant, RepeatsName, this, that, Says}
 use Rattle.borsh_json.proofs.FrameLaws.{drop_at}
 use Rattle.borsh_json.proofs.ReaderLaws.{mapped}
 use Rattle.borsh_json.proofs.RepresentsLaws.{kind_one}
 use Rattle.borsh_json.proofs.StepLaws.{item_back}
-use Rattle.std.specs.Global.{Global}
+
+-- ---- names without JSON
+-- the refusal for a flaw of a name is right where that for each flaw is
+pub flaw_refuses : (F : List ℕ → Option Form) (x : List ℕ) (IsRight : Refusal → Type 0) → ((text : String Global) → RepeatsName F x (string_bytes text) → IsRight (RepeatedName text)) → (HasEmptyElements F x → IsRight EmptyElements) → (flaw : Flaw) (refusal : Refusal) → HasFlaw F x flaw → IsRefusalOf flaw refusal → IsRight refusal
+flaw_refuses F x IsRight r e (NameTwice name) refusal h i = subst IsRight (sym i.1) (r i.0 (subst (λ s. RepeatsName F x s) (sym i.2) h))
+flaw_refuses F x IsRight r e NoElements refusal h i = subst IsRight (sym i) (e h)
 
 -- ---- JSON by its type
 pub null_is : (j : Json) → is_null j ≡ true → j ≡ null
 null_is null e = refl
-null_is (boolean b) e = cc
-null_is (number s) e = cc
-null_is (string s) e = cc
-null_is (array js) e = cc
-null_is (object ms) e = cc
+null_is json e = cc
 
 pub bool_is : (j : Json) (b : Bool) → as_bool j ≡ Some b → j ≡ boolean b
-bool_is null b e = cc
 bool_is (boolean c) b e = (let q : c ≡ b = cc in ap boolean q)
-bool_is (number s) b e = cc
-bool_is (string s) b e = cc
-bool_is (array js) b e = cc
-bool_is (object ms) b e = cc
+bool_is json b e = cc
 
 pub string_is : (j : Json) (s : List ℕ) → as_str j ≡ Some s → j ≡ string s
-string_is null s e = cc
-string_is (boolean b) s e = cc
-string_is (number t) s e = cc
 string_is (string t) s e = (let q : t ≡ s = cc in ap (λ t. string t) q)
-string_is (array js) s e = cc
-string_is (object ms) s e = cc
+string_is json s e = cc
 
 pub number_is : (j : Json) (s : List ℕ) → as_number j ≡ Some s → j ≡ number s
-number_is null s e = cc
-number_is (boolean b) s e = cc
-number_is (string t) s e = cc
 number_is (number t) s e = (let q : t ≡ s = cc in ap (λ t. number t) q)
-number_is (array js) s e = cc
-number_is (object ms) s e = cc
+number_is json s e = cc
 
 -- ---- errors
 pub shows_or : {D E : ℕ → Type 0} {Reason Other : Refusal → Type 0} (e : ReadError) {P Q : Type 0} → ((r : Refusal) → Reason r → Other r) → (P → Q) → ((i : ℕ) → D i → E i) → ShowsOr D Reason e P → ShowsOr E Other e Q
@@ -78,34 +69,13 @@ denies_expected Reason w e i d = shows_expected Reason w e i d
 -- what is denied of JSON of a name
 module _ (F : List ℕ → Option Form) (ns : List Named) (x : List ℕ) (j : Json) where
   pub plain_why : (r : Refusal) → IsUnexpected r → Why F x j r
-  plain_why TooDeep p = absurd p
-  plain_why (RepeatedName name) p = absurd p
-  plain_why EmptyElements p = absurd p
-  plain_why NotBool p = absurd p
-  plain_why NotUtf8 p = absurd p
-  plain_why Zero p = absurd p
-  plain_why NotNumber p = absurd p
-  plain_why Descends p = absurd p
   plain_why (Expected wanted) p = tt
-  plain_why MissingField p = absurd p
-  plain_why (UnknownName name) p = absurd p
-  plain_why (RepeatedKey name) p = absurd p
-  plain_why (Undefined name) p = absurd p
+  plain_why refusal p = absurd p
 
   pub key_why : (r : Refusal) → IsKeyReason j r → Why F x j r
-  key_why TooDeep p = absurd p
-  key_why (RepeatedName name) p = absurd p
-  key_why EmptyElements p = absurd p
-  key_why NotBool p = absurd p
-  key_why NotUtf8 p = absurd p
-  key_why Zero p = absurd p
-  key_why NotNumber p = absurd p
-  key_why Descends p = absurd p
   key_why (Expected wanted) p = tt
-  key_why MissingField p = absurd p
-  key_why (UnknownName name) p = absurd p
   key_why (RepeatedKey name) p = p
-  key_why (Undefined name) p = absurd p
+  key_why refusal p = absurd p
 
   pub refuses_or : {D E : ℕ → Type 0} (e : ReadError) {P : Type 0} → (SaysOwn F x j → P) → ((i : ℕ) → D i → E i) → DeniesOr D IsUnexpected e P → ShowsOr E (Why F x j) e (FailsHere F x j)
   refuses_or e {P} f g d = shows_or e plain_why (λ (n : P → ⊥). inl (λ s. n (f s))) g d
@@ -154,10 +124,8 @@ module _ (F : List ℕ → Option Form) (ns : List Named) (x : List ℕ) (j : Js
 
   -- what is opened doesn't fall
   pub opened : (old new : List ℕ) (r : Result (Option Frame) ReadError) → IsOpened F ns x j old new r → IsOpenedOrFalls F ns x j old new r
-  opened old new (Ok found) o = o
-  opened old new (Err OutOfMemory) o = o
-  opened old new (Err (Refused r)) o = o
   opened old new (Err (DescendsAt i)) o = absurd o
+  opened old new found o = o
 
   -- without own bytes the output may be any
   pub unmoved : (out : List ℕ) (r : Result (Option Frame) ReadError) → IsOpened F ns x j [] [] r → IsOpened F ns x j out out r

@@ -1,11 +1,8 @@
 -- What is compared, one after another: the first values that differ decide.
-use Rattle.std.proofs.Common.{◌≡◌, ◌⊎◌, inl, inr, ℕ, suc, zero, ◌<◌, ◌≤◌, ◌^◌, List, [], ◌∷◌, ◌++◌, length, map, replicate, get_or, Bool, Option, Some, None, refl, sym, ◌∙◌, ap, subst, arith, append_assoc, length-append}
-use Rattle.std.specs.Prelude.{ℤ, pos, negsuc, false, codes, option_map, All}
+use Rattle.std.proofs.Common.{◌≡◌, ◌⊎◌, inl, inr, ℕ, suc, zero, ◌<◌, ◌≤◌, ◌^◌, List, [], ◌∷◌, ◌++◌, length, map, replicate, get_or, Bool, Option, Some, None, refl, sym, ◌∙◌, ap, subst, arith, append_assoc, length-append, ℤ, pos, negsuc, false, codes, option_map, All, Ordering, Less, Equal, Greater}
 use Rattle.std.specs.Ordering.{nat_cmp, int_cmp, MatchOrdering}
 use Rattle.std.specs.Cmp.Lexicographic.{slice_cmp}
 use Rattle.std.specs.Cmp.{nat_cmp_is}
-use Rattle.std.specs.declared.cmp.Ordering.{Ordering}
-use Rattle.std.specs.declared.cmp.Ordering.TheVariants.{Less, Equal, Greater}
 use Rattle.std.proofs.lemmas.Bool.Decides.{nat_tests}
 use Rattle.borsh_walks.specs.Container.{Shape, tag, zeroed}
 use Rattle.borsh_walks.specs.Container as shape

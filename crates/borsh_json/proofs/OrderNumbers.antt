@@ -1,11 +1,8 @@
 -- How numbers compare by their bytes.
-use Rattle.std.proofs.Common.{◌≡◌, ℕ, suc, zero, ◌-◌, ◌*◌, ◌/◌, ◌%◌, ◌<◌, ◌≤◌, ◌^◌, List, [], ◌∷◌, length, map, drop, get_or, min, Bool, true, false, leb, refl, sym, ◌∙◌, ap, arith, pow-suc}
+use Rattle.std.proofs.Common.{◌≡◌, ℕ, suc, zero, ◌-◌, ◌*◌, ◌/◌, ◌%◌, ◌<◌, ◌≤◌, ◌^◌, List, [], ◌∷◌, length, map, drop, get_or, min, Bool, true, false, leb, refl, sym, ◌∙◌, ap, arith, pow-suc, ℤ, pos, negsuc, ◌<ℤ◌, Ordering, Less, Equal, Greater}
 use mathlib.Core.Bool.{not, beq}
-use Rattle.std.specs.Prelude.{ℤ, pos, negsuc, ◌<ℤ◌}
 use Rattle.std.specs.Ordering.{nat_cmp, int_cmp, bool_cmp, MatchOrdering}
 use Rattle.std.specs.Cmp.{nat_cmp_is, int_cmp_is, int_ranks}
-use Rattle.std.specs.declared.cmp.Ordering.{Ordering}
-use Rattle.std.specs.declared.cmp.Ordering.TheVariants.{Less, Equal, Greater}
 use Rattle.std.proofs.lemmas.Cmp.{ranked}
 use Rattle.std.proofs.lemmas.Bool.Decides.{nat_tests}
 use Rattle.std.proofs.lemmas.Int.{ints}
@@ -13,6 +10,7 @@ use Rattle.borsh_walks.specs.Container.{tag, little_endian}
 use Rattle.borsh_values.proofs.TagLaws.{drop_at}
 use Rattle.borsh_json.specs.Table.{InRange}
 use Rattle.borsh_values.specs.Tags.{is_negative}
+pub use Rattle.borsh_walks.proofs.Laws.{length-tag as long_tag}
 
 pub one_low : (n x y : ℕ) → x < 256 ^ n → y < 256 ^ n → little_endian n x ≡ little_endian n y → x ≡ y
 one_low zero x y a b e = let p : 256 ^ 0 ≡ 1 = refl in omega (arith, p)
@@ -66,14 +64,6 @@ last_low (suc n) m h = let p = pow-suc 256 (suc n) in last_low n (m / 256) (omeg
 last_high : (n m : ℕ) → 2 * m < 256 ^ suc n → 128 ≤ get_or (map (λ b. 255 - b) (little_endian (suc n) m)) n 0
 last_high zero m h = let p : 256 ^ 1 ≡ 256 = refl in let k : 128 ≤ 255 - m % 256 = omega (arith, h, p) in k
 last_high (suc n) m h = let p = pow-suc 256 (suc n) in last_high n (m / 256) (omega (arith, h, p))
-
-long_map : (f : ℕ → ℕ) (l : List ℕ) → length (map f l) ≡ length l
-long_map f [] = refl
-long_map f (x ∷ xs) = ap (λ k. suc k) (long_map f xs)
-
-pub long_tag : (n : ℕ) (z : ℤ) → length (tag n z) ≡ n
-long_tag n (pos m) = long n m
-long_tag n (negsuc m) = long_map (λ b. 255 - b) (little_endian n m) ∙ long n m
 
 -- the highest byte tells the sign
 pub sign_top : (n : ℕ) (z : ℤ) (l : List ℕ) (negative : Bool) → 0 < n → InRange n true z → l ≡ tag n z → (negative ≡ true → 128 ≤ get_or l (n - 1) 0) → (negative ≡ false → get_or l (n - 1) 0 < 128) → negative ≡ is_negative z

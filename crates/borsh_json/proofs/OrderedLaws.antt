@@ -1,7 +1,5 @@
 -- The orders of names, as names and definitions tell them.
-use Rattle.std.proofs.Common.{◌≡◌, inl, inr, ℕ, suc, zero, ◌+◌, ◌<◌, ◌≤◌, List, [], ◌∷◌, ◌++◌, length, map, take, get_or, set, Bool, true, false, Option, Some, None, IfSome, String, refl, sym, ◌∙◌, ap, subst, arith, append_assoc}
-use Rattle.std.specs.Prelude.{◌==◌, Decides, codes, reverse, slice_get, string_bytes}
-use Rattle.std.specs.Global.{Global}
+use Rattle.std.proofs.Common.{◌≡◌, inl, inr, ℕ, suc, zero, ◌+◌, ◌<◌, List, [], ◌∷◌, ◌++◌, length, map, take, get_or, Bool, true, false, Option, Some, None, IfSome, String, refl, sym, ◌∙◌, ap, subst, arith, append_assoc, ◌==◌, codes, slice_get, string_bytes, Global, append-nil}
 use Rattle.borsh_plan.specs.declared.named.Named.{Named}
 use Rattle.borsh_json.specs.declared.order.Ordered.{Ordered}
 use Rattle.borsh_json.specs.declared.order.Ordered.TheVariants.{Number}
@@ -20,36 +18,24 @@ named_get (p ∷ ps) (suc i) a h e = named_get ps i a (omega (arith, h)) e
 pub listed_more : (ps : List (List ℕ)) (i : ℕ) (p text rest last : List ℕ) → slice_get ps i ≡ Some p → text ≡ following (take i ps) ++ rest → rest ≡ 44 ∷ 32 ∷ ((p ++ []) ++ last) → text ≡ following (take (i + 1) ps) ++ last
 listed_more ps i p text rest last g e q = e ∙ ap (λ r. following (take i ps) ++ r) q ∙ more ps i p last g ∙ ap (λ j. following (take j ps) ++ last) (let s : suc i ≡ i + 1 = omega arith in s)
   where
-    nil : (p : List ℕ) → p ++ [] ≡ p
-    nil [] = refl
-    nil (c ∷ p) = ap (λ p. c ∷ p) (nil p)
-
     more : (ps : List (List ℕ)) (i : ℕ) (p last : List ℕ) → slice_get ps i ≡ Some p → following (take i ps) ++ 44 ∷ 32 ∷ ((p ++ []) ++ last) ≡ following (take (suc i) ps) ++ last
     more [] i p last g = cc
     more (q ∷ qs) zero p last g =
         let k : q ≡ p = cc in
-        ap (λ q. 44 ∷ 32 ∷ (q ++ last)) (nil p ∙ sym k ∙ sym (nil q))
+        ap (λ q. 44 ∷ 32 ∷ (q ++ last)) (append-nil p ∙ sym k ∙ sym (append-nil q))
     more (q ∷ qs) (suc i) p last g = ap (λ l. 44 ∷ 32 ∷ l) (append_assoc q (following (take i qs)) (44 ∷ 32 ∷ ((p ++ []) ++ last)) ∙ ap (λ l. q ++ l) (more qs i p last g) ∙ sym (append_assoc q (following (take (suc i) qs)) last))
 
 pub same_count : (ps : List (String Global)) → length (map (λ p. string_bytes p) ps) ≡ length ps
 same_count [] = refl
 same_count (p ∷ ps) = ap (λ n. suc n) (same_count ps)
 
-pub no_parts : (ps : List (String Global)) (name : List ℕ) → length ps ≡ 0 → name ≡ codes "()" → name ≡ tuple_name (map (λ p. string_bytes p) ps)
-no_parts [] name e n = n
-no_parts (p ∷ ps) name e n = absurd (omega (arith, e))
-
 pub tuple_named : (ps others : List (String Global)) (p : String Global) (head name rest last : List ℕ) → ps ≡ p ∷ others → (length others == 0) ≡ false → head ≡ string_bytes p → name ≡ 40 ∷ ((head ++ []) ++ rest) → rest ≡ following (map (λ p. string_bytes p) others) ++ last → last ≡ codes ")" → name ≡ tuple_name (map (λ p. string_bytes p) ps)
 tuple_named ps [] p head name rest last e t f n r l = let g : (0 == 0) ≡ true = refl in cc
 tuple_named ps (q ∷ others) p head name rest last e t f n r l =
     let names = map (λ p. string_bytes p) (q ∷ others) in
     n ∙ ap (λ rest. 40 ∷ ((head ++ []) ++ rest)) (r ∙ ap (λ last. following names ++ last) l)
-    ∙ ap (λ l. 40 ∷ l) (ap (λ f. f ++ (following names ++ 41 ∷ [])) (nil head ∙ f))
+    ∙ ap (λ l. 40 ∷ l) (ap (λ f. f ++ (following names ++ 41 ∷ [])) (append-nil head ∙ f))
     ∙ ap (λ ps. tuple_name (map (λ p. string_bytes p) ps)) (sym e)
-  where
-    nil : (p : List ℕ) → p ++ [] ≡ p
-    nil [] = refl
-    nil (c ∷ p) = ap (λ p. c ∷ p) (nil p)
 
 module _ (F : List ℕ → Option Form) (ns : List Named) where
   pub finds_order : (x : List ℕ) (found : Option Ordered) → (HasNoBytes F x → ⊥) → IfSome found (FindsBytes F ns x) → IfSome found (FindsOrder F ns x)

@@ -1,11 +1,5 @@
 -- Rows, lists, objects and variants that are opened.
-use Rattle.std.proofs.Common.{◌≡◌, inl, inr, ℕ, suc, zero, ◌≤◌, List, [], ◌∷◌, ◌++◌, length, map, replicate, Bool, true, false, Option, Some, None, refl, sym, ◌∙◌, ap, subst, arith, append-nil, string_bytes}
-use Rattle.std.specs.Prelude.{IsSome, Ok, String, Vec, ℤ, pos, slice_get, ◌-◌, ◌&&◌, ◌==◌, if◌then◌else◌, codes}
-use Rattle.std.specs.Borrow.{Bor}
-use Rattle.std.specs.Global.{Global}
-use Rattle.std.specs.BTreeMap.{BTreeMap}
-use Rattle.std.specs.Float.{binary32, binary64}
-use Rattle.std.specs.Str.{bytes_eq}
+use Rattle.std.proofs.Common.{◌≡◌, inl, inr, ℕ, suc, zero, ◌≤◌, List, [], ◌∷◌, ◌++◌, length, map, replicate, Option, Some, None, refl, sym, ◌∙◌, ap, subst, arith, append-nil, string_bytes, IsSome, Ok, String, Vec, ℤ, pos, slice_get, ◌-◌, Bor, Global, BTreeMap, bytes_eq}
 use Rattle.std.specs.List.{IsDistinct}
 use Rattle.json.specs.Token.{Token}
 use Rattle.json.specs.Json.{Json, string, array, object, Items, Members, no_members, member}
@@ -22,7 +16,7 @@ use Rattle.borsh_json.specs.Forms.{Form, named, choice, shape_of_form, HasNoByte
 use Rattle.borsh_json.specs.Frames.{DeniesRead, FailsRead, Wanted, AreFound, AreOthers, HasFields, HasLeft, AscendIn, IsUnbegun, IsOpened, NamesVariant, items_left, fields_left, IsListKind, IsUnexpected}
 use Rattle.borsh_json.specs.NoValue.{SaysOwn, NamesNoVariant}
 use Rattle.borsh_json.specs.Places.{IsAt, IsUnsayable}
-use Rattle.borsh_json.specs.Table.{Lengths, Kind, truth, whole, float, byte_list, row, inner, fields, variants, number_types, number_kind, primitive_kind, a_text, some_bytes, an_object, some_elements, nullable, by_name, DefinedKind, HasKind, Part, row_parts, list_parts, entries_of, IsVariant, IsHex, IsPrefixed, IsArray, Says}
+use Rattle.borsh_json.specs.Table.{Lengths, Kind, byte_list, row, fields, variants, HasKind, Part, row_parts, list_parts, entries_of, IsVariant, IsHex, IsPrefixed, IsArray, Says}
 use Rattle.borsh_json.proofs.FormKinds.{form_found}
 use Rattle.borsh_json.proofs.RepresentsLaws.{variant_one}
 use Rattle.borsh_json.proofs.OpeningLaws.{no_ascent, denied, said, framed, row_fits, rows_there, list_row, list_length, second_map, second_copies, refuses_plain}
@@ -30,12 +24,9 @@ use Rattle.borsh_json.proofs.OpeningLaws.{no_ascent, denied, said, framed, row_f
 array_one : (js ks : Items) → array js ≡ array ks → js ≡ ks
 array_one js ks e = cc
 
-object_one : (ms ns : Members) → object ms ≡ object ns → ms ≡ ns
-object_one ms ns e = cc
-
 module _ (F : List ℕ → Option Form) (ns : List Named) (x : List ℕ) (j : Json) where
   -- nothing is said of the name
-  pub unsayable : IsUnsayable F ns x → SaysOwn F x j → ⊥
+  pub unsayable : IsUnsayable F x → SaysOwn F x j → ⊥
   unsayable h s = let f = s.2 in h f.0 j s.0 s.1 f.1 f.2
 
   -- ---- rows

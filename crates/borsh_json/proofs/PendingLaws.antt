@@ -1,10 +1,7 @@
 -- What is still to be compared.
-use Rattle.std.proofs.Common.{◌≡◌, ◌⊎◌, inl, inr, ℕ, suc, zero, ◌+◌, ◌-◌, ◌<◌, ◌≤◌, ◌^◌, List, [], ◌∷◌, ◌++◌, length, map, drop, replicate, Bool, Option, Some, None, refl, sym, ◌∙◌, ap, subst, arith}
-use Rattle.std.specs.Prelude.{pos, reverse, slice_get, MatchBool, true, false}
+use Rattle.std.proofs.Common.{◌≡◌, ◌⊎◌, inl, inr, ℕ, suc, zero, ◌+◌, ◌-◌, ◌<◌, ◌≤◌, ◌^◌, List, [], ◌∷◌, ◌++◌, length, map, drop, replicate, Bool, Option, Some, None, refl, sym, ◌∙◌, ap, subst, arith, pos, reverse, slice_get, MatchBool, true, false, Ordering, Less, Equal, Greater}
 use Rattle.std.specs.Ordering.{nat_cmp, MatchOrdering}
 use Rattle.std.specs.Cmp.{nat_cmp_is}
-use Rattle.std.specs.declared.cmp.Ordering.{Ordering}
-use Rattle.std.specs.declared.cmp.Ordering.TheVariants.{Less, Equal, Greater}
 use Rattle.std.proofs.lemmas.List.{reverse-append}
 use Rattle.std.proofs.lemmas.Cmp.{ranked}
 use Rattle.borsh_walks.specs.Container.{references, tag}
@@ -15,8 +12,8 @@ use Rattle.borsh_json.specs.declared.order.Ordered.TheVariants.{Single, Number, 
 use Rattle.borsh_json.specs.declared.order.Pending.{Pending}
 use Rattle.borsh_json.specs.declared.order.Pending.TheVariants.{Elements, Parts, Copies, PartCopies}
 use Rattle.borsh_json.specs.Forms.{Form, tuple, shape_of_form, HasNoBytes}
-use Rattle.borsh_json.specs.Ordered.{Order, single, numbers, text, array, list, parts, other, HasOrder, Compared, a_value, a_copy, elements, IsAtLeast, all_equal}
-use Rattle.borsh_json.specs.Orders.{FindsOrder, IsOrderOf, IsPending, ArePending, IsTurn, IsPartAt, AreAlike}
+use Rattle.borsh_json.specs.Ordered.{Order, list, other, HasOrder, Compared, a_value, a_copy, elements, IsAtLeast, all_equal}
+use Rattle.borsh_json.specs.Orders.{FindsOrder, IsPending, ArePending, IsTurn, IsPartAt, AreAlike}
 use Rattle.borsh_json.specs.Places.{IsAt}
 use Rattle.borsh_json.proofs.OrderLaws.{Tells, NumbersCompare, TextsCompare, IsCopyOf, single_tells, numbers_tell, texts_tell, array_tells, parts_tell, list_tells, list_short, element_tells, end_tells, empty_tell, alike_then, other_copy, copy_copy, zeros_tell}
 
@@ -29,12 +26,6 @@ short_get : (i : ℕ) (qs : List (List ℕ)) → i < length qs → (p : List ℕ
 short_get i [] h = absurd (omega (arith, h))
 short_get zero (q ∷ qs) h = (q, refl)
 short_get (suc i) (q ∷ qs) h = short_get i qs (omega (arith, h))
-
-past : (i : ℕ) (qs : List (List ℕ)) → length qs ≤ i → drop i qs ≡ []
-past zero [] h = refl
-past (suc i) [] h = refl
-past zero (q ∷ qs) h = absurd (omega (arith, h))
-past (suc i) (q ∷ qs) h = past i qs (omega (arith, h))
 
 past_all : (i : ℕ) (qs : List (List ℕ)) → slice_get qs i ≡ None → drop i qs ≡ []
 past_all zero [] h = refl
@@ -214,13 +205,6 @@ module _ (F : List ℕ → Option Form) (ns : List Named) where
         let vs = map (λ p. a_value p) (drop (i + 1) qs) in
         let d : map (λ p. a_value p) (drop i qs) ≡ a_value g.0 ∷ vs = ap (λ (l : List (List ℕ)). map (λ p. a_value p) l) (drop_get i qs g.0 g.1 ∙ ap (λ j. g.0 ∷ drop j qs) s) in
         (a_value g.0, vs ++ p.1, o, pushed ps new (Parts at n (i + 1)) vs p.1 e (k.0, qs, k.2, k.3, k.4, refl) p.3, λ L R. alike_same L R (p.4 ∙ ap (λ (l : List Compared). l ++ p.1) (k.5 ∙ d)))
-
-    pub end_parts : (at n i : ℕ) → all ≡ ps ++ Parts at n i ∷ [] → n ≤ i → (vs : List Compared) × ArePending F ns (reverse ps) vs × ((L R : List ℕ) → AreAlike F us L R vs L R)
-    end_parts at n i q l =
-        let p = popped all ps (Parts at n i) us q a in
-        let k = p.2 in
-        let d : map (λ p. a_value p) (drop i k.1) ≡ [] = ap (λ (l : List (List ℕ)). map (λ p. a_value p) l) (past i k.1 (let h = k.4 in omega (arith, l, h))) in
-        (p.1, p.3, λ L R. alike_same L R (p.4 ∙ ap (λ (l : List Compared). l ++ p.1) (k.5 ∙ d)))
 
     -- the next of some copies
     pub next_copy : (new : List Pending) (at n : ℕ) → all ≡ ps ++ Copies at n ∷ [] → 0 < n → new ≡ ps ++ Copies at (n - 1) ∷ [] → Nexts new (Other at) us

@@ -1,7 +1,5 @@
 -- The names and definitions at places.
-use Rattle.std.proofs.Common.{◌≡◌, ◌⊎◌, inl, inr, ℕ, suc, zero, List, [], ◌∷◌, ◌++◌, length, Some, None, refl, sym, ◌∙◌, ap, subst, arith, Bool, Decides}
-use Rattle.std.specs.Prelude.{◌<◌, MatchOption, Option, option_map, slice_get}
-use Rattle.std.specs.Borrow.{Bor}
+use Rattle.std.proofs.Common.{◌≡◌, ◌⊎◌, inl, inr, ℕ, suc, zero, List, [], ◌∷◌, ◌++◌, length, Some, None, refl, sym, ◌∙◌, ap, subst, arith, Bool, Decides, ◌<◌, MatchOption, Option, option_map, slice_get, Bor}
 use Rattle.std.proofs.lemmas.Option.{slice_get-get_or}
 use Rattle.borsh_walks.specs.declared.definition.Definition.{Definition}
 use Rattle.borsh_walks.specs.Container.{Shape, references, IsZeroSize}

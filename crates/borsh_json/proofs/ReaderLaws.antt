@@ -1,6 +1,5 @@
 -- The bytes of parts, and of those that a path leads to.
-use Rattle.std.proofs.Common.{◌≡◌, inl, inr, ℕ, suc, zero, List, [], ◌∷◌, ◌++◌, length, Option, Some, None, refl, sym, ◌∙◌, ap, subst, append_assoc}
-use Rattle.std.specs.Prelude.{option_map, option_and_then, slice_get}
+use Rattle.std.proofs.Common.{◌≡◌, inl, inr, ℕ, suc, zero, List, [], ◌∷◌, ◌++◌, length, Option, Some, None, refl, sym, ◌∙◌, ap, subst, append_assoc, option_map, option_and_then, slice_get}
 use Rattle.json.specs.Json.{Json, Members, object}
 use Rattle.json.specs.Find.{get_member}
 use Rattle.borsh_json.specs.Forms.{Form}

@@ -1,8 +1,5 @@
 -- The reader's loop.
-use Rattle.std.proofs.Common.{◌≡◌, inl, inr, ℕ, suc, zero, ◌+◌, ◌-◌, ◌<◌, List, [], ◌∷◌, ◌++◌, length, map, Option, Some, None, refl, sym, ◌∙◌, ap, subst, arith, append_assoc, append-nil, length-append, string_bytes}
-use Rattle.std.specs.Prelude.{Bool, true, false, codes, slice_get, String, Result, Ok, Err, IfOk, OnOk, IfErr}
-use Rattle.std.specs.Global.{Global}
-use Rattle.std.specs.Borrow.{Bor}
+use Rattle.std.proofs.Common.{◌≡◌, inl, inr, ℕ, suc, zero, ◌+◌, ◌-◌, ◌<◌, List, [], ◌∷◌, ◌++◌, length, map, Option, Some, None, refl, sym, ◌∙◌, ap, subst, arith, append_assoc, append-nil, length-append, string_bytes, Bool, true, false, codes, slice_get, String, Result, Ok, Err, IfOk, OnOk, IfErr, Global, Bor}
 use Rattle.json.specs.Token.{Token}
 use Rattle.json.specs.Json.{Json, no_items, item}
 use Rattle.json.specs.Find.{BeginsWith}
@@ -12,7 +9,7 @@ use Rattle.borsh_json.specs.declared.error.PartError.TheVariants.{OutOfMemory as
 use Rattle.borsh_json.specs.declared.error.ReadError.{ReadError}
 use Rattle.borsh_json.specs.declared.error.ReadError.TheVariants.{OutOfMemory, Refused, Descends as DescendsAt}
 use Rattle.borsh_json.specs.declared.error.Refusal.{Refusal}
-use Rattle.borsh_json.specs.declared.error.Refusal.TheVariants.{TooDeep, RepeatedName, EmptyElements, NotBool, NotUtf8, Zero, NotNumber, Descends, Expected, MissingField, UnknownName, RepeatedKey, Undefined}
+use Rattle.borsh_json.specs.declared.error.Refusal.TheVariants.{TooDeep, RepeatedName, EmptyElements, Descends, Expected, MissingField, UnknownName, RepeatedKey, Undefined}
 use Rattle.borsh_json.specs.declared.definitions.Definitions.{Definitions}
 use Rattle.borsh_json.specs.declared.opening.Frame.{Frame}
 use Rattle.borsh_json.specs.declared.order.Ascent.{Ascent}
@@ -40,11 +37,8 @@ use Rattle.borsh_json.proofs.ReaderLaws.{joined, no_parts, fields_count, reached
 use Rattle.borsh_json.proofs.OpeningLaws.{no_ascent}
 use Rattle.borsh_json.proofs.AscentLaws.{unbegun_starts, begun_starts, falls_there, rises_there}
 use Rattle.borsh_json.proofs.InOrderLaws.{all_append, all_join, leaf_in_order, place_in_order}
-use Rattle.borsh_json.proofs.LoopLaws.{alone, other_none}
+use Rattle.borsh_json.proofs.LoopLaws.{alone, other_none, fields_same}
 use Rattle.borsh_json.proofs.MapLaws.{fails_none}
-
-fields_same : (fs gs : List Wanted) → fields fs ≡ fields gs → fs ≡ gs
-fields_same fs gs e = cc
 
 -- ---- the steps through places
 pub steps_last : (ps : List Place) (p : Place) → steps_through (ps ++ p ∷ []) ≡ steps_through ps ++ steps_at p
@@ -358,19 +352,13 @@ module _ (F : List ℕ → Option Form) (ns : List Named) (root : List ℕ) (j :
 
   module _ (path : List Step) (before x : List ℕ) (i : Json) (n : ℕ) (at : IsReached F root j n path before (x, i)) where
     failed : (r : Refusal) → Why F x i r → FailsHere F x i → IsUnreadable r × FailsAt F root j path r × SaysNothing F root j r
-    failed TooDeep w d = absurd w
     failed (RepeatedName name) w d = (tt, (n, before, x, i, at, w, d), reached_none F root j at (fails_none F ns x i d))
     failed EmptyElements w d = (tt, (n, before, x, i, at, w, d), reached_none F root j at (fails_none F ns x i d))
-    failed NotBool w d = absurd w
-    failed NotUtf8 w d = absurd w
-    failed Zero w d = absurd w
-    failed NotNumber w d = absurd w
-    failed Descends w d = absurd w
     failed (Expected wanted) w d = (tt, (n, before, x, i, at, w, d), reached_none F root j at (fails_none F ns x i d))
-    failed MissingField w d = absurd w
     failed (UnknownName name) w d = (tt, (n, before, x, i, at, w, d), reached_none F root j at (fails_none F ns x i d))
     failed (RepeatedKey name) w d = (tt, (n, before, x, i, at, w, d), reached_none F root j at (fails_none F ns x i d))
     failed (Undefined name) w d = (tt, (n, before, x, i, at, w, d), reached_none F root j at (fails_none F ns x i d))
+    failed refusal w d = absurd w
 
     -- a part that isn't read
     pub part_unread : (e : ReadError) (p : PartError) (base : List ℕ) → base ≡ root → IsOfRead e p → HasPath base (error_steps path e) p → ShowsOr (DigitsFall F x i) (Why F x i) e (FailsHere F x i) → IsUnread F root j p

@@ -1,8 +1,6 @@
 -- What the reader's steps do to what is left of a place.
-use Rattle.std.proofs.Common.{◌≡◌, ℕ, List, [], ◌∷◌, length, false, Some, refl, sym, ◌∙◌, ap, arith}
-use Rattle.std.specs.Prelude.{IsSome, option_map}
+use Rattle.std.proofs.Common.{◌≡◌, ℕ, List, [], ◌∷◌, length, false, Some, refl, sym, ◌∙◌, ap, arith, IsSome, option_map, bytes_eq}
 use Rattle.std.specs.List.{list_any}
-use Rattle.std.specs.Str.{bytes_eq}
 use Rattle.json.specs.Json.{Json, Items, no_items, item, Members}
 use Rattle.json.specs.Find.{get_member}
 use Rattle.borsh_json.specs.declared.kinds.KeyKind.{KeyKind}
@@ -31,29 +29,17 @@ fields_end (Ranks m) gs ms n h l = absurd h
 
 -- ---- members that are left
 pub left_there : (s : Source) (gs fs : List Wanted) (ms : Members) (n : ℕ) (name : List ℕ) → HasFields s gs fs ms n → IsLeft s name → IsSome (get_member name ms) × (list_any (λ (g : Wanted). bytes_eq name g.0) gs ≡ false)
-left_there (One e) gs fs ms n name h l = absurd l
-left_there (TheItems ts) gs fs ms n name h l = absurd l
 left_there (TheMembers m) gs fs ms n name h l = h.3 name l
-left_there (InPlace ts) gs fs ms n name h l = absurd l
-left_there (Texts m) gs fs ms n name h l = absurd l
-left_there (Ranks m) gs fs ms n name h l = absurd l
+left_there source gs fs ms n name h l = absurd l
 
 pub items_left_none : (s : Source) (js : Items) (name : List ℕ) → HasItems s js → IsLeft s name → ⊥
-items_left_none (One e) js name h l = l
-items_left_none (TheItems ts) js name h l = l
 items_left_none (TheMembers m) js name h l = h
-items_left_none (InPlace ts) js name h l = l
-items_left_none (Texts m) js name h l = l
-items_left_none (Ranks m) js name h l = l
+items_left_none source js name h l = l
 
 pub entries_left_none : (k : KeyKind) (s : Source) (es : List Entry) (name : List ℕ) → HasEntries k s es → IsLeft s name → ⊥
-entries_left_none k (One e) es name h l = l
-entries_left_none k (TheItems ts) es name h l = l
 entries_left_none TextKeys (TheMembers m) es name h l = h
 entries_left_none (NumberKeys n) (TheMembers m) es name h l = h
-entries_left_none k (InPlace ts) es name h l = l
-entries_left_none k (Texts m) es name h l = l
-entries_left_none k (Ranks m) es name h l = l
+entries_left_none k source es name h l = l
 
 pub no_row : (js : Items) (a : List Part) → row_parts [] js ≡ Some a → a ≡ []
 no_row no_items a e = cc

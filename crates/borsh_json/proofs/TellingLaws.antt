@@ -1,7 +1,6 @@
 -- What is told of the names of a plan, as it is written.
-use Rattle.std.proofs.Common.{◌≡◌, ℕ, zero, suc, ◌+◌, ◌<◌, ◌≤◌, List, [], ◌∷◌, ◌++◌, length, take, map, Option, Some, None, Bool, true, false, All, inl, inr, refl, sym, ◌∙◌, ap, subst, arith, append_assoc}
+use Rattle.std.proofs.Common.{◌≡◌, ℕ, zero, suc, ◌+◌, ◌<◌, ◌≤◌, List, [], ◌∷◌, ◌++◌, length, take, map, Option, Some, Bool, true, false, All, inl, inr, refl, sym, ◌∙◌, ap, subst, arith, append_assoc, if◌then◌else◌, MatchBool, Decides, codes, option_and_then, option_map, slice_get}
 use mathlib.Core.Bool.{not}
-use Rattle.std.specs.Prelude.{if◌then◌else◌, MatchBool, Decides, codes, option_and_then, option_map, slice_get}
 use Rattle.std.proofs.Math.Seq.{take-length}
 use Rattle.std.proofs.lemmas.List.{map-append}
 use Rattle.std.proofs.lemmas.List.Elements.{All-nil, All-push}
@@ -18,11 +17,11 @@ use Rattle.borsh_plan.specs.declared.named.Named.{Named}
 use Rattle.borsh_json.specs.declared.kinds.Elements.{Elements}
 use Rattle.borsh_json.specs.declared.kinds.Kind.TheVariants.{ByteList}
 use Rattle.borsh_json.specs.declared.order.Ordered.{Ordered}
-use Rattle.borsh_json.specs.declared.order.Ordered.TheVariants.{Single, Number, Text, Array, List as Counted, Tuple, Other}
+use Rattle.borsh_json.specs.declared.order.Ordered.TheVariants.{Array, List as Counted, Tuple, Other}
 use Rattle.borsh_json.specs.Forms.{Form, HasNoBytes}
 use Rattle.borsh_json.specs.Names.{HasOtherKeys, HasToldKeys, IsListWord, IsWord, TellsNames, word_members}
 use Rattle.borsh_json.specs.Ordered.{Order, other, HasOrder}
-use Rattle.borsh_json.specs.Orders.{HasKeyOrder, IsOrderOf, KeysAscend, TellsNoOrder}
+use Rattle.borsh_json.specs.Orders.{HasKeyOrder, IsOrderOf, KeysAscend}
 use Rattle.borsh_json.specs.Places.{IsAt, IsKindOf, IsListOf, lengths_of}
 use Rattle.borsh_json.specs.Table.{no_bytes, byte_list, list}
 use Rattle.borsh_json.proofs.InOrderLaws.{keys_one}
@@ -65,7 +64,7 @@ Puts old new t = (new.before ≡ old.before) × (new.tokens ≡ old.tokens ++ t 
 
 module _ (F : List ℕ → Option Form) (ns : List Named) where
   -- ---- words
-  pub empty_word : (x : List ℕ) (b : Bool) → b ≡ true → Decides b (HasNoBytes F x) → IsWord F ns x (codes "empty")
+  pub empty_word : (x : List ℕ) (b : Bool) → b ≡ true → Decides b (HasNoBytes F x) → IsWord F x (codes "empty")
   empty_word x b e d = inl (no_bytes, inl (d.0 e, refl), refl)
 
   not_both : (b : Bool) → b ≡ true → b ≡ false → ⊥
@@ -78,13 +77,11 @@ module _ (F : List ℕ → Option Form) (ns : List Named) where
   told_keys x k found n h = (h.0, k, h.1, λ o. by found n (subst (λ (o : Order). IsOrderOf F ns k found o) (order_one F k h.2.0 other h.2.1 o) h.2.2))
     where
       by : (found : Ordered) → ((at : ℕ) → found ≡ Other at → ⊥) → IsOrderOf F ns k found other → ⊥
-      by Single n i = cc
-      by (Number m s) n i = cc
-      by Text n i = cc
       by (Array m at) n i = let q = i.2 in cc
       by (Counted w at) n i = let q = i.2 in cc
       by (Tuple at m) n i = let q = i.4 in cc
       by (Other at) n i = n at refl
+      by found n i = cc
 
   other_keys : (x k : List ℕ) (at : ℕ) → KeysAscend F ns x k (Other at) → HasOtherKeys F x
   other_keys x k at h e j keys = subst (λ k. HasOrder F k other) (keys_one F x h.0 e k j h.1 keys) (subst (λ (o : Order). HasOrder F k o) h.2.2.1 h.2.1)
@@ -103,30 +100,26 @@ module _ (F : List ℕ → Option Form) (ns : List Named) where
   list_word_of x list_word word true m w = inl (m, w)
   list_word_of x list_word word false m w = inr (m, w)
 
-  pub bytes_word : (x : List ℕ) (f : Form) (es : Elements) (b : Bool) (word : List ℕ) → MatchBool b (HasToldKeys F x) (HasOtherKeys F x) → word ≡ (if b then codes "sorted byte list" else codes "byte list") → IsKindOf F ns x f (ByteList es) → IsWord F ns x word
+  pub bytes_word : (x : List ℕ) (f : Form) (es : Elements) (b : Bool) (word : List ℕ) → MatchBool b (HasToldKeys F x) (HasOtherKeys F x) → word ≡ (if b then codes "sorted byte list" else codes "byte list") → IsKindOf F ns x f (ByteList es) → IsWord F x word
   bytes_word x f es true word m e k = inl (byte_list (lengths_of f) k.0, k.2, list_word_of x (codes "byte list") word true m e)
   bytes_word x f es false word m e k = inl (byte_list (lengths_of f) k.0, k.2, list_word_of x (codes "byte list") word false m e)
 
-  pub list_word : (x : List ℕ) (f : Form) (es : Elements) (b : Bool) (word : List ℕ) → es.is_refused ≡ false → MatchBool b (HasToldKeys F x) (HasOtherKeys F x) → word ≡ (if b then codes "sorted list" else codes "list") → IsListOf F ns x f es.at es.is_refused → IsWord F ns x word
-  list_word x f es true word r m e k =
-      let l = subst (λ b. IsListOf F ns x f es.at b) r k in
-      inl (list (lengths_of f) l.0, l.2, list_word_of x (codes "list") word true m e)
-  list_word x f es false word r m e k =
-      let l = subst (λ b. IsListOf F ns x f es.at b) r k in
-      inl (list (lengths_of f) l.0, l.2, list_word_of x (codes "list") word false m e)
+  pub list_word : (x : List ℕ) (f : Form) (es : Elements) (b : Bool) (word : List ℕ) → MatchBool b (HasToldKeys F x) (HasOtherKeys F x) → word ≡ (if b then codes "sorted list" else codes "list") → IsListOf F ns x f es.at → IsWord F x word
+  list_word x f es true word m e k = inl (list (lengths_of f) k.0, k.2, list_word_of x (codes "list") word true m e)
+  list_word x f es false word m e k = inl (list (lengths_of f) k.0, k.2, list_word_of x (codes "list") word false m e)
 
   -- ---- the text
   -- an object was begun, and has the first names
   abbrev pub HasTold : ℕ → Written → Type 0
   HasTold k w =
       (w.before ≡ []) × (ps : List Told) × (w.tokens ≡ token.begin_object ∷ told_tokens ps) × (map (λ p. p.0) ps ≡ map (λ n. n.name.now) (take k ns))
-      × All (λ p. IsWord F ns p.0 p.1) ps
+      × All (λ p. IsWord F p.0 p.1) ps
 
   pub told_none : (old new : Written) → old.before ≡ [] → old.tokens ≡ [] → Puts old new token.begin_object → HasTold 0 new
-  told_none old new b t a = (a.0 ∙ b, [], a.1 ∙ ap (λ ts. ts ++ token.begin_object ∷ []) t, refl, All-nil (λ p. IsWord F ns p.0 p.1))
+  told_none old new b t a = (a.0 ∙ b, [], a.1 ∙ ap (λ ts. ts ++ token.begin_object ∷ []) t, refl, All-nil (λ p. IsWord F p.0 p.1))
 
   pub told_next : (k : ℕ) (name word : List ℕ) (old mid new : Written) → HasTold k old → k < length ns
-      → ((x : List ℕ) → IsAt ns k x → name ≡ x) → ((x : List ℕ) → IsAt ns k x → IsWord F ns x word)
+      → ((x : List ℕ) → IsAt ns k x → name ≡ x) → ((x : List ℕ) → IsAt ns k x → IsWord F x word)
       → Puts old mid (token.key name) → Puts mid new (token.string word) → HasTold (k + 1) new
   told_next k name word old mid new h l is w a b =
       let n = next_named ns k l in
@@ -140,7 +133,7 @@ module _ (F : List ℕ → Option Form) (ns : List Named) where
         b.1 ∙ ap (λ ts. ts ++ token.string word ∷ []) (a.1 ∙ ap (λ ts. ts ++ token.key name ∷ []) h.2) ∙ append_assoc (token.begin_object ∷ told_tokens ps) (token.key name ∷ []) (token.string word ∷ [])
             ∙ ap (λ y. token.begin_object ∷ (told_tokens ps ++ token.key y ∷ token.string word ∷ [])) e ∙ ap (λ ts. token.begin_object ∷ ts) (sym (told_push ps (x, word))),
         map-append (λ p. p.0) ps ((x, word) ∷ []) ∙ ap (λ l. l ++ x ∷ []) h.3 ∙ sym (map-append (λ m. m.name.now) (take k ns) (n.0 ∷ [])) ∙ ap (λ l. map (λ m. m.name.now) l) (sym n.2 ∙ ap (λ m. take m ns) one_more),
-        All-push (λ p. IsWord F ns p.0 p.1) ps (x, word) h.4 (w x i),
+        All-push (λ p. IsWord F p.0 p.1) ps (x, word) h.4 (w x i),
       )
 
   pub told_all : (text : List ℕ) (old new : Written) → HasTold (length ns) old → Puts old new token.end_object → tokens text ≡ new.tokens → TellsNames F ns text

@@ -1,18 +1,15 @@
 -- What errors say of a text.
-use Rattle.std.proofs.Common.{◌≡◌, inl, inr, ℕ, List, [], ◌∷◌, ◌++◌, Option, Some, None, refl, sym, ◌∙◌, ap, subst, append_assoc}
-use Rattle.std.specs.Prelude.{IsSome}
+use Rattle.std.proofs.Common.{◌≡◌, inl, ℕ, List, [], ◌∷◌, ◌++◌, Option, Some, None, refl, sym, ◌∙◌, ap, subst, append_assoc, IsSome}
 use Rattle.json.specs.Token.{Token}
 use Rattle.json.specs.Lex.{tokens}
 use Rattle.json.specs.Json.{Json, document}
 use Rattle.borsh_walks.specs.Container.{Shape}
 use Rattle.borsh_values.specs.declared.faults.Path.{Path}
-use Rattle.borsh_json.specs.declared.error.JsonError.{JsonError}
-use Rattle.borsh_json.specs.declared.error.JsonError.TheVariants.{OutOfMemory, NoMember, NoValue, Ambiguous, NotJson, Refused}
 use Rattle.borsh_json.specs.declared.error.PartError.{PartError}
 use Rattle.borsh_json.specs.declared.error.PartError.TheVariants.{OutOfMemory as NoMemory, Refused as RefusedPart}
 use Rattle.borsh_json.specs.declared.error.Refusal.{Refusal}
-use Rattle.borsh_json.specs.declared.error.Refusal.TheVariants.{TooDeep, RepeatedName, EmptyElements, NotBool, NotUtf8, Zero, NotNumber, Descends, Expected, MissingField, UnknownName, RepeatedKey, Undefined}
-use Rattle.borsh_json.specs.Errors.{open_after, open_behind, TellsNoJson, IsUnreadable, IsTextRefusal, IsTextReason, error_of}
+use Rattle.borsh_json.specs.declared.error.Refusal.TheVariants.{TooDeep}
+use Rattle.borsh_json.specs.Errors.{open_after, open_behind, IsUnreadable, IsTextRefusal, IsTextReason, error_of}
 use Rattle.borsh_json.specs.Forms.{Form}
 use Rattle.borsh_json.specs.Frames.{IsUnread}
 use Rattle.borsh_json.specs.NoValue.{path_steps, FailsAt, SaysNothing, ShowsNoValue}
@@ -23,18 +20,7 @@ there (Some a) s = (a, refl)
 
 refusal_reason : (root text : List ℕ) (path : Path) (r : Refusal) → IsSome (document text) → IsUnreadable r → IsTextRefusal root text path r
 refusal_reason root text path TooDeep s u = inl s
-refusal_reason root text path (RepeatedName n) s u = (s, u)
-refusal_reason root text path EmptyElements s u = (s, u)
-refusal_reason root text path NotBool s u = (s, u)
-refusal_reason root text path NotUtf8 s u = (s, u)
-refusal_reason root text path Zero s u = (s, u)
-refusal_reason root text path NotNumber s u = (s, u)
-refusal_reason root text path Descends s u = (s, u)
-refusal_reason root text path (Expected w) s u = (s, u)
-refusal_reason root text path MissingField s u = (s, u)
-refusal_reason root text path (UnknownName n) s u = (s, u)
-refusal_reason root text path (RepeatedKey n) s u = (s, u)
-refusal_reason root text path (Undefined n) s u = (s, u)
+refusal_reason root text path refusal s u = (s, u)
 
 -- a part's error, of a text that is JSON
 module _ (F : List ℕ → Option Form) (C : List ℕ → Option Shape) (root text : List ℕ) (j : Json) (d : document text ≡ Some j) where
@@ -45,23 +31,6 @@ module _ (F : List ℕ → Option Form) (C : List ℕ → Option Shape) (root te
   pub part_reason : (e : PartError) → IsSome (document text) → IsUnread F root j e → IsTextReason C root text (error_of e)
   part_reason NoMemory s p = tt
   part_reason (RefusedPart path r) s p = refusal_reason root text path r s p.0
-
--- a text that isn't JSON says nothing
-pub no_json : (F : List ℕ → Option Form) (root text : List ℕ) (e : JsonError) → TellsNoJson root text e → document text ≡ None → ShowsNoValue F root text e
-no_json F root text OutOfMemory t d = tt
-no_json F root text (NoMember f) t d = absurd t
-no_json F root text NoValue t d = absurd t
-no_json F root text (Ambiguous x) t d = absurd t
-no_json F root text (NotJson i) t d = d
-no_json F root text (Refused path r) t d = λ j q. (let e : None ≡ Some j = sym d ∙ q in cc)
-
-pub no_json_reason : (C : List ℕ → Option Shape) (root text : List ℕ) (e : JsonError) → TellsNoJson root text e → document text ≡ None → IsTextReason C root text e
-no_json_reason C root text OutOfMemory t d = tt
-no_json_reason C root text (NoMember f) t d = absurd t
-no_json_reason C root text NoValue t d = absurd t
-no_json_reason C root text (Ambiguous x) t d = absurd t
-no_json_reason C root text (NotJson i) t d = d
-no_json_reason C root text (Refused path r) t d = subst (λ (r : Refusal). IsTextRefusal root text path r) (sym t.0) (inr t.1)
 
 -- ---- what is open behind tokens
 pub open_more : (n : ℕ) (ts : List Token) (t : Token) → open_behind n (ts ++ t ∷ []) ≡ open_after (open_behind n ts) t

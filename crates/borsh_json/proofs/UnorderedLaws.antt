@@ -1,25 +1,22 @@
 -- Names that aren't ordered, as names and definitions tell it.
-use Rattle.std.proofs.Common.{◌≡◌, inl, inr, ℕ, suc, zero, List, [], ◌∷◌, ◌++◌, length, map, Bool, true, false, Option, Some, None, String, refl, sym, ◌∙◌, ap, subst, take, arith, append_assoc}
+use Rattle.std.proofs.Common.{◌≡◌, inl, inr, ℕ, suc, zero, List, [], ◌∷◌, ◌++◌, length, map, Bool, true, false, Option, Some, None, String, refl, sym, ◌∙◌, ap, subst, take, arith, append_assoc, Global, append-nil}
 use Rattle.std.specs.Prelude.{◌==◌, ⊤, ℤ, Decides, MatchBool, codes, slice_get, string_bytes}
-use Rattle.std.specs.Global.{Global}
 use Rattle.borsh_walks.specs.declared.definition.Fields.{Fields}
 use Rattle.borsh_walks.specs.declared.definition.Fields.TheVariants.{NamedFields, UnnamedFields, Empty}
-use Rattle.borsh_json.specs.Forms.{Form, primitive, sequence, tuple, choice, named, unnamed, no_fields, form_of_struct, HasNoBytes, IsOption}
+use Rattle.borsh_json.specs.Forms.{Form, primitive, sequence, tuple, choice, named, unnamed, no_fields, form_of_struct, IsOption}
 use Rattle.borsh_json.proofs.FoundLaws.{inner}
 use Rattle.borsh_walks.specs.TupleNames.{following, tuple_name}
 use Rattle.borsh_json.specs.Ordered.{Order, single, numbers, text, array, list, parts, other, AreNumbers, IsSequenceName, IsTreeMapName, IsListName, OrdersBytes}
 use Rattle.borsh_json.specs.Table.{AreKeys, primitive_kind, texts}
 use Rattle.borsh_json.proofs.OrderLaws.{clash}
+use Rattle.std.proofs.lemmas.List.{append_cancel_left}
 
 -- the definition is of a struct
 abbrev pub IsOfStruct : Form → Type 0
-IsOfStruct (primitive n) = ⊥
-IsOfStruct (sequence w lo hi e) = ⊥
-IsOfStruct (tuple ps) = ⊥
-IsOfStruct (choice w vs) = ⊥
 IsOfStruct (named fs) = ⊤
 IsOfStruct (unnamed ps) = ⊤
 IsOfStruct no_fields = ⊤
+IsOfStruct form = ⊥
 
 -- that of a struct is
 pub struct_form : (fs : Fields) → IsOfStruct (form_of_struct fs)
@@ -140,20 +137,12 @@ tree_decided name k v ps e false d = λ l w f m.
     let t = d.1 (o ∙ ap (λ l. codes "BTreeMap<" ++ l) (sym (inner k v))) in
     cc
 
-nil : (p : List ℕ) → p ++ [] ≡ p
-nil [] = refl
-nil (c ∷ p) = ap (λ p. c ∷ p) (nil p)
-
-cancel : (xs ys zs : List ℕ) → xs ++ ys ≡ xs ++ zs → ys ≡ zs
-cancel [] ys zs e = e
-cancel (x ∷ xs) ys zs e = cancel xs ys zs cc
-
 -- a listed name stands behind those before it
 listed_split : (ps : List (List ℕ)) (i : ℕ) (p : List ℕ) → slice_get ps i ≡ Some p → (after : List ℕ) × (following ps ≡ following (take i ps) ++ (44 ∷ 32 ∷ ((p ++ []) ++ after)))
 listed_split [] i p g = absurd cc
 listed_split (q ∷ qs) zero p g =
     let k : q ≡ p = cc in
-    (following qs, ap (λ q. 44 ∷ 32 ∷ (q ++ following qs)) (k ∙ sym (nil p)))
+    (following qs, ap (λ q. 44 ∷ 32 ∷ (q ++ following qs)) (k ∙ sym (append-nil p)))
 listed_split (q ∷ qs) (suc i) p g =
     let r = listed_split qs i p g in
     (r.0, ap (λ l. 44 ∷ 32 ∷ l) (ap (λ l. q ++ l) r.1 ∙ sym (append_assoc q (following (take i qs)) (44 ∷ 32 ∷ ((p ++ []) ++ r.0)))))
@@ -164,7 +153,7 @@ listed_not ps i p name rest g e n after q =
     let s = listed_split ps i p g in
     let front = following (take i ps) in
     let l : front ++ rest ≡ front ++ (44 ∷ 32 ∷ ((p ++ []) ++ (s.0 ++ after))) = sym e ∙ q ∙ ap (λ l. l ++ after) s.1 ∙ append_assoc front (44 ∷ 32 ∷ ((p ++ []) ++ s.0)) after ∙ ap (λ l. front ++ (44 ∷ 32 ∷ l)) (append_assoc (p ++ []) s.0 after) in
-    n (s.0 ++ after) (cancel front rest (44 ∷ 32 ∷ ((p ++ []) ++ (s.0 ++ after))) l)
+    n (s.0 ++ after) (append_cancel_left front rest (44 ∷ 32 ∷ ((p ++ []) ++ (s.0 ++ after))) l)
 
 -- what comes behind the first part of a tuple's name
 pub tuple_rest : (ps others : List (String Global)) (p : String Global) (head name rest : List ℕ) → ps ≡ p ∷ others → (length others == 0) ≡ false → head ≡ string_bytes p → name ≡ 40 ∷ ((head ++ []) ++ rest) → name ≡ tuple_name (map (λ p. string_bytes p) ps) → rest ≡ following (map (λ p. string_bytes p) others) ++ codes ")"
@@ -173,11 +162,11 @@ tuple_rest ps (q ∷ others) p head name rest e t f n r =
     let names = map (λ p. string_bytes p) (q ∷ others) in
     let a : 40 ∷ ((head ++ []) ++ rest) ≡ 40 ∷ (string_bytes p ++ (following names ++ 41 ∷ [])) = sym n ∙ r ∙ ap (λ ps. tuple_name (map (λ p. string_bytes p) ps)) e in
     let b : (head ++ []) ++ rest ≡ string_bytes p ++ (following names ++ 41 ∷ []) = cc in
-    cancel head rest (following names ++ 41 ∷ []) (ap (λ h. h ++ rest) (sym (nil head)) ∙ b ∙ ap (λ h. h ++ (following names ++ 41 ∷ [])) (sym f))
+    append_cancel_left head rest (following names ++ 41 ∷ []) (ap (λ h. h ++ rest) (sym (append-nil head)) ∙ b ∙ ap (λ h. h ++ (following names ++ 41 ∷ [])) (sym f))
 
 -- no more is listed than the parts, and then the end
 pub tuple_end : (names last : List ℕ) (rest : List ℕ) → rest ≡ names ++ last → rest ≡ names ++ codes ")" → last ≡ codes ")"
-tuple_end names last rest p q = cancel names last (codes ")") (sym p ∙ q)
+tuple_end names last rest p q = append_cancel_left names last (codes ")") (sym p ∙ q)
 
 -- a tuple without parts
 pub empty_decided : (ps : List (String Global)) (name : List ℕ) (r : Bool) → length ps ≡ 0 → Decides r (name ≡ codes "()") → Decides r (name ≡ tuple_name (map (λ p. string_bytes p) ps))

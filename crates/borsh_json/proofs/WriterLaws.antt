@@ -1,10 +1,6 @@
 -- What the writer's calls give.
-use Rattle.std.proofs.Common.{◌≡◌, inl, inr, ℕ, suc, ◌+◌, ◌-◌, ◌<◌, ◌≤◌, List, [], ◌∷◌, ◌++◌, length, replicate, drop, Option, Some, None, refl, sym, ◌∙◌, ap, subst, arith, append_assoc, append-nil, length-append}
+use Rattle.std.proofs.Common.{◌≡◌, inl, inr, ℕ, suc, ◌+◌, ◌-◌, ◌<◌, ◌≤◌, List, [], ◌∷◌, ◌++◌, length, replicate, drop, Option, Some, None, refl, sym, ◌∙◌, ap, subst, arith, append_assoc, append-nil, length-append, String, option_map, IfSome, MatchOption, Bool, true, false, Decides, MatchBool, BTreeMap, Bor, Less}
 use Rattle.std.proofs.Math.Seq.{drop-append_seam}
-use Rattle.std.specs.Prelude.{String, option_map, IfSome, MatchOption, Bool, true, false, Decides, MatchBool}
-use Rattle.std.specs.declared.cmp.Ordering.TheVariants.{Less}
-use Rattle.std.specs.BTreeMap.{BTreeMap}
-use Rattle.std.specs.Borrow.{Bor}
 use Rattle.json.specs.Json.{null}
 use Rattle.json.specs.Token.{Token}
 use Rattle.json.specs.Tree.{json_tokens}
@@ -25,12 +21,12 @@ use Rattle.borsh_json.specs.declared.definitions.Definitions.{Definitions}
 use Rattle.borsh_json.specs.declared.error.PartError.{PartError}
 use Rattle.borsh_json.specs.declared.error.PartError.TheVariants.{OutOfMemory as NoPartMemory, Refused as RefusedPart}
 use Rattle.borsh_json.specs.declared.error.Refusal.{Refusal}
-use Rattle.borsh_json.specs.declared.error.Refusal.TheVariants.{TooDeep, RepeatedName, EmptyElements, NotBool, NotUtf8, Zero, NotNumber, Descends, Expected, MissingField, UnknownName, RepeatedKey, Undefined}
+use Rattle.borsh_json.specs.declared.error.Refusal.TheVariants.{TooDeep, Descends}
 use Rattle.borsh_json.specs.declared.error.WriteError.{WriteError}
 use Rattle.borsh_json.specs.declared.error.WriteError.TheVariants.{OutOfMemory, Refused, Element}
 use Rattle.borsh_json.specs.declared.kinds.Elements.{Elements as FoundElements}
 use Rattle.borsh_json.specs.declared.kinds.Kind.{Kind as Found}
-use Rattle.borsh_json.specs.declared.kinds.Kind.TheVariants.{Number, Bool as Truth, Text, Bytes, Float, ByteList, Numbers, List as ListKind, Map, Row as RowKind, Newtype as NewtypeKind, Object as ObjectKind, Optional, Choice, Repeated}
+use Rattle.borsh_json.specs.declared.kinds.Kind.TheVariants.{Numbers, List as ListKind}
 use Rattle.borsh_json.specs.declared.kinds.Entries.{Entries as FoundEntries}
 use Rattle.borsh_json.specs.declared.kinds.KeyKind.{KeyKind}
 use Rattle.borsh_json.specs.declared.kinds.KeyKind.TheVariants.{Text as TextKeys, Number as NumberKeys}
@@ -56,7 +52,7 @@ use Rattle.borsh_json.specs.InOrder.{Step, place, element}
 use Rattle.borsh_json.specs.Inside.{IsInside}
 use Rattle.borsh_json.specs.NoJson.{HasNoJsonPart, IsOutOfOrder, RefusesBytes, RefusesOwn}
 use Rattle.borsh_json.specs.Orders.{HasKeyOrder, KindHasOrder, OrderedBy, IsNotBelow}
-use Rattle.borsh_json.specs.Leaves.{Holds, Adds, IsOpenedAs, WritesLeaf, RefusesKey, RefusesValue, long_of}
+use Rattle.borsh_json.specs.Leaves.{Adds, IsOpenedAs, WritesLeaf, RefusesKey, RefusesValue, long_of}
 use Rattle.borsh_json.specs.Places.{IsAt, AreKeysOf, IsKindOf, lengths_of}
 use Rattle.borsh_json.specs.Represents.{SaysFirst}
 use Rattle.borsh_json.specs.Table.{Keys, Kind, no_bytes, whole, utf8, HasKind, key_order, key_json}
@@ -107,18 +103,8 @@ module _ (d : Definitions) (old new : Walker) (at : ℕ) (x : List ℕ) (i : IsA
 module _ (F : List ℕ → Option Form) (root bytes : List ℕ) where
   refuses_bytes : (path : List Step) (r : Refusal) → HasNoJsonPart F root bytes path r → RefusesBytes F root bytes path r
   refuses_bytes path TooDeep h = about_some F root bytes path _ TooDeep (λ x m. absurd m) h
-  refuses_bytes path (RepeatedName name) h = h
-  refuses_bytes path EmptyElements h = h
-  refuses_bytes path NotBool h = h
-  refuses_bytes path NotUtf8 h = h
-  refuses_bytes path Zero h = h
-  refuses_bytes path NotNumber h = h
   refuses_bytes path Descends h = about_some F root bytes path _ Descends (λ x m. absurd m) h
-  refuses_bytes path (Expected wanted) h = h
-  refuses_bytes path MissingField h = h
-  refuses_bytes path (UnknownName name) h = h
-  refuses_bytes path (RepeatedKey name) h = h
-  refuses_bytes path (Undefined name) h = h
+  refuses_bytes path refusal h = h
 
   module _ (at : List ℕ) (same : at ≡ root) where
     stops_as : (steps : List Step) (r : Refusal) (e : PartError) → IsOf r e → HasPath at steps e → RefusesBytes F root bytes steps r → Stops F root bytes (error_of e)
@@ -190,21 +176,8 @@ still_rest F ns p q r a b c h =
 
 -- ---- room
 pub leaf_room : (kind : Found) (n l : ℕ) → n + l ≡ 128 → ((es : FoundElements) → kind ≡ Numbers es → l < 128) → leaf_depth kind ≤ n
-leaf_room (Number m) n l e g = omega arith
-leaf_room Truth n l e g = omega arith
-leaf_room Text n l e g = omega arith
-leaf_room (Bytes m) n l e g = omega arith
-leaf_room (Float m) n l e g = omega arith
-leaf_room (ByteList es) n l e g = omega arith
 leaf_room (Numbers es) n l e g = (let h = g es refl in omega (arith, e, h))
-leaf_room (ListKind es) n l e g = omega arith
-leaf_room (Map es order) n l e g = omega arith
-leaf_room (RowKind m) n l e g = omega arith
-leaf_room (NewtypeKind at) n l e g = omega arith
-leaf_room (ObjectKind fs) n l e g = omega arith
-leaf_room (Optional at) n l e g = omega arith
-leaf_room (Choice m vs) n l e g = omega arith
-leaf_room (Repeated name) n l e g = omega arith
+leaf_room kind n l e g = omega arith
 
 abbrev pub IsPlaceBegun : (List ℕ → Option Form) → List Named → List ℕ → Form → List ℕ → Output → Output → Place → Type 0
 IsPlaceBegun F ns x f own old new q = (r : Rest) × IsRest F ns q r × WritesFront F x own r old new × Opens (shapes F) (shape_of_form f) own (names_of_rest r) × AreCalled f own q.parts (names_of_rest r)
@@ -288,7 +261,7 @@ new_marked d bytes x keys f kind p q h i k a n b c g = (
       ((t.0, f, subst (λ (kind : Found). IsKindOf (forms_of d) (names_of d) x f kind) t.1 i, subst (λ (kind : Found). KindHasOrder (forms_of d) (names_of d) x kind) t.1 k), subst (λ (l : Option EntryKey). IsLastKey d bytes es l None) (sym (b ∙ h.1)) tt)),
   g,
   refl,
-  n ∙ h.4,
+  n ∙ h.3,
 )
 
 -- ---- a node was found of the name that is awaited

@@ -1,6 +1,6 @@
 -- Why bytes have no JSON, and why a text is no value.
 use Rattle.std.specs.Prelude.{◌≡◌, ◌⊎◌, ⊤, ℕ, suc, ◌-◌, ◌<◌, List, [], ◌∷◌, ◌++◌, Option, None, IsSome}
-use Rattle.json.specs.Token.{Token, begin_object, end_object, begin_array, end_array, key, string, number, boolean, null, bad}
+use Rattle.json.specs.Token.{Token, begin_object, end_object, begin_array, end_array}
 use Rattle.json.specs.Lex.{tokens}
 use Rattle.json.specs.Json.{document, max_depth}
 use Rattle.borsh_walks.specs.Container.{Shape, Member}
@@ -20,18 +20,7 @@ use Rattle.borsh_json.specs.declared.error.Refusal.TheVariants.{TooDeep, Repeate
 -- a value whose parts nest too deep
 abbrev pub IsTooDeep : Refusal → Type 0
 IsTooDeep TooDeep = ⊤
-IsTooDeep (RepeatedName name) = ⊥
-IsTooDeep EmptyElements = ⊥
-IsTooDeep NotBool = ⊥
-IsTooDeep NotUtf8 = ⊥
-IsTooDeep Zero = ⊥
-IsTooDeep NotNumber = ⊥
-IsTooDeep Descends = ⊥
-IsTooDeep (Expected wanted) = ⊥
-IsTooDeep MissingField = ⊥
-IsTooDeep (UnknownName name) = ⊥
-IsTooDeep (RepeatedKey name) = ⊥
-IsTooDeep (Undefined name) = ⊥
+IsTooDeep refusal = ⊥
 
 -- a value that can't be written as JSON: of its bytes and definitions, and not of any text
 abbrev pub IsUnwritable : Refusal → Type 0
@@ -43,27 +32,20 @@ IsUnwritable NotUtf8 = ⊤
 IsUnwritable Zero = ⊤
 IsUnwritable NotNumber = ⊤
 IsUnwritable Descends = ⊤
-IsUnwritable (Expected wanted) = ⊥
-IsUnwritable MissingField = ⊥
-IsUnwritable (UnknownName name) = ⊥
-IsUnwritable (RepeatedKey name) = ⊥
-IsUnwritable (Undefined name) = ⊥
+IsUnwritable refusal = ⊥
 
 -- JSON that can't be read as a value: of a text and the definitions, and not of any bytes
 abbrev pub IsUnreadable : Refusal → Type 0
 IsUnreadable TooDeep = ⊤
 IsUnreadable (RepeatedName name) = ⊤
 IsUnreadable EmptyElements = ⊤
-IsUnreadable NotBool = ⊥
-IsUnreadable NotUtf8 = ⊥
-IsUnreadable Zero = ⊥
-IsUnreadable NotNumber = ⊥
 IsUnreadable Descends = ⊤
 IsUnreadable (Expected wanted) = ⊤
 IsUnreadable MissingField = ⊤
 IsUnreadable (UnknownName name) = ⊤
 IsUnreadable (RepeatedKey name) = ⊤
 IsUnreadable (Undefined name) = ⊤
+IsUnreadable refusal = ⊥
 
 -- an allocation failed, or a part is refused in one of these ways
 abbrev pub IsPartError : (Refusal → Type 0) → PartError → Type 0
@@ -89,12 +71,7 @@ open_after n begin_object = suc n
 open_after n end_object = n - 1
 open_after n begin_array = suc n
 open_after n end_array = n - 1
-open_after n (key s) = n
-open_after n (string s) = n
-open_after n (number s) = n
-open_after n (boolean b) = n
-open_after n null = n
-open_after n bad = n
+open_after n t = n
 
 -- and behind several
 abbrev pub open_behind : ℕ → List Token → ℕ
@@ -112,11 +89,9 @@ IsDeepText root text path = (path.root.now ≡ root) × (path.steps.items ≡ []
 -- the error may be returned for a text that is no JSON: an allocation failed, or the text is wrong at a byte or nests too deep
 abbrev pub TellsNoJson : List ℕ → List ℕ → JsonError → Type 0
 TellsNoJson root text OutOfMemory = ⊤
-TellsNoJson root text (NoMember f) = ⊥
-TellsNoJson root text NoValue = ⊥
-TellsNoJson root text (Ambiguous x) = ⊥
 TellsNoJson root text (NotJson offset) = ⊤
 TellsNoJson root text (Refused path refusal) = (refusal ≡ TooDeep) × IsDeepText root text path
+TellsNoJson root text e = ⊥
 
 -- a text is refused so: it is JSON that can't be read; or its tokens open too many arrays and objects
 abbrev pub IsTextRefusal : List ℕ → List ℕ → Path → Refusal → Type 0

@@ -1,5 +1,5 @@
 -- What the code finds of the definition of a name, against the format's own types and the table.
-use Rattle.std.specs.Prelude.{◌≡◌, ◌⊎◌, ℕ, List, [], ◌∷◌, ◌++◌, codes, true, MatchOption, Option, None, Some}
+use Rattle.std.specs.Prelude.{◌≡◌, ◌⊎◌, ℕ, List, [], ◌∷◌, ◌++◌, codes, MatchOption, Option, Some}
 use Rattle.std.specs.Borrow.{Bor}
 use Rattle.std.specs.Float.{Format}
 use Rattle.std.specs.List.{IsDistinct}
@@ -10,8 +10,7 @@ use Rattle.borsh_json.specs.declared.definitions.Definitions.{Definitions}
 use Rattle.borsh_json.specs.declared.formats.Collection.{Collection}
 use Rattle.borsh_json.specs.declared.formats.Collection.TheVariants.{List as Elements, Set, Map}
 use Rattle.borsh_json.specs.declared.kinds.Kind.{Kind as Found}
-use Rattle.borsh_json.specs.declared.kinds.Kind.TheVariants.{Number, Bool as Truth, Text, Bytes, Float, ByteList, Numbers, List as ElementList, Map as Entries, Row, Newtype, Object, Optional, Choice, Repeated}
-use Rattle.borsh_json.specs.declared.kinds.Elements.{Elements as FoundElements}
+use Rattle.borsh_json.specs.declared.kinds.Kind.TheVariants.{Number, Bool as Truth, Bytes, Float}
 use Rattle.borsh_json.specs.declared.kinds.Entries.{Entries as FoundEntries}
 use Rattle.borsh_json.specs.Forms.{Form, form_of, forms_in, HasNoBytes, IsList, IsMap}
 use Rattle.borsh_json.specs.Table.{Kind, whole, truth, raw, float, float_size, Keys, AreKeys, ComesTwice}
@@ -42,10 +41,6 @@ SaysBy d text bytes = TextSays (forms_of d) (root_of d.plan.now) text bytes
 abbrev pub TellsKind : Definitions → ℕ → Form → Found → Type 0
 TellsKind d at f kind = (x : List ℕ) → HasForm d at f x → (HasNoBytes (forms_of d) x → ⊥) → IsKindOf (forms_of d) (plan_names d.plan.now) x f kind
 
--- a list that is refused, whatever its elements, and has no order
-abbrev pub IsRefusedList : Found → Type 0
-IsRefusedList kind = (es : FoundElements) × (kind ≡ ElementList es) × (es.is_refused ≡ true) × (es.order ≡ None)
-
 -- pieces of a text, one after another
 abbrev pub joined : List (Bor (List ℕ)) → List ℕ
 joined [] = []
@@ -55,19 +50,9 @@ joined (p ∷ ps) = p.now ++ joined ps
 abbrev pub IsPrimitiveKind : Found → Kind → Type 0
 IsPrimitiveKind (Number n) kind = kind ≡ whole n.size n.is_signed n.is_non_zero
 IsPrimitiveKind Truth kind = kind ≡ truth
-IsPrimitiveKind Text kind = ⊥
 IsPrimitiveKind (Bytes n) kind = kind ≡ raw n
 IsPrimitiveKind (Float n) kind = (g : Format) × (n ≡ float_size g) × (kind ≡ float g)
-IsPrimitiveKind (ByteList es) kind = ⊥
-IsPrimitiveKind (Numbers es) kind = ⊥
-IsPrimitiveKind (ElementList es) kind = ⊥
-IsPrimitiveKind (Entries es order) kind = ⊥
-IsPrimitiveKind (Row n) kind = ⊥
-IsPrimitiveKind (Newtype at) kind = ⊥
-IsPrimitiveKind (Object fs) kind = ⊥
-IsPrimitiveKind (Optional at) kind = ⊥
-IsPrimitiveKind (Choice w vs) kind = ⊥
-IsPrimitiveKind (Repeated name) kind = ⊥
+IsPrimitiveKind found kind = ⊥
 
 -- a name that comes twice, if one does
 abbrev pub IsRepeated : List (List ℕ) → Option (Bor (List ℕ)) → Type 0

@@ -6,8 +6,6 @@ use Rattle.std.specs.Str.{bytes_eq}
 use Rattle.std.specs.List.{AllByRecursion, IsDistinct, list_any}
 use Rattle.std.specs.List.Sorted.{IsPermutation, IsStrictlySortedBy}
 use Rattle.std.specs.BTreeMap.{BTreeMap, btree_map_len}
-use Rattle.std.specs.declared.cmp.Ordering.{Ordering}
-use Rattle.std.specs.declared.cmp.Ordering.TheVariants.{Less}
 use Rattle.json.specs.Token.{Token}
 use Rattle.json.specs.Json.{Json, string, array, object, Items, no_items, item, Members, no_members, member}
 use Rattle.json.specs.Find.{BeginsWith, InItems, InMembers, get_member, Finds, as_array}
@@ -158,14 +156,8 @@ first_steps (Variant v at) b = variant_step v.now ∷ []
 
 -- from an entry to its value
 abbrev pub last_steps : Parts → List Step
-last_steps Root = []
-last_steps (Elements at n) = []
-last_steps (Row at n) = []
-last_steps (Object at fs) = []
 last_steps (MapEntries es n) = place_step 1 ∷ []
-last_steps (Newtype at) = []
-last_steps (Present at) = []
-last_steps (Variant v at) = []
+last_steps parts = []
 
 abbrev pub steps_at : Place → List Step
 steps_at p = first_steps p.parts p.begun ++ last_steps p.parts
@@ -221,24 +213,12 @@ abbrev pub IsListPlace : Parts → Type 0
 IsListPlace p = (at : ℕ) × (n : ℕ) × (p ≡ Elements at n)
 
 abbrev pub IsObject : Parts → Type 0
-IsObject Root = ⊥
-IsObject (Elements at n) = ⊥
-IsObject (Row at n) = ⊥
 IsObject (Object at fs) = ⊤
-IsObject (MapEntries es n) = ⊥
-IsObject (Newtype at) = ⊥
-IsObject (Present at) = ⊥
-IsObject (Variant v at) = ⊥
+IsObject parts = ⊥
 
 abbrev pub IsMapPlace : Parts → Type 0
-IsMapPlace Root = ⊥
-IsMapPlace (Elements at n) = ⊥
-IsMapPlace (Row at n) = ⊥
-IsMapPlace (Object at fs) = ⊥
 IsMapPlace (MapEntries es n) = ⊤
-IsMapPlace (Newtype at) = ⊥
-IsMapPlace (Present at) = ⊥
-IsMapPlace (Variant v at) = ⊥
+IsMapPlace parts = ⊥
 
 -- the key of a part: the field's name, or the kind of an entry's key
 abbrev pub IsKey : Parts → Key → List ℕ → Type 0
@@ -264,10 +244,7 @@ IsOneItem (Some e) js = (j : Json) × (js ≡ item j no_items) × BeginsWith e j
 abbrev pub HasItems : Source → Items → Type 0
 HasItems (One e) js = IsOneItem e js
 HasItems (TheItems ts) js = InItems ts js
-HasItems (TheMembers m) js = ⊥
-HasItems (InPlace ts) js = ⊥
-HasItems (Texts m) js = ⊥
-HasItems (Ranks m) js = ⊥
+HasItems source js = ⊥
 
 -- each of the fields is looked up as in the members, of which so many are left
 abbrev pub AreFound : BTreeMap (Bor (List ℕ)) (List Token) → List Wanted → Members → Type 0
@@ -284,12 +261,9 @@ abbrev pub AreOthers : BTreeMap (Bor (List ℕ)) (List Token) → List Wanted �
 AreOthers m gs ms = (name : List ℕ) → IsSome (mark_of m name) → IsSome (get_member name ms) × (list_any (λ (g : Wanted). bytes_eq name g.0) gs ≡ false)
 
 abbrev pub HasFields : Source → List Wanted → List Wanted → Members → ℕ → Type 0
-HasFields (One e) gs fs ms n = ⊥
-HasFields (TheItems ts) gs fs ms n = ⊥
 HasFields (TheMembers m) gs fs ms n = IsDistinct bytes_eq (map (λ f. f.0) fs) × AreFound m fs ms × (btree_map_len m ≡ n) × AreOthers m gs ms
 HasFields (InPlace ts) gs fs ms n = (rest : Members) × InMembers ts rest × AreNext fs rest ms × (n ≡ length fs)
-HasFields (Texts m) gs fs ms n = ⊥
-HasFields (Ranks m) gs fs ms n = ⊥
+HasFields source gs fs ms n = ⊥
 
 -- the key of a map stands for the text: it is the text, or the rank of the number that the text is
 abbrev pub IsText : Bor (List ℕ) → List ℕ → Type 0
@@ -340,21 +314,13 @@ IsEntryKey (NumberKeys n) (Rank r) k = IsRank n r k
 
 -- no member of an object is left
 abbrev pub NoneLeft : Source → Type 0
-NoneLeft (One e) = ⊤
-NoneLeft (TheItems ts) = ⊤
 NoneLeft (TheMembers m) = btree_map_len m ≡ 0
-NoneLeft (InPlace ts) = ⊤
-NoneLeft (Texts m) = ⊤
-NoneLeft (Ranks m) = ⊤
+NoneLeft source = ⊤
 
 -- a member of this name is left
 abbrev pub IsLeft : Source → List ℕ → Type 0
-IsLeft (One e) name = ⊥
-IsLeft (TheItems ts) name = ⊥
 IsLeft (TheMembers m) name = IsSome (mark_of m name)
-IsLeft (InPlace ts) name = ⊥
-IsLeft (Texts m) name = ⊥
-IsLeft (Ranks m) name = ⊥
+IsLeft source name = ⊥
 
 -- all these parts are in order
 abbrev pub AreInOrder : (List ℕ → Option Form) → List JsonPart → Type 0
@@ -383,14 +349,8 @@ AscentRises d (Some a) bytes = (i j : ℕ) → a.earlier ≡ Some i → a.last �
 module _ (F : List ℕ → Option Form) (ns : List Named) where
   -- the entries of a place
   abbrev pub AreEntriesOf : Parts → Source → Keys → List ℕ → List ℕ → List Entry → Type 0
-  AreEntriesOf Root s keys k v es = ⊥
-  AreEntriesOf (Elements at n) s keys k v es = ⊥
-  AreEntriesOf (Row at n) s keys k v es = ⊥
-  AreEntriesOf (Object at fs) s keys k v es = ⊥
   AreEntriesOf (MapEntries m n) s keys k v es = IsAt ns m.key k × IsAt ns m.value v × AreKeysOf F ns k (form_of m.key_definition.now) m.key_kind keys × HasEntries m.key_kind s es
-  AreEntriesOf (Newtype at) s keys k v es = ⊥
-  AreEntriesOf (Present at) s keys k v es = ⊥
-  AreEntriesOf (Variant w at) s keys k v es = ⊥
+  AreEntriesOf parts s keys k v es = ⊥
 
   -- a place, and the JSON of its parts
   abbrev pub HasLeft : Parts → ℕ → Source → Left → Type 0

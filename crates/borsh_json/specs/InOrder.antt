@@ -7,7 +7,7 @@ use Rattle.borsh_json.specs.Forms.{Form, shapes}
 use Rattle.borsh_json.specs.Found.{IsSet}
 use Rattle.borsh_json.specs.Ordered.{a_value, IsAtLeast}
 use Rattle.borsh_json.specs.Represents.{HaveBytes}
-use Rattle.borsh_json.specs.Table.{Lengths, Kind, no_bytes, truth, whole, float, raw, utf8, byte_list, list, row, inner, fields, optional, variants, entries, HasKind, Part, list_parts, field_parts, IsHex, Says}
+use Rattle.borsh_json.specs.Table.{Lengths, Kind, byte_list, list, row, inner, fields, optional, variants, entries, HasKind, Part, list_parts, field_parts, IsHex, Says}
 
 -- ---- the parts of JSON, by their paths
 
@@ -20,12 +20,6 @@ pub data Step : Type 0 where
 
 -- in JSON of this kind these steps lead to the part that so many are in front of; the entries of an object count in the order of their keys
 abbrev pub AreSteps : Kind → Json → ℕ → List Step → Type 0
-AreSteps no_bytes i n steps = ⊥
-AreSteps truth i n steps = ⊥
-AreSteps (whole m signed non_zero) i n steps = ⊥
-AreSteps (float f) i n steps = ⊥
-AreSteps (raw m) i n steps = ⊥
-AreSteps (utf8 l) i n steps = ⊥
 AreSteps (byte_list l e) i n steps = steps ≡ element n ∷ []
 AreSteps (list l e) i n steps = steps ≡ element n ∷ []
 AreSteps (row xs) i n steps = steps ≡ place n ∷ []
@@ -34,6 +28,7 @@ AreSteps (fields fs) i n steps = (f : List ℕ × List ℕ) × (slice_get fs n �
 AreSteps (optional x) i n steps = steps ≡ variant (codes "Some") ∷ []
 AreSteps (variants w vs) i n steps = (v : List ℕ) × (value : Json) × (i ≡ object (member v value no_members)) × (steps ≡ variant v ∷ [])
 AreSteps (entries l keys k v) i n steps = (m : ℕ) × (((n ≡ 2 * m) × (steps ≡ element m ∷ place 0 ∷ [])) ⊎ ((n ≡ 2 * m + 1) × (steps ≡ element m ∷ place 1 ∷ [])))
+AreSteps kind i n steps = ⊥
 
 module _ (F : List ℕ → Option Form) where
   -- JSON of this kind says the own bytes and then parts that begin with these; or they are the first fields of a struct, which its object has

@@ -27,7 +27,7 @@ use Rattle.borsh_json.specs.Places.{AreKeysOf, IsKindOf}
 use Rattle.borsh_json.specs.InOrder.{IsEach}
 use Rattle.borsh_json.specs.Printed.{QuotesLong}
 use Rattle.borsh_json.specs.Represents.{SaysFirst, HaveBytes}
-use Rattle.borsh_json.specs.Table.{Keys, Kind, Part, HasKind, IsHex, key_json, key_order, no_bytes, truth, whole, float, float_size, raw, utf8, byte_list, list, row, inner, fields, optional, variants, entries}
+use Rattle.borsh_json.specs.Table.{Keys, Kind, Part, HasKind, IsHex, key_json, key_order, truth, whole, float, float_size, raw}
 
 -- ---- tokens
 
@@ -56,20 +56,11 @@ long_token Quoted s = token.string s
 
 -- how many bytes a primitive of the kind has
 abbrev pub HasSize : Kind → ℕ → Type 0
-HasSize no_bytes n = ⊥
 HasSize truth n = n ≡ 1
 HasSize (whole m signed non_zero) n = (n ≡ m) × (1 ≤ m) × (m ≤ 16) × (4 < m → 8 ≤ m)
 HasSize (float f) n = n ≡ float_size f
 HasSize (raw m) n = n ≡ m
-HasSize (utf8 l) n = ⊥
-HasSize (byte_list l e) n = ⊥
-HasSize (list l e) n = ⊥
-HasSize (row xs) n = ⊥
-HasSize (inner x) n = ⊥
-HasSize (fields fs) n = ⊥
-HasSize (optional x) n = ⊥
-HasSize (variants w vs) n = ⊥
-HasSize (entries l keys k v) n = ⊥
+HasSize kind n = ⊥
 
 -- hexadecimal digits of these bytes were written, or an allocation failed
 abbrev pub WritesHex : List ℕ → Output → Output → Result (Unit {0}) WriteError → Type 0

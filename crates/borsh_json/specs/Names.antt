@@ -1,5 +1,5 @@
 -- What is told of the names of a plan: each with a word for how its values are written.
-use Rattle.std.specs.Prelude.{◌≡◌, ◌⊎◌, ℕ, List, [], ◌∷◌, ◌++◌, map, All, if◌then◌else◌, codes, false, Option, Some}
+use Rattle.std.specs.Prelude.{◌≡◌, ◌⊎◌, ℕ, List, [], ◌∷◌, ◌++◌, map, All, if◌then◌else◌, codes, Option, Some}
 use Rattle.json.specs.Json.{Members, no_members, member, string, object, document}
 use Rattle.borsh_plan.specs.declared.named.Named.{Named}
 use Rattle.borsh_json.specs.declared.kinds.Elements.{Elements}
@@ -41,22 +41,21 @@ module _ (F : List ℕ → Option Form) where
   IsKindWord x (variants w vs) word = word ≡ codes "enum"
   IsKindWord x (entries l keys k v) word = word ≡ codes "map"
 
-  module _ (ns : List Named) where
-    -- the word of a name: that of its kind, or `refused` where no JSON says a value of it
-    abbrev pub IsWord : List ℕ → List ℕ → Type 0
-    IsWord x word = ((kind : Kind) × HasKind F x kind × IsKindWord x kind word) ⊎ (IsUnsayable F ns x × (word ≡ codes "refused"))
+  -- the word of a name: that of its kind, or `refused` where no JSON says a value of it
+  abbrev pub IsWord : List ℕ → List ℕ → Type 0
+  IsWord x word = ((kind : Kind) × HasKind F x kind × IsKindWord x kind word) ⊎ (IsUnsayable F x × (word ≡ codes "refused"))
 
 -- a word of each name of which the code finds this kind
 abbrev pub IsFoundWord : Found → List ℕ → Type 0
 IsFoundWord kind word =
     (F : List ℕ → Option Form) (ns : List Named) (x : List ℕ) (f : Form)
-    → IsKindOf F ns x f kind → KindHasOrder F ns x kind → KindTellsOrder F x kind → IsWord F ns x word
+    → IsKindOf F ns x f kind → KindHasOrder F ns x kind → KindTellsOrder F x kind → IsWord F x word
 
--- a word of each list of which the code finds these elements, which aren't refused
+-- a word of each list of which the code finds these elements
 abbrev pub IsFoundListWord : Elements → List ℕ → Type 0
 IsFoundListWord es word =
     (F : List ℕ → Option Form) (ns : List Named) (x : List ℕ) (f : Form)
-    → IsListOf F ns x f es.at es.is_refused → es.is_refused ≡ false → HasKeyOrder F ns x es.order → TellsNoOrder F x es.order → IsWord F ns x word
+    → IsListOf F ns x f es.at → HasKeyOrder F ns x es.order → TellsNoOrder F x es.order → IsWord F x word
 
 -- a member for each name, which is its word
 abbrev pub word_members : List (List ℕ × List ℕ) → Members
@@ -66,4 +65,4 @@ word_members (p ∷ ps) = member p.0 (string p.1) (word_members ps)
 -- the text is a JSON object with a member for each of the names, in their order, which is its word
 abbrev pub TellsNames : (List ℕ → Option Form) → List Named → List ℕ → Type 0
 TellsNames F ns text =
-    (ps : List (List ℕ × List ℕ)) × (document text ≡ Some (object (word_members ps))) × (map (λ p. p.0) ps ≡ map (λ n. n.name.now) ns) × All (λ p. IsWord F ns p.0 p.1) ps
+    (ps : List (List ℕ × List ℕ)) × (document text ≡ Some (object (word_members ps))) × (map (λ p. p.0) ps ≡ map (λ n. n.name.now) ns) × All (λ p. IsWord F p.0 p.1) ps

@@ -5,7 +5,7 @@ use Rattle.json.specs.Json.{Json}
 use Rattle.borsh_json.specs.declared.error.JsonError.{JsonError}
 use Rattle.borsh_json.specs.declared.error.JsonError.TheVariants.{OutOfMemory, NoMember, NoValue, Ambiguous, NotJson, Refused}
 use Rattle.borsh_json.specs.declared.error.Refusal.{Refusal}
-use Rattle.borsh_json.specs.declared.error.Refusal.TheVariants.{TooDeep, RepeatedName, EmptyElements, NotBool, NotUtf8, Zero, NotNumber, Descends, Expected, MissingField, UnknownName, RepeatedKey, Undefined}
+use Rattle.borsh_json.specs.declared.error.Refusal.TheVariants.{TooDeep, RepeatedName, EmptyElements, NotBool, NotUtf8, Zero, NotNumber, Descends}
 use Rattle.borsh_json.specs.Descents.{HasDescent}
 use Rattle.borsh_json.specs.Forms.{Form}
 use Rattle.borsh_json.specs.InOrder.{Step, element}
@@ -21,19 +21,13 @@ module _ (F : List ℕ → Option Form) where
 
   -- the refusal is about values of the name: of this kind
   abbrev pub IsAbout : Refusal → List ℕ → Type 0
-  IsAbout TooDeep x = ⊥
   IsAbout (RepeatedName name) x = RepeatsName F x (string_bytes name)
   IsAbout EmptyElements x = HasEmptyElements F x
   IsAbout NotBool x = HasKind F x truth
   IsAbout NotUtf8 x = (l : Lengths) × HasKind F x (utf8 l)
   IsAbout Zero x = (n : ℕ) × (signed : Bool) × HasKind F x (whole n signed true)
   IsAbout NotNumber x = (f : Format) × HasKind F x (float f)
-  IsAbout Descends x = ⊥
-  IsAbout (Expected wanted) x = ⊥
-  IsAbout MissingField x = ⊥
-  IsAbout (UnknownName name) x = ⊥
-  IsAbout (RepeatedKey name) x = ⊥
-  IsAbout (Undefined name) x = ⊥
+  IsAbout refusal x = ⊥
 
   -- the refusal is right of a value of the name that begins with these bytes: it is about such values, and no JSON says this one
   abbrev pub RefusesOwn : Refusal → List ℕ → List ℕ → Type 0

@@ -1,5 +1,5 @@
 -- What the code finds of the orders of names, and what is still to be compared.
-use Rattle.std.specs.Prelude.{◌≡◌, ◌⊎◌, ⊤, ℕ, ◌*◌, ◌<◌, ◌≤◌, ◌^◌, ℤ, pos, All, Bool, false, Decides, MatchBool, List, [], ◌∷◌, ◌++◌, length, map, drop, replicate, reverse, Option, None, Some, Result, IfOk, IfSome, slice_get, MatchOption}
+use Rattle.std.specs.Prelude.{◌≡◌, ◌⊎◌, ⊤, ℕ, ◌*◌, ◌<◌, ◌≤◌, ◌^◌, ℤ, pos, All, Bool, Decides, MatchBool, List, [], ◌∷◌, ◌++◌, length, map, drop, replicate, reverse, Option, None, Some, Result, IfOk, IfSome, slice_get, MatchOption}
 use Rattle.std.specs.Borrow.{Bor}
 use Rattle.std.specs.Cmp.Lexicographic.{slice_cmp}
 use Rattle.std.specs.Ordering.{MatchOrdering, int_cmp, nat_cmp}
@@ -10,7 +10,6 @@ use Rattle.borsh_walks.specs.declared.definition.Definition.{Definition}
 use Rattle.borsh_plan.specs.declared.named.Named.{Named}
 use Rattle.borsh_json.specs.declared.definitions.Definitions.{Definitions}
 use Rattle.borsh_json.specs.declared.formats.Collection.{Collection}
-use Rattle.borsh_json.specs.declared.kinds.Elements.{Elements}
 use Rattle.borsh_json.specs.declared.kinds.KeyKind.{KeyKind}
 use Rattle.borsh_json.specs.declared.kinds.Kind.{Kind}
 use Rattle.borsh_json.specs.declared.kinds.Kind.TheVariants.{ByteList, Numbers, List as ListKind, Map}
@@ -23,7 +22,7 @@ use Rattle.borsh_json.specs.declared.order.Pair.{Pair}
 use Rattle.borsh_json.specs.declared.order.Pending.{Pending}
 use Rattle.borsh_json.specs.declared.order.Pending.TheVariants.{Elements as TwoLists, Parts, Copies, PartCopies}
 use Rattle.borsh_json.specs.Forms.{Form, sequence, tuple, primitive, shape_of_form, HasNoBytes}
-use Rattle.borsh_json.specs.Descents.{HasKeys, PrimitivesDescend}
+use Rattle.borsh_json.specs.Descents.{HasKeys}
 use Rattle.borsh_json.specs.Found.{HasForm, IsCollection, IsNamed, forms_of, names_of}
 use Rattle.borsh_json.specs.Ordered.{Order, single, numbers, text, array, list, parts, other, OrdersBytes, HasOrder, IsNode, Compared, a_value, a_copy, elements, IsAtLeast}
 use Rattle.borsh_json.specs.Places.{AreKeysOf, IsAt, IsKindAt}
@@ -102,11 +101,11 @@ module _ (F : List ℕ → Option Form) where
   abbrev pub TellsNoOrder : List ℕ → Option Ordered → Type 0
   TellsNoOrder x order = order ≡ None → KnowsNoOrder x
 
-  -- a kind of x without an order tells that x is no set or map, unless the list is refused
+  -- a kind of x without an order tells that x is no set or map
   abbrev pub KindTellsOrder : List ℕ → Kind → Type 0
   KindTellsOrder x (ByteList es) = TellsNoOrder x es.order
   KindTellsOrder x (Numbers es) = TellsNoOrder x es.order
-  KindTellsOrder x (ListKind es) = es.is_refused ≡ false → TellsNoOrder x es.order
+  KindTellsOrder x (ListKind es) = TellsNoOrder x es.order
   KindTellsOrder x kind = ⊤
 
 -- the values of the definitions' name are ordered so

@@ -1,8 +1,6 @@
 -- What was written of a value, and the JSON that may still follow: the invariant of the writer's loop.
-use Rattle.std.specs.Prelude.{◌≡◌, ◌⊎◌, ⊤, ℕ, suc, ◌+◌, ◌<◌, ◌≤◌, List, [], ◌∷◌, ◌++◌, length, map, replicate, drop, Bool, true, false, Decides, Option, Some, None, Result, MatchResult, MatchOption, IfSome, option_map, MatchBool}
-use Rattle.std.specs.declared.cmp.Ordering.{Ordering as Comparison}
+use Rattle.std.specs.Prelude.{◌≡◌, ◌⊎◌, ⊤, ℕ, suc, ◌+◌, ◌<◌, ◌≤◌, List, [], ◌∷◌, ◌++◌, length, map, replicate, drop, Bool, true, false, Option, Some, None, Result, MatchResult, MatchOption, IfSome, option_map, MatchBool}
 use Rattle.std.specs.declared.cmp.Ordering.TheVariants.{Less}
-use Rattle.std.specs.Borrow.{Bor}
 use Rattle.json.specs.Token.{Token}
 use Rattle.json.specs.Json.{Json, null, Items, Members, no_members, member}
 use Rattle.json.specs.Tree.{json_tokens, items_tokens, members_tokens, depth, items_depth, members_depth, HasNumbers, ItemsHaveNumbers, MembersHaveNumbers}
@@ -23,9 +21,10 @@ use Rattle.borsh_json.specs.declared.error.WriteError.{WriteError}
 use Rattle.borsh_json.specs.declared.error.WriteError.TheVariants.{OutOfMemory, Refused, Element}
 use Rattle.borsh_json.specs.declared.kinds.Elements.{Elements as FoundElements}
 use Rattle.borsh_json.specs.declared.kinds.Entries.{Entries as FoundEntries}
+use Rattle.borsh_json.specs.declared.kinds.Flaw.{Flaw}
 use Rattle.borsh_json.specs.declared.kinds.KeyKind.{KeyKind}
 use Rattle.borsh_json.specs.declared.kinds.Kind.{Kind as Found}
-use Rattle.borsh_json.specs.declared.kinds.Kind.TheVariants.{Number, Bool as Truth, Text, Bytes, Float, ByteList, Numbers, List as ListKind, Map, Row as RowKind, Newtype as NewtypeKind, Object as ObjectKind, Optional, Choice, Repeated}
+use Rattle.borsh_json.specs.declared.kinds.Kind.TheVariants.{Numbers, List as ListKind, Map, Row as RowKind, Newtype as NewtypeKind, Object as ObjectKind, Refused as RefusedKind}
 use Rattle.borsh_json.specs.declared.order.Ascent.{Ascent}
 use Rattle.borsh_json.specs.declared.order.Ordered.{Ordered}
 use Rattle.borsh_json.specs.declared.output.LongNumbers.{LongNumbers}
@@ -43,7 +42,7 @@ use Rattle.borsh_json.specs.Frames.{Wanted, IsWanted, IsEntryKey, IsOf, IsPath, 
 use Rattle.borsh_json.specs.Found.{forms_of, names_of}
 use Rattle.borsh_json.specs.Places.{IsAt, AreKeysOf, IsKindOf}
 use Rattle.borsh_json.specs.Orders.{HasKeyOrder, KindHasOrder, IsNotBelow, OrderedBy}
-use Rattle.borsh_json.specs.Represents.{SaysFirst, HaveBytes}
+use Rattle.borsh_json.specs.Represents.{SaysFirst}
 use Rattle.borsh_json.specs.InOrder.{Step, place, element, InOrder}
 use Rattle.borsh_json.specs.Inside.{LeadTo}
 use Rattle.borsh_json.specs.Leaves.{Holds, Adds, IsOpenedAs, RefusesValue, WritesLeaf, long_of, AreWritten}
@@ -122,45 +121,22 @@ MayFollowFirst x n rs ts ps =
 
 -- the kinds of values that have own bytes
 abbrev pub HasNode : Found → Type 0
-HasNode (Number n) = ⊤
-HasNode Truth = ⊤
-HasNode Text = ⊤
-HasNode (Bytes n) = ⊤
-HasNode (Float n) = ⊤
-HasNode (ByteList es) = ⊤
-HasNode (Numbers es) = ⊤
-HasNode (ListKind es) = ⊤
-HasNode (Map es order) = ⊤
 HasNode (RowKind n) = ⊥
 HasNode (NewtypeKind at) = ⊥
 HasNode (ObjectKind fs) = ⊥
-HasNode (Optional at) = ⊤
-HasNode (Choice w vs) = ⊤
-HasNode (Repeated name) = ⊥
+HasNode (RefusedKind flaw) = ⊥
+HasNode kind = ⊤
 
 -- how deep JSON of a kind nests that is written whole
 abbrev pub leaf_depth : Found → ℕ
-leaf_depth (Number n) = 0
-leaf_depth Truth = 0
-leaf_depth Text = 0
-leaf_depth (Bytes n) = 0
-leaf_depth (Float n) = 0
-leaf_depth (ByteList es) = 0
 leaf_depth (Numbers es) = 1
-leaf_depth (ListKind es) = 0
-leaf_depth (Map es order) = 0
-leaf_depth (RowKind n) = 0
-leaf_depth (NewtypeKind at) = 0
-leaf_depth (ObjectKind fs) = 0
-leaf_depth (Optional at) = 0
-leaf_depth (Choice w vs) = 0
-leaf_depth (Repeated name) = 0
+leaf_depth kind = 0
 
--- none of the parts was begun, and an object of entries is a map's; the order of parts isn't set, and a list isn't refused
+-- none of the parts was begun, and an object of entries is a map's; the order of parts isn't set
 abbrev pub IsNewPlace : Found → Place → Type 0
 IsNewPlace kind p =
     (p.ascent ≡ None) × (p.last ≡ None) × ((es : FoundEntries) (n : ℕ) → p.parts ≡ MapEntries es n → (order : Ordered) × (kind ≡ Map es order))
-    × ((es : FoundElements) → kind ≡ ListKind es → es.is_refused ≡ false) × (p.begun ≡ 0)
+    × (p.begun ≡ 0)
 
 -- a place's steps lead to these parts of a value with this definition and own bytes
 abbrev pub AreCalled : Form → List ℕ → Parts → List (List ℕ) → Type 0
@@ -332,14 +308,12 @@ WritesValueOf F ns at kind n old new result =
 
 -- the bracket in front of the parts of a place
 abbrev pub begins_of : Parts → List Token
-begins_of Root = []
 begins_of (Elements at n) = Token.begin_array ∷ []
 begins_of (Row at n) = Token.begin_array ∷ []
 begins_of (Object at fs) = Token.begin_object ∷ []
 begins_of (MapEntries es n) = Token.begin_object ∷ []
-begins_of (Newtype at) = []
-begins_of (Present at) = []
 begins_of (Variant v at) = Token.begin_object ∷ []
+begins_of parts = []
 
 -- the bracket was written, and none of the parts
 abbrev pub BeginsAt : Parts → Output → Output → Result (Option Place) WriteError → Type 0
@@ -349,15 +323,11 @@ BeginsAt parts old new result = MatchResult result
 
 -- the parts of a value of a kind without own bytes, that has the name at the place
 abbrev pub ArePartsOf : ℕ → Found → Option Parts → Type 0
-ArePartsOf at kind None = HasNode kind ⊎ ((name : Bor (List ℕ)) × (kind ≡ Repeated name))
+ArePartsOf at kind None = HasNode kind ⊎ ((flaw : Flaw) × (kind ≡ RefusedKind flaw))
 ArePartsOf at kind (Some (Row i n)) = (i ≡ at) × (kind ≡ RowKind n)
 ArePartsOf at kind (Some (Newtype p)) = kind ≡ NewtypeKind p
 ArePartsOf at kind (Some (Object i fs)) = (i ≡ at) × (kind ≡ ObjectKind fs)
-ArePartsOf at kind (Some Root) = ⊥
-ArePartsOf at kind (Some (Elements i n)) = ⊥
-ArePartsOf at kind (Some (MapEntries es n)) = ⊥
-ArePartsOf at kind (Some (Present p)) = ⊥
-ArePartsOf at kind (Some (Variant v p)) = ⊥
+ArePartsOf at kind parts = ⊥
 
 -- of the name at the place, that the code found this kind of, a value without own bytes was begun, or is refused
 abbrev pub BeginsStruct : ℕ → Found → Output → Output → Result (Option Place) WriteError → Type 0
@@ -459,14 +429,12 @@ StopsBy d bytes e = Stops (forms_of d) (root_of d.plan.now) bytes e
 
 -- the brackets at the end of a place
 abbrev pub ends_of : Parts → List Token
-ends_of Root = []
 ends_of (Elements at n) = Token.end_array ∷ []
 ends_of (Row at n) = Token.end_array ∷ []
 ends_of (Object at fs) = Token.end_object ∷ []
 ends_of (MapEntries es n) = Token.end_object ∷ []
-ends_of (Newtype at) = []
-ends_of (Present at) = []
 ends_of (Variant v at) = Token.end_object ∷ []
+ends_of parts = []
 
 -- the error has no memory, or the refusal of so many places around
 abbrev pub IsFull : ℕ → PartError → Type 0

@@ -1,8 +1,9 @@
 // How the values of a name are written in JSON.
-ghost use Rattle.borsh_json.specs.Words.{AreEntries, AreKeys, AreKeysOf, FindsKeysOf, FindsKind, HasElements, HasForm, HasNoBytes, IsAt, IsByte, IsCollection, IsKindOf, IsMap, IsNamed, IsNullable, IsPrimitiveKind, IsRefusedList, IsRepeated, Keys, MayBeNull, OrdersKeys, TellsKind, TellsOrders, form_of, form_of_struct, forms_in, forms_of, map_of, packed_size, plan_names, primitive_kind, sequence, shape_of_form, texts};
+ghost use Rattle.borsh_json.specs.Words.{AreEntries, AreKeys, AreKeysOf, FindsKeysOf, FindsKind, HasElements, HasForm, HasNoBytes, IsAt, IsByte, IsCollection, IsKindOf, IsMap, IsNamed, IsNullable, IsPrimitiveKind, IsRefusalOf, IsRepeated, Keys, MayBeNull, OrdersKeys, TellsKind, TellsOrders, form_of, form_of_struct, forms_in, forms_of, map_of, packed_size, plan_names, primitive_kind, sequence, shape_of_form, texts};
 ghost use Rattle.std.specs.Prelude.{◌≡◌, ℕ, List, Decides, IfOk, MatchBool, MatchOption, Some, map, option_map, string_bytes};
 
 use crate::definitions::Definitions;
+use crate::error::Refusal;
 use crate::floats::is_float;
 use crate::formats::{Collection, collection_of, is_list, is_newtype, option_part};
 use crate::numbers::Number;
@@ -24,8 +25,6 @@ pub struct Elements {
     pub size: u8,
     /// How they have to ascend, or their keys, if the list is a set or a map.
     pub order: Option<Ordered>,
-    /// Whether the list is refused, since its elements or keys have no bytes.
-    pub is_refused: bool,
 }
 
 /// How the keys of an object are read.
@@ -75,8 +74,29 @@ pub enum Kind<'a> {
     Optional(usize),
     /// `"Name"`, or `{"Name": ..}` where the variant's value has bytes, with a tag of so many bytes.
     Choice(u8, &'a Variants),
-    /// Not at all: two of its fields or variants have this name.
-    Repeated(&'a str),
+    /// Not at all: for this reason.
+    Refused(Flaw<'a>),
+}
+
+/// Why the values of a name have no JSON, whatever their bytes are.
+#[derive(Clone, Copy)]
+pub enum Flaw<'a> {
+    /// Two fields or variants have this name.
+    RepeatedName(&'a str),
+    /// The elements of a list with a length, or the keys of a map, have no bytes.
+    EmptyElements,
+}
+
+impl Flaw<'_> {
+    /// The refusal of a value or text of the name.
+    pub(crate) fn refusal(self, alloc: Global) -> Result<Refusal, AllocError>
+        ensures { IfOk result (λ refusal. IsRefusalOf self.entry refusal) }
+    {
+        match self {
+            Flaw::RepeatedName(name) => Ok(Refusal::RepeatedName(String::from_str(alloc, name)?)),
+            Flaw::EmptyElements => Ok(Refusal::EmptyElements),
+        }
+    }
 }
 
 /// How the values of the name at a place, which has this definition, are written. Their bytes are at least one.
@@ -102,7 +122,7 @@ pub fn kind_of<'a>(
         } => match nullable_part(definitions, at, definition) {
             Some(part) => Ok(Kind::Optional(part)),
             None => match repeated_variant(definitions.alloc, variants)? {
-                Some(name) => Ok(Kind::Repeated(name)),
+                Some(name) => Ok(Kind::Refused(Flaw::RepeatedName(name))),
                 None => Ok(Kind::Choice(*tag_width, variants)),
             },
         },
@@ -153,7 +173,7 @@ fn kind_of_struct<'a>(
 {
     match fields {
         Fields::NamedFields(fields) => match repeated_field(definitions.alloc, fields)? {
-            Some(name) => Ok(Kind::Repeated(name)),
+            Some(name) => Ok(Kind::Refused(Flaw::RepeatedName(name))),
             None => Ok(Kind::Object(fields)),
         },
         Fields::UnnamedFields(parts) => {
@@ -244,7 +264,6 @@ fn kind_of_bytes<'a>(
         at: element,
         size: 1,
         order,
-        is_refused: false,
     })
 }
 
@@ -261,11 +280,8 @@ fn kind_of_list<'a>(
         TellsOrders definitions.now at (form_of definition.now) result }
 {
     let collection = collection_of(definitions, at, definition);
-    if definitions.is_zero_size(element) {
-        return refused_list(element);
-    }
-    if has_empty_keys(definitions, collection) {
-        return refused_list(element);
+    if definitions.is_zero_size(element) || has_empty_keys(definitions, collection) {
+        return Kind::Refused(Flaw::EmptyElements);
     }
     if let Some(entries) = entries_of(definitions, collection) {
         return Kind::Map(entries, order_of_keys(entries.key_kind));
@@ -276,24 +292,12 @@ fn kind_of_list<'a>(
         at: element,
         size,
         order,
-        is_refused: false,
     };
     if size == 0 {
         Kind::List(elements)
     } else {
         Kind::Numbers(elements)
     }
-}
-
-fn refused_list<'a>(element: usize) -> Kind<'a>
-    ensures { IsRefusedList result }
-{
-    Kind::List(Elements {
-        at: element,
-        size: 0,
-        order: None,
-        is_refused: true,
-    })
 }
 
 /// How many bytes a primitive has; 0 for other definitions.

@@ -35,7 +35,7 @@ mod writing;
 
 pub use ascii::in_ascii;
 pub use error::{JsonError, Refusal};
-pub use kinds::{Elements, Entries, KeyKind, Kind};
+pub use kinds::{Elements, Entries, Flaw, KeyKind, Kind};
 pub use laws::{json_gives_back, text_determines_bytes};
 pub use output::{Characters, Layout, LongNumbers, Style};
 pub use reading::from_json;

@@ -35,7 +35,7 @@ impl Table<'_, '_> {
     /// How the values of the name at a place are written.
     fn word(&self, at: usize) -> &'static str
         ensures { (x : List ℕ) → IsAt (names_of self.now) at x →
-            IsWord (forms_of self.now) (names_of self.now) x result.now }
+            IsWord (forms_of self.now) x result.now }
     {
         match self.kind(at) {
             _ if self.is_zero_size(at) => "empty",
@@ -63,20 +63,14 @@ fn word_of(kind: Kind<'_>) -> &'static str
             }
         }
         Kind::Numbers(elements) => word_of_list(elements),
-        Kind::List(elements) => {
-            if elements.is_refused {
-                "refused"
-            } else {
-                word_of_list(elements)
-            }
-        }
+        Kind::List(elements) => word_of_list(elements),
         Kind::Map(_, _) => "map",
         Kind::Row(_) => "row",
         Kind::Newtype(_) => "newtype",
         Kind::Object(_) => "object",
         Kind::Optional(_) => "option",
         Kind::Choice(_, _) => "enum",
-        Kind::Repeated(_) => "refused",
+        Kind::Refused(_) => "refused",
     }
 }
 

@@ -1,6 +1,6 @@
 // Whole numbers as text.
 ghost use Rattle.borsh_json.specs.Words.{FitsSigned, HasRank, InRange, IsLeading, HasNoLeadingZero, IsWhole, decimal, magnitude_of, number_found, number_kind, number_types, rank_of, raw, signed_decimal, w128, whole};
-ghost use Rattle.std.specs.Prelude.{◌==◌, if◌then◌else◌, ◌≡◌, ◌<◌, ◌≤◌, ◌*◌, ◌^◌, ℕ, ℤ, List, Decides, MatchOption, false, length, negsuc, pos, take, true};
+ghost use Rattle.std.specs.Prelude.{◌==◌, if◌then◌else◌, ◌≡◌, ◌<◌, ◌≤◌, ◌*◌, ◌^◌, ℕ, ℤ, List, Decides, MatchOption, false, length, take, true};
 
 use crate::integers::Integer;
 use itoa::Buffer;

@@ -1,7 +1,7 @@
 // What the JSON of a part says by its definition: its own bytes, and the parts that it has.
-ghost use Rattle.borsh_json.specs.Words.{AddsList, AddsOrFalls, BeginsWith, DeniesRead, ElementsFall, Form, FoundMap, FoundObject, FoundOrder, FoundRow, HasKeyOrder, HasKind, InItems, InMembers, IsArrayOf, IsAt, IsDistinct, IsExpected, IsHex, IsKindOf, IsListOf, IsNumber, IsOpened, IsOpenedOrFalls, IsUnexpected, IsVariantAt, Json, JsonItems, JsonMembers, KindHasOrder, KindTellsOrder, KnowsNoOrder, NamedPlace, NamesVariant, NoneFalls, OneSource, Opens, OutOfMemory, SaysArray, TableKind, array, byte_list, bytes_eq, float, float_size, form_of, forms_in, lengths_of, list_parts, map_of, no_bytes, object, optional, plan_names, raw, spec_variants, string, tag, truth, utf8, variant_bytes, whole};
+ghost use Rattle.borsh_json.specs.Words.{AddsList, AddsOrFalls, BeginsWith, DeniesRead, ElementsFall, Form, FoundMap, FoundObject, FoundOrder, FoundRow, HasKeyOrder, HasKind, InItems, InMembers, IsArrayOf, IsAt, IsDistinct, IsExpected, IsHex, IsKindOf, IsNumber, IsOpened, IsOpenedOrFalls, IsUnexpected, IsVariantAt, Json, JsonItems, JsonMembers, KindHasOrder, KindTellsOrder, KnowsNoOrder, NamedPlace, NamesVariant, NoneFalls, OneSource, Opens, OutOfMemory, SaysArray, TableKind, array, byte_list, bytes_eq, float, float_size, form_of, forms_in, lengths_of, list_parts, map_of, no_bytes, object, optional, plan_names, raw, spec_variants, string, tag, truth, utf8, variant_bytes, whole};
 ghost use Rattle.std.specs.Float.{Format};
-ghost use Rattle.std.specs.Prelude.{◌≡◌, ◌++◌, ◌≤◌, ⊤, [], ℕ, List, IfErr, IfOk, IfSome, Option, MatchOption, MatchResult, None, OnOk, Some, false, length, map, option_map, pos, string_bytes, take};
+ghost use Rattle.std.specs.Prelude.{◌≡◌, ◌++◌, ◌≤◌, [], ℕ, List, IfSome, Option, MatchOption, MatchResult, None, OnOk, Some, false, length, map, option_map, pos, string_bytes, take};
 
 use crate::digits::hexadecimal;
 use crate::error::{ReadError, Refusal};
@@ -73,18 +73,15 @@ fn open_kind<'a, 't, 's>(
         Kind::Float(size) => open_float(alloc, size, &element, out),
         Kind::Text => open_text(alloc, definition, &element, out),
         Kind::ByteList(elements) => open_byte_list(alloc, definition, elements, &element, out),
-        Kind::Numbers(elements) => open_list(alloc, definition, elements, &element, out),
-        Kind::List(elements) => open_list(alloc, definition, elements, &element, out),
+        Kind::Numbers(elements) => open_items(alloc, definition, elements, &element, out),
+        Kind::List(elements) => open_items(alloc, definition, elements, &element, out),
         Kind::Map(entries, _) => open_map(alloc, definition, entries, &element, out),
         Kind::Row(count) => open_row(alloc, at, count, &element),
         Kind::Newtype(part) => Ok(only(Parts::Newtype(part), element)),
         Kind::Object(fields) => open_object(alloc, at, fields, &element),
         Kind::Optional(part) => open_option(part, element, out),
         Kind::Choice(width, variants) => { open_variant(json, at, width, variants, &element, out) }
-        Kind::Repeated(name) => {
-            let name = String::from_str(alloc, name)?;
-            Err(ReadError::Refused(Refusal::RepeatedName(name)))
-        }
+        Kind::Refused(flaw) => Err(ReadError::Refused(flaw.refusal(alloc)?)),
     }
 }
 
@@ -415,25 +412,6 @@ fn array_of<'t, 's>(element: &Element<'t, 's>) -> Array<'t, 's>
         Some(count) => Array::Of(items, count),
         None => Array::TooLong,
     }
-}
-
-fn open_list<'a, 't, 's>(
-    alloc: Global,
-    definition: &Definition,
-    elements: Elements,
-    element: &Element<'t, 's>,
-    out: &mut Vec<u8>,
-) -> Opened<'a, 't, 's>
-    ensures { (F : List ℕ → Option Form) (ns : List NamedPlace) (x : List ℕ) (j : Json) →
-        HasKeyOrder F ns x elements.order →
-        (elements.is_refused ≡ false → elements.order ≡ None → KnowsNoOrder F x) →
-        IsListOf F ns x (form_of definition.now) elements.at elements.is_refused → BeginsWith element.now j →
-        IsOpened F ns x j out.old.items out.new.items result }
-{
-    if elements.is_refused {
-        return Err(ReadError::Refused(Refusal::EmptyElements));
-    }
-    open_items(alloc, definition, elements, element, out)
 }
 
 fn open_items<'a, 't, 's>(

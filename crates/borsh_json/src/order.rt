@@ -1,6 +1,6 @@
 // The order of the keys of maps and sets, as far as names and definitions tell it.
 ghost use Rattle.borsh_json.specs.Words.{AreNumbers, ArePrimitives, ComparesCopies, ComparesFronts, ComparesNumbers, ComparesTexts, DecidesAscent, DecidesFall, FindsBytesAt, FindsCopies, FindsNext, FindsNoBytesAt, Form, HasForm, InRange, IsCut, IsNotBelow, IsSequenceName, IsTreeMapName, Less, NamedPlace, NumberOrder, OrderedBy, OrdersBytes, PrimitivesDescend, TakesBoth, TakesCounts, TakesSame, array_order, decimal, following, form_of, forms_of, int_cmp, is_negative, little_endian, nat_cmp, node_size, primitive_kind, sequence, shape_of_form, tag, tuple, tuple_name, variant_of};
-ghost use Rattle.std.specs.Prelude.{◌≡◌, ◌⊎◌, ◌++◌, ◌∷◌, [], ◌<◌, ◌≤◌, ◌^◌, ℕ, ℤ, All, Bool, List, Decides, IfOk, IfSome, MatchBool, MatchOption, None, Option, Some, codes, drop, length, map, option_map, slice_get, string_bytes, true};
+ghost use Rattle.std.specs.Prelude.{◌≡◌, ◌++◌, ◌∷◌, [], ◌<◌, ◌≤◌, ◌^◌, ℕ, ℤ, All, Bool, List, Decides, IfOk, IfSome, MatchBool, MatchOption, None, Option, Some, codes, drop, length, map, option_map, slice_get, string_bytes, true};
 
 use crate::definitions::Definitions;
 use crate::formats::{behind, is_composed, is_list, option_part};

@@ -2,7 +2,7 @@
 ghost use Rattle.borsh_json.specs.Words.{ArePartsOf, BeginsAt, BeginsStruct, Form, FoundChoice, FoundList, FoundMap, FoundOption, FoundOrder, HasNode, NamedPlace, WritesValueOf, forms_of, names_of};
 ghost use Rattle.std.specs.Prelude.{ℕ, List, Option};
 
-use crate::error::{Refusal, WriteError};
+use crate::error::WriteError;
 use crate::kinds::{Elements, Entries, Kind, Variants};
 use crate::leaves::{
     write_byte_list, write_name, write_null, write_numbers, write_primitive, write_text,
@@ -26,9 +26,8 @@ pub fn begin_struct<'a, 'b>(
 ) -> Begun<'a, 'b>
     ensures { BeginsStruct at kind.entry out.old out.new result }
 {
-    if let Kind::Repeated(name) = kind {
-        let name = String::from_str(alloc, name)?;
-        return Err(WriteError::Refused(Refusal::RepeatedName(name)));
+    if let Kind::Refused(flaw) = kind {
+        return Err(WriteError::Refused(flaw.refusal(alloc)?));
     }
     let Some(parts) = parts_of_struct(at, kind) else {
         return Ok(None);
@@ -103,9 +102,6 @@ fn begin_list<'a, 'b>(elements: Elements, node: &Node<'a, 'b>, out: &mut Output)
     ensures { (F : List ℕ → Option Form) (ns : List NamedPlace) (at : ℕ) →
         WritesValueOf F ns at (FoundList elements) node.now out.old out.new result }
 {
-    if elements.is_refused {
-        return Err(WriteError::Refused(Refusal::EmptyElements));
-    }
     let count = count_of(node).unwrap_or(0);
     let parts: Parts<'a> = Parts::List(elements.at, count);
     begin(parts, out)

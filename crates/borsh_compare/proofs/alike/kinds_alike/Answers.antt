@@ -1,28 +1,16 @@
 use Rattle.std.proofs.Common.{refl, sym, ◌∙◌, ap, subst}
-use Rattle.borsh_plan.specs.Plan.{names_of}
-use Rattle.borsh_json.specs.declared.kinds.Kind.TheVariants.{Number, Bool as Truth, Text, Bytes, Float, ByteList, Numbers, List as Elements, Map, Row, Object, Optional, Choice, Repeated}
+use Rattle.borsh_json.specs.declared.kinds.Kind.TheVariants.{Number, Bool as Truth, Text, Bytes, Float, ByteList, Numbers, List as Elements, Map, Row, Object, Optional, Choice, Refused}
 use Rattle.borsh_json.specs.Forms.{form_of}
-use Rattle.borsh_json.specs.Places.{IsListOf}
 use Rattle.borsh_json.specs.Table.{HasKind, raw}
 use Rattle.borsh_compare.specs.Alike.{field_names, forms_of, itself, of_optional, of_raw, of_truth, of_utf8, unsaid}
 use Rattle.borsh_compare.proofs.Found.{at_kinds, of_byte_lists, of_choices, of_floats, of_kinds, of_lists, of_maps, of_numbers, of_objects, of_rows, pairing}
 use Rattle.borsh_compare.proofs.Parts.{ok_map}
 use Rattle.borsh_compare.proofs.alike.kinds_alike.Goals as goal
 
-pub returns-in-Repeated-default : goal.returns-in-Repeated-default
-returns-in-Repeated-default c = λ h.
-    at_kinds c.args.both.old.now c.args.both.new.now c.args.pairs.now.list.items c.args.at.old c.args.at.new c.args.old.0.now c.args.new.0.now (Repeated c.in-Repeated-default.field-0-0) c.args.new.1 c.in-Repeated-default.is-0 refl
+pub returns-in-Refused-default : goal.returns-in-Refused-default
+returns-in-Refused-default c = λ h.
+    at_kinds c.args.both.old.now c.args.both.new.now c.args.pairs.now.list.items c.args.at.old c.args.at.new c.args.old.0.now c.args.new.0.now (Refused c.in-Refused-default.field-0-0) c.args.new.1 c.in-Refused-default.is-0 refl
     (λ x y ix iy fx gy p q. unsaid itself p.0)
-
-pub returns-in-List-default : goal.returns-in-List-default
-returns-in-List-default c = λ h.
-    at_kinds c.args.both.old.now c.args.both.new.now c.args.pairs.now.list.items c.args.at.old c.args.at.new c.args.old.0.now c.args.new.0.now (Elements c.in-List-default.elements) c.args.new.1 c.in-List-default.is-0 refl
-    (λ x y ix iy fx gy p q. unsaid itself (subst (λ r. IsListOf (forms_of c.args.both.old.now) (names_of c.args.both.old.now) x (form_of c.args.old.0.now) c.in-List-default.elements.at r) c.if-elements.true p.0).0)
-
-pub returns-then-lengths_lie : goal.returns-then-lengths_lie
-returns-then-lengths_lie c = λ h.
-    at_kinds c.args.both.old.now c.args.both.new.now c.args.pairs.now.list.items c.args.at.old c.args.at.new c.args.old.0.now c.args.new.0.now (Elements c.in-List-default.elements) (Elements c.in-List-List.b) c.in-List-default.is-0 c.in-List-List.is-1
-    (λ x y ix iy fx gy p q. of_lists c.args.both.old.now c.args.both.new.now c.args.pairs.now.list.items c.args.at.old c.args.at.new x y ix iy (form_of c.args.old.0.now) (form_of c.args.new.0.now) fx gy c.in-List-default.elements.at c.in-List-List.b.at c.in-List-default.elements.is_refused c.in-List-List.b.is_refused (c.elements_paired.ensures.old h) (c.elements_paired.ensures.new h) (c.lengths_lie.ensures c.if-lengths_lie.true) (c.elements_paired.ensures.paired h) p.0 q.0)
 
 pub returns-in-Number-Number : goal.returns-in-Number-Number
 returns-in-Number-Number c = λ h.
@@ -37,7 +25,7 @@ returns-in-Bool-Bool c = λ h.
 pub returns-in-Text-Text : goal.returns-in-Text-Text
 returns-in-Text-Text c = λ h.
     at_kinds c.args.both.old.now c.args.both.new.now c.args.pairs.now.list.items c.args.at.old c.args.at.new c.args.old.0.now c.args.new.0.now Text Text c.in-Text-Text.is-0 c.in-Text-Text.is-1
-    (λ x y ix iy fx gy p q. of_kinds c.args.both.old.now c.args.both.new.now c.args.pairs.now.list.items c.args.at.old c.args.at.new x y ix iy (form_of c.args.old.0.now) (form_of c.args.new.0.now) fx gy p q (of_utf8 (c.lengths_lie-in-Text-Text.ensures h)))
+    (λ x y ix iy fx gy p q. of_kinds c.args.both.old.now c.args.both.new.now c.args.pairs.now.list.items c.args.at.old c.args.at.new x y ix iy (form_of c.args.old.0.now) (form_of c.args.new.0.now) fx gy p q (of_utf8 (c.lengths_lie.ensures h)))
 
 pub returns-in-Bytes-Bytes : goal.returns-in-Bytes-Bytes
 returns-in-Bytes-Bytes c = λ h.
@@ -49,15 +37,20 @@ returns-in-Float-Float c = λ h.
     at_kinds c.args.both.old.now c.args.both.new.now c.args.pairs.now.list.items c.args.at.old c.args.at.new c.args.old.0.now c.args.new.0.now (Float c.in-Float-Float.k) (Float c.in-Float-Float.l) c.in-Float-Float.is-0 c.in-Float-Float.is-1
     (λ x y ix iy fx gy p q. of_floats c.args.both.old.now c.args.both.new.now c.args.pairs.now.list.items c.args.at.old c.args.at.new x y ix iy (form_of c.args.old.0.now) (form_of c.args.new.0.now) fx gy c.in-Float-Float.k c.in-Float-Float.l c.if-k-l.true p q)
 
+pub returns-then-lengths_lie : goal.returns-then-lengths_lie
+returns-then-lengths_lie c = λ h.
+    at_kinds c.args.both.old.now c.args.both.new.now c.args.pairs.now.list.items c.args.at.old c.args.at.new c.args.old.0.now c.args.new.0.now (ByteList c.in-ByteList-ByteList.a) (ByteList c.in-ByteList-ByteList.b) c.in-ByteList-ByteList.is-0 c.in-ByteList-ByteList.is-1
+    (λ x y ix iy fx gy p q. of_byte_lists c.args.both.old.now c.args.both.new.now c.args.pairs.now.list.items c.args.at.old c.args.at.new x y ix iy (form_of c.args.old.0.now) (form_of c.args.new.0.now) fx gy c.in-ByteList-ByteList.a c.in-ByteList-ByteList.b (c.lengths_lie-in-ByteList-ByteList.ensures c.if-lengths_lie.true) (c.elements_paired.ensures h) p q)
+
 pub returns-then-lengths_lie-2 : goal.returns-then-lengths_lie-2
 returns-then-lengths_lie-2 c = λ h.
-    at_kinds c.args.both.old.now c.args.both.new.now c.args.pairs.now.list.items c.args.at.old c.args.at.new c.args.old.0.now c.args.new.0.now (ByteList c.in-ByteList-ByteList.a) (ByteList c.in-ByteList-ByteList.b) c.in-ByteList-ByteList.is-0 c.in-ByteList-ByteList.is-1
-    (λ x y ix iy fx gy p q. of_byte_lists c.args.both.old.now c.args.both.new.now c.args.pairs.now.list.items c.args.at.old c.args.at.new x y ix iy (form_of c.args.old.0.now) (form_of c.args.new.0.now) fx gy c.in-ByteList-ByteList.a c.in-ByteList-ByteList.b (c.lengths_lie-in-ByteList-ByteList.ensures c.if-lengths_lie-2.true) (c.elements_paired-then-lengths_lie-2.ensures.paired h) p q)
+    at_kinds c.args.both.old.now c.args.both.new.now c.args.pairs.now.list.items c.args.at.old c.args.at.new c.args.old.0.now c.args.new.0.now (Numbers c.in-Numbers-Numbers.a) (Numbers c.in-Numbers-Numbers.b) c.in-Numbers-Numbers.is-0 c.in-Numbers-Numbers.is-1
+    (λ x y ix iy fx gy p q. of_lists c.args.both.old.now c.args.both.new.now c.args.pairs.now.list.items c.args.at.old c.args.at.new x y ix iy (form_of c.args.old.0.now) (form_of c.args.new.0.now) fx gy c.in-Numbers-Numbers.a.at c.in-Numbers-Numbers.b.at (c.lengths_lie-in-Numbers-Numbers.ensures c.if-lengths_lie-2.true) (c.elements_paired-then-lengths_lie-2.ensures h) p.0 q.0)
 
 pub returns-then-lengths_lie-3 : goal.returns-then-lengths_lie-3
 returns-then-lengths_lie-3 c = λ h.
-    at_kinds c.args.both.old.now c.args.both.new.now c.args.pairs.now.list.items c.args.at.old c.args.at.new c.args.old.0.now c.args.new.0.now (Numbers c.in-Numbers-Numbers.a) (Numbers c.in-Numbers-Numbers.b) c.in-Numbers-Numbers.is-0 c.in-Numbers-Numbers.is-1
-    (λ x y ix iy fx gy p q. of_lists c.args.both.old.now c.args.both.new.now c.args.pairs.now.list.items c.args.at.old c.args.at.new x y ix iy (form_of c.args.old.0.now) (form_of c.args.new.0.now) fx gy c.in-Numbers-Numbers.a.at c.in-Numbers-Numbers.b.at c.in-Numbers-Numbers.a.is_refused c.in-Numbers-Numbers.b.is_refused (c.elements_paired-then-lengths_lie-3.ensures.old h) (c.elements_paired-then-lengths_lie-3.ensures.new h) (c.lengths_lie-in-Numbers-Numbers.ensures c.if-lengths_lie-3.true) (c.elements_paired-then-lengths_lie-3.ensures.paired h) p.0 q.0)
+    at_kinds c.args.both.old.now c.args.both.new.now c.args.pairs.now.list.items c.args.at.old c.args.at.new c.args.old.0.now c.args.new.0.now (Elements c.in-List-List.a) (Elements c.in-List-List.b) c.in-List-List.is-0 c.in-List-List.is-1
+    (λ x y ix iy fx gy p q. of_lists c.args.both.old.now c.args.both.new.now c.args.pairs.now.list.items c.args.at.old c.args.at.new x y ix iy (form_of c.args.old.0.now) (form_of c.args.new.0.now) fx gy c.in-List-List.a.at c.in-List-List.b.at (c.lengths_lie-in-List-List.ensures c.if-lengths_lie-3.true) (c.elements_paired-then-lengths_lie-3.ensures h) p.0 q.0)
 
 pub returns-then-lengths_lie-4 : goal.returns-then-lengths_lie-4
 returns-then-lengths_lie-4 c = λ h.

@@ -1,5 +1,4 @@
-use Rattle.std.proofs.Common.{◌≡◌, List, ℕ, ◌++◌, sym, subst, append_assoc, IsUtf8, All}
-use Rattle.std.specs.Prelude.{Some}
+use Rattle.std.proofs.Common.{◌≡◌, List, ℕ, ◌++◌, sym, subst, append_assoc, IsUtf8, All, Some}
 use Rattle.std.proofs.lemmas.Str.{IsUtf8-past_char}
 use Rattle.json.specs.Json.{document}
 use Rattle.borsh_json.specs.Ascii.{IsInLine, IsPlain, character_text}

@@ -1,5 +1,4 @@
-use Rattle.std.proofs.Common.{◌≡◌, ℕ, ◌+◌, ◌-◌, ◌/◌, ◌%◌, ◌≤◌, false, List, ◌++◌, sym, ◌∙◌, ap, subst, append_assoc, ne_eqb, le-ltb}
-use Rattle.std.specs.Prelude.{OnOk}
+use Rattle.std.proofs.Common.{◌≡◌, ℕ, ◌+◌, ◌-◌, ◌/◌, ◌%◌, ◌≤◌, false, List, ◌++◌, sym, ◌∙◌, ap, subst, append_assoc, ne_eqb, le-ltb, OnOk}
 use Rattle.borsh_json.specs.Ascii.{AddsText, character_text, is_plain, unit_text}
 use Rattle.borsh_json.proofs.ascii.put_character.Goals as goal
 

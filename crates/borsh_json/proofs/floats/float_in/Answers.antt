@@ -1,5 +1,4 @@
-use Rattle.std.proofs.Common.{sym, ◌∙◌, ap}
-use Rattle.std.specs.Prelude.{option_map}
+use Rattle.std.proofs.Common.{sym, ◌∙◌, ap, option_map}
 use Rattle.borsh_json.proofs.FloatLaws.{no_float, number_float, word_float, parsed}
 use Rattle.borsh_json.proofs.floats.float_in.Goals as goal
 

@@ -1,5 +1,4 @@
-use Rattle.std.proofs.Common.{sym, ◌∙◌, ap}
-use Rattle.std.specs.Prelude.{option_map}
+use Rattle.std.proofs.Common.{sym, ◌∙◌, ap, option_map}
 use Rattle.borsh_json.proofs.FloatLaws.{word_read, minus_word_read, parsed}
 use Rattle.borsh_json.proofs.floats.infinity_in.Goals as goal
 use Rattle.borsh_json.proofs.floats.infinity_in.Goals.{then-eq, else-eq}

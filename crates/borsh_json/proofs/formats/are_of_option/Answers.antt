@@ -1,5 +1,4 @@
-use Rattle.std.proofs.Common.{◌≡◌, ◌∙◌, ◌∷◌, ◌++◌, [], List, ℕ, Decides, map, string_bytes, ap, subst}
-use Rattle.std.specs.Prelude.{ℤ, pos, codes}
+use Rattle.std.proofs.Common.{◌≡◌, ◌∙◌, ◌∷◌, ◌++◌, [], List, ℕ, Decides, map, string_bytes, ap, subst, ℤ, pos, codes}
 use Rattle.borsh_json.specs.Forms.{choice}
 use Rattle.borsh_json.specs.Found.{forms_of}
 use Rattle.borsh_json.proofs.FoundLaws.{listed, listed_is, two_variants, option_needs, option_found, none_first}

@@ -1,5 +1,4 @@
-use Rattle.std.proofs.Common.{List, ℕ, [], get_or, refl, arith, rules}
-use Rattle.std.specs.Borrow.{Bor}
+use Rattle.std.proofs.Common.{List, ℕ, [], get_or, refl, arith, rules, Bor}
 use Rattle.borsh_json.proofs.FoundLaws.{joined_step, joined_not, stripped}
 use Rattle.borsh_json.proofs.formats.behind.Goals as goal
 

@@ -1,5 +1,4 @@
-use Rattle.std.proofs.Common.{◌≡◌, ◌∙◌, List, ℕ, MatchBool, Some, map, sym, ap, subst}
-use Rattle.std.specs.Prelude.{ℤ, slice_get}
+use Rattle.std.proofs.Common.{◌≡◌, ◌∙◌, List, ℕ, MatchBool, Some, map, sym, ap, subst, ℤ, slice_get}
 use Rattle.borsh_json.specs.Forms.{IsOption, choice, form_of}
 use Rattle.borsh_json.specs.Found.{forms_of}
 use Rattle.borsh_json.proofs.FoundLaws.{listed, types_are, other_width}

@@ -1,9 +1,7 @@
-use Rattle.std.proofs.Common.{◌∙◌, Some, refl, map, string_bytes, sym, ap, subst}
-use Rattle.std.specs.Str.{bytes_eq}
+use Rattle.std.proofs.Common.{◌∙◌, Some, map, sym, ap, subst, bytes_eq}
 use Rattle.std.specs.List.{IsDistinct}
 use Rattle.std.proofs.lemmas.Simd.{map-map}
 use Rattle.borsh_walks.specs.Forms.{variant_bytes}
-use Rattle.borsh_plan.specs.Plan.{names_of as plan_names}
 use Rattle.borsh_json.specs.Forms.{form_of}
 use Rattle.borsh_json.specs.Found.{forms_of}
 use Rattle.borsh_json.specs.Table.{ComesTwice}
@@ -27,7 +25,7 @@ returns-in-Some-2-clause-kind c = λ x i e full.
     let vs = map variant_bytes items in
     let q = on_some _ _ c.in_ok-name-in-None.field-0 c.in-Some-2.name c.in-Some-2.is c.in_ok-name-in-None.ensures in
     let t = map-map (λ v. v.1) variant_bytes items in
-    variants_repeated F x full (plan_names d.plan.now) c.in-Enum.tag_width vs c.in-Some-2.name.now (e ∙ ap (λ d. Some (form_of d)) c.in-Enum.is) n
+    variants_repeated F x full c.in-Enum.tag_width vs c.in-Some-2.name.now (e ∙ ap (λ d. Some (form_of d)) c.in-Enum.is) n
     (λ a. q.0 (subst (λ l. IsDistinct bytes_eq l) t a)) (subst (λ l. ComesTwice c.in-Some-2.name.now l) (sym t) q.1)
 
 pub returns-in-None-2-clause-kind : goal.returns-in-None-2-clause-kind

@@ -1,5 +1,4 @@
-use Rattle.std.proofs.Common.{◌≡◌, ◌∙◌, Some, refl, sym, ap, subst}
-use Rattle.std.specs.Prelude.{codes}
+use Rattle.std.proofs.Common.{◌≡◌, ◌∙◌, Some, refl, sym, ap, subst, codes}
 use Rattle.borsh_json.specs.Forms.{sequence}
 use Rattle.borsh_json.specs.Table.{HasKind, utf8, byte_list}
 use Rattle.borsh_json.specs.Places.{lengths_of}
@@ -20,12 +19,8 @@ returns-then-is_text-clause-kind c = λ w lo hi e q i b x h full.
 pub returns-clause-kind : goal.returns-clause-kind
 returns-clause-kind c = λ w lo hi e q i b x h full.
     let F = forms_of c.args.definitions.now in
-    let f : F x ≡ Some (sequence w lo hi e) = h.1 ∙ ap (λ f. Some f) q in (
-      e,
-      i,
-      subst (λ f. HasKind F x (byte_list (lengths_of f) e)) (sym q) (bytes_kind F x full w lo hi e f (λ s. not_true c.is_text.result (c.is_text.ensures x h) c.if-is_text.false (text_is F x w lo hi e f s b)) b),
-      refl,
-    )
+    let f : F x ≡ Some (sequence w lo hi e) = h.1 ∙ ap (λ f. Some f) q in
+    (e, i, subst (λ f. HasKind F x (byte_list (lengths_of f) e)) (sym q) (bytes_kind F x full w lo hi e f (λ s. not_true c.is_text.result (c.is_text.ensures x h) c.if-is_text.false (text_is F x w lo hi e f s b)) b))
 
 pub returns-then-is_text-clause-orders : goal.returns-then-is_text-clause-orders
 returns-then-is_text-clause-orders c = λ s x f. (tt, tt)

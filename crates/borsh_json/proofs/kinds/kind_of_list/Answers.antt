@@ -7,29 +7,19 @@ use Rattle.borsh_json.specs.Table.{HasKind, list, entries}
 use Rattle.borsh_json.specs.Places.{lengths_of}
 use Rattle.borsh_json.specs.Found.{forms_of, names_of}
 use Rattle.borsh_json.proofs.FoundLaws.{on_true, on_false, not_true}
-use Rattle.borsh_json.proofs.KindOrders.{refused_order, refused_tells, key_found}
-use Rattle.borsh_json.proofs.NameLaws.{elements_found, numbers_found, refused, refused_is, entries_kind, list_kind}
+use Rattle.borsh_json.proofs.KindOrders.{key_found}
+use Rattle.borsh_json.proofs.NameLaws.{elements_found, numbers_found, refused, entries_kind, list_kind}
 use Rattle.borsh_json.proofs.kinds.kind_of_list.Goals as goal
+use Rattle.borsh_json.proofs.kinds.kind_of_list.Goals.{then-is_zero_size-via-then-is_zero_size, then-is_zero_size-via-else-is_zero_size+then-has_empty_keys}
 
 pub returns-then-is_zero_size-clause-kind : goal.returns-then-is_zero_size-clause-kind
 returns-then-is_zero_size-clause-kind c = λ w lo hi e q i b x h full.
-    let d = c.args.definitions.now in
-    let F = forms_of d in
-    let ns = plan_names d.plan.now in
+    let F = forms_of c.args.definitions.now in
     let f : F x ≡ Some (sequence w lo hi e) = h.1 ∙ ap (λ f. Some f) q in
-    refused_is F ns x (form_of c.args.definition.now) c.refused_list.result c.refused_list.ensures
-    (refused F x full w lo hi e f ns (inl ((c.is_zero_size.ensures e i).0 c.if-is_zero_size.true)))
-
-pub returns-then-has_empty_keys-clause-kind : goal.returns-then-has_empty_keys-clause-kind
-returns-then-has_empty_keys-clause-kind c = λ w lo hi e q i b x h full.
-    let d = c.args.definitions.now in
-    let F = forms_of d in
-    let ns = plan_names d.plan.now in
-    let f : F x ≡ Some (sequence w lo hi e) = h.1 ∙ ap (λ f. Some f) q in
-    let l = c.collection_of-collection.ensures x h in
-    let k = on_true _ c.has_empty_keys.result c.if-has_empty_keys.true (c.has_empty_keys.ensures x l) in
-    refused_is F ns x (form_of c.args.definition.now) c.refused_list-then-has_empty_keys.result c.refused_list-then-has_empty_keys.ensures
-    (refused F x full w lo hi e f ns (inr (k.0, k.1, k.2, k.3)))
+    refused F x full w lo hi e f (elim c.then-is_zero_size.branch [
+      | then-is_zero_size-via-then-is_zero_size v ↦ inl ((c.is_zero_size.ensures e i).0 v.if-is_zero_size.true)
+      | then-is_zero_size-via-else-is_zero_size+then-has_empty_keys v ↦ (let k = on_true _ v.has_empty_keys.result v.if-has_empty_keys.true (v.has_empty_keys.ensures x (c.collection_of-collection.ensures x h)) in inr (k.0, k.1, k.2, k.3))
+    ])
 
 pub returns-in-Some-clause-kind : goal.returns-in-Some-clause-kind
 returns-in-Some-clause-kind c = λ w lo hi e q i b x h full.
@@ -51,8 +41,8 @@ returns-then-size-eq0-clause-kind c = λ w lo hi e q i b x h full.
     let k = on_false _ c.has_empty_keys.result c.if-has_empty_keys.false (c.has_empty_keys.ensures x l) in
     let kind = subst (λ f. HasKind F x (list (lengths_of f) e)) (sym q) (list_kind F x full w lo hi e f b (c.in_default.ensures x l) z k) in
     let size = c.size_of_primitive-size.ensures ∙ ap (λ o. packed_size (option_map shape_of_form o)) (c.get.ensures e i) in
-    let es : Elements = record { at = c.args.element; size = c.size_of_primitive-size.result; order = c.order_in-order.result; is_refused = false } in
-    elements_found F (plan_names d.plan.now) x (form_of c.args.definition.now) e es i kind refl (sym size ∙ c.if-size-eq0.true)
+    let es : Elements = record { at = c.args.element; size = c.size_of_primitive-size.result; order = c.order_in-order.result } in
+    elements_found F (plan_names d.plan.now) x (form_of c.args.definition.now) e es i kind (sym size ∙ c.if-size-eq0.true)
 
 pub returns-else-size-eq0-clause-kind : goal.returns-else-size-eq0-clause-kind
 returns-else-size-eq0-clause-kind c = λ w lo hi e q i b x h full.
@@ -65,20 +55,8 @@ returns-else-size-eq0-clause-kind c = λ w lo hi e q i b x h full.
     let kind = subst (λ f. HasKind F x (list (lengths_of f) e)) (sym q) (list_kind F x full w lo hi e f b (c.in_default.ensures x l) z k) in
     let size = c.size_of_primitive-size.ensures ∙ ap (λ o. packed_size (option_map shape_of_form o)) (c.get.ensures e i) in
     let some = c.if-size-eq0.false in
-    let es : Elements = record { at = c.args.element; size = c.size_of_primitive-size.result; order = c.order_in-order.result; is_refused = false } in
-    numbers_found F (plan_names d.plan.now) x (form_of c.args.definition.now) e es i kind refl (c.size_of_primitive-size.result - 1) (omega arith) size
-
-pub returns-then-is_zero_size-clause-orders : goal.returns-then-is_zero_size-clause-orders
-returns-then-is_zero_size-clause-orders c = λ s x f.
-    let d = c.args.definitions.now in
-    (refused_order (forms_of d) (names_of d) x c.refused_list.result c.refused_list.ensures, refused_tells (forms_of d) x c.refused_list.result c.refused_list.ensures)
-
-pub returns-then-has_empty_keys-clause-orders : goal.returns-then-has_empty_keys-clause-orders
-returns-then-has_empty_keys-clause-orders c = λ s x f.
-    let d = c.args.definitions.now in
-    let r = c.refused_list-then-has_empty_keys.result in
-    let e = c.refused_list-then-has_empty_keys.ensures in
-    (refused_order (forms_of d) (names_of d) x r e, refused_tells (forms_of d) x r e)
+    let es : Elements = record { at = c.args.element; size = c.size_of_primitive-size.result; order = c.order_in-order.result } in
+    numbers_found F (plan_names d.plan.now) x (form_of c.args.definition.now) e es i kind (c.size_of_primitive-size.result - 1) (omega arith) size
 
 pub returns-in-Some-clause-orders : goal.returns-in-Some-clause-orders
 returns-in-Some-clause-orders c = λ s x f.
@@ -91,8 +69,7 @@ returns-in-Some-clause-orders c = λ s x f.
 
 pub returns-then-size-eq0-clause-orders : goal.returns-then-size-eq0-clause-orders
 returns-then-size-eq0-clause-orders c = λ s x f.
-    let o = c.order_in-order.ensures x s.3 s.0 s.1 s.2 (c.collection_of-collection.ensures x f) s.5 (f.1 ∙ ap (λ f. Some f) s.4) in
-    (o.0, λ r. o.1)
+    c.order_in-order.ensures x s.3 s.0 s.1 s.2 (c.collection_of-collection.ensures x f) s.5 (f.1 ∙ ap (λ f. Some f) s.4)
 
 pub returns-else-size-eq0-clause-orders : goal.returns-else-size-eq0-clause-orders
 returns-else-size-eq0-clause-orders c = λ s x f.

@@ -1,10 +1,8 @@
-use Rattle.std.proofs.Common.{◌≡◌, ◌∙◌, ◌∷◌, [], Some, refl, length, map, string_bytes, sym, ap, subst}
-use Rattle.std.specs.Str.{bytes_eq}
+use Rattle.std.proofs.Common.{◌≡◌, ◌∙◌, ◌∷◌, [], Some, refl, length, map, string_bytes, sym, ap, subst, bytes_eq}
 use Rattle.std.specs.List.{IsDistinct}
 use Rattle.std.proofs.lemmas.List.{length-map}
 use Rattle.std.proofs.lemmas.Simd.{map-map}
 use Rattle.borsh_walks.specs.Forms.{field_bytes}
-use Rattle.borsh_plan.specs.Plan.{names_of as plan_names}
 use Rattle.borsh_json.specs.Forms.{form_of_struct, unnamed}
 use Rattle.borsh_json.specs.Found.{forms_of}
 use Rattle.borsh_json.specs.Table.{ComesTwice}
@@ -20,7 +18,7 @@ returns-in-Some-clause-kind c = λ x h full.
     let e = h.1 ∙ ap (λ f. Some (form_of_struct f)) c.in-NamedFields.is in
     let q = on_some _ _ c.in_ok-name-in-NamedFields.field-0 c.in-Some.name c.in-Some.is c.in_ok-name-in-NamedFields.ensures in
     let t = map-map (λ f. f.0) field_bytes items in
-    fields_repeated (forms_of d) x full (plan_names d.plan.now) fs c.in-Some.name.now e (λ i. q.0 (subst (λ l. IsDistinct bytes_eq l) t i)) (subst (λ l. ComesTwice c.in-Some.name.now l) (sym t) q.1)
+    fields_repeated (forms_of d) x full fs c.in-Some.name.now e (λ i. q.0 (subst (λ l. IsDistinct bytes_eq l) t i)) (subst (λ l. ComesTwice c.in-Some.name.now l) (sym t) q.1)
 
 pub returns-then-len-eq1-clause-kind : goal.returns-then-len-eq1-clause-kind
 returns-then-len-eq1-clause-kind c = λ x h full.

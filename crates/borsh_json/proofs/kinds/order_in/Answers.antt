@@ -1,4 +1,4 @@
-use Rattle.std.proofs.Common.{◌≡◌, subst}
+use Rattle.std.proofs.Common.{subst}
 use Rattle.borsh_json.specs.declared.formats.Collection.{Collection}
 use Rattle.borsh_json.specs.Found.{IsCollection, forms_of, names_of}
 use Rattle.borsh_json.proofs.KindOrders.{key_found, list_none, set_found}

@@ -1,5 +1,4 @@
-use Rattle.std.proofs.Common.{◌∙◌, ◌<◌, [], ◌∷◌, List, ℕ, ap, arith, refl, subst, sym}
-use Rattle.std.specs.Prelude.{IsAscii, IsOk, IsUtf8, MatchResult, Result, Ok, Err}
+use Rattle.std.proofs.Common.{◌∙◌, ◌<◌, [], ◌∷◌, List, ℕ, ap, arith, refl, subst, sym, IsAscii, IsOk, IsUtf8, MatchResult, Result, Ok, Err}
 use Rattle.std.specs.List.{AllByRecursion}
 use Rattle.std.proofs.lemmas.Str.{IsUtf8-from_ascii}
 use Rattle.std.proofs.lemmas.Str.Ascii.{IsAscii-cons, IsAscii-nil}

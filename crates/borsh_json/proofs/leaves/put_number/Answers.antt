@@ -1,5 +1,4 @@
-use Rattle.std.proofs.Common.{◌≡◌, length, refl, true, arith, subst, sym}
-use Rattle.std.specs.Prelude.{pos}
+use Rattle.std.proofs.Common.{◌≡◌, length, refl, true, arith, subst, sym, pos}
 use Rattle.borsh_json.specs.Integers.{integer_of}
 use Rattle.borsh_json.specs.Leaves.{long_of}
 use Rattle.json.specs.Print.{IsNumber}

@@ -1,8 +1,6 @@
-use Rattle.std.proofs.Common.{◌∙◌, map, string_bytes, sym, subst, refl, List, ℕ}
-use Rattle.std.specs.Str.{bytes_eq}
+use Rattle.std.proofs.Common.{◌∙◌, map, string_bytes, sym, subst, refl, List, ℕ, bytes_eq, btree_map_len}
 use Rattle.std.specs.List.{IsDistinct}
 use Rattle.std.proofs.lemmas.List.Sorted.{length_permutation}
-use Rattle.std.specs.BTreeMap.{btree_map_len}
 use Rattle.borsh_json.specs.Frames.{IsText}
 use Rattle.borsh_json.specs.Table.{entries_of}
 use Rattle.borsh_json.proofs.FieldLaws.{in_place, wanted}

@@ -1,5 +1,4 @@
-use Rattle.std.proofs.Common.{◌∙◌, sym, ap}
-use Rattle.std.specs.Ordering.{is_ge}
+use Rattle.std.proofs.Common.{◌∙◌, sym, ap, is_ge}
 use Rattle.borsh_json.proofs.MapLaws.{rising_start, rising_more, rising_all}
 use Rattle.borsh_json.proofs.maps.in_place.Goals as goal
 

@@ -1,9 +1,8 @@
-use Rattle.std.proofs.Common.{◌≡◌, ◌∙◌, List, ℕ, sym, ap, subst, refl, Bool, true, false, Option, Some, None}
-use Rattle.std.specs.Prelude.{is_some}
+use Rattle.std.proofs.Common.{◌∙◌, List, ℕ, sym, ap, subst, true, false, is_some}
 use Rattle.json.specs.Find.{as_object}
 use Rattle.borsh_walks.proofs.Tables.{marks_none}
 use Rattle.borsh_json.specs.Frames.{IsText}
-use Rattle.borsh_json.proofs.MemberLaws.{found_start, found_more, found_all, passed_twice, text_cmp, text_one, not_each}
+use Rattle.borsh_json.proofs.MemberLaws.{found_start, found_more, found_all, passed_twice, text_cmp, text_one, not_each, none_of}
 use Rattle.borsh_json.proofs.OpeningLaws.{denies_expected}
 use Rattle.borsh_json.specs.NoValue.{RepeatsKey}
 use Rattle.borsh_json.proofs.maps.members_of.Goals as goal
@@ -13,10 +12,6 @@ returns-in_default c j b = denies_expected _ (λ w. tt) c.expected.result c.expe
 
 pub loop-key-init : goal.loop-key-init
 loop-key-init c ms h = found_start ms c.in-Some.members c.new-found.result h c.new-found.ensures.empty (marks_none c.new-found.result c.new-found.ensures.empty)
-
-none_of : {A : Type 0} (o : Option A) (b : Bool) → b ≡ is_some o → b ≡ false → o ≡ None
-none_of None b e f = refl
-none_of (Some a) b e f = let q : true ≡ false = sym e ∙ f in cc
 
 pub loop-key-preserved : goal.loop-key-preserved
 loop-key-preserved c ms h =

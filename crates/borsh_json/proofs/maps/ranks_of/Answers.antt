@@ -1,17 +1,11 @@
-use Rattle.std.proofs.Common.{◌≡◌, ◌∙◌, inl, inr, List, ℕ, sym, ap, subst, refl, Bool, true, false, Option, Some, None}
-use Rattle.std.specs.Prelude.{is_some}
-use Rattle.std.specs.Ordering.{nat_cmp}
+use Rattle.std.proofs.Common.{◌∙◌, inl, inr, List, ℕ, sym, ap, subst, true, false, is_some, nat_cmp}
 use Rattle.json.specs.Find.{as_object}
 use Rattle.borsh_json.specs.Frames.{IsRank}
-use Rattle.borsh_json.proofs.MemberLaws.{passed_start, passed_here, passed_more, passed_twice, passed_all, not_each}
+use Rattle.borsh_json.proofs.MemberLaws.{passed_start, passed_here, passed_more, passed_twice, passed_all, not_each, none_of}
 use Rattle.borsh_json.proofs.NumberLaws.{rank_one}
 use Rattle.borsh_json.proofs.OpeningLaws.{shows_expected}
 use Rattle.borsh_json.specs.NoValue.{RepeatsKey}
 use Rattle.borsh_json.proofs.maps.ranks_of.Goals as goal
-
-none_of : {A : Type 0} (o : Option A) (b : Bool) → b ≡ is_some o → b ≡ false → o ≡ None
-none_of None b e f = refl
-none_of (Some a) b e f = let q : true ≡ false = sym e ∙ f in cc
 
 pub returns-in_default : goal.returns-in_default
 returns-in_default c small j b = shows_expected _ (λ w. tt) c.expected.result c.expected.ensures (inl (λ h. let f = ap as_object h.1 in let g = c.in_default.ensures j b in cc))

@@ -1,5 +1,4 @@
-use Rattle.std.proofs.Common.{refl, subst, true, false}
-use Rattle.std.specs.Prelude.{MatchBool}
+use Rattle.std.proofs.Common.{refl, subst, true, false, MatchBool}
 use Rattle.borsh_json.specs.Names.{HasOtherKeys, HasToldKeys}
 use Rattle.borsh_json.proofs.TellingLaws.{bytes_word}
 use Rattle.borsh_json.proofs.names.word_of.Goals as goal
@@ -19,10 +18,9 @@ returns-else-is_sorted c F ns x f k h t =
 pub returns-in-Numbers : goal.returns-in-Numbers
 returns-in-Numbers c F ns x f k h t =
     let l = rw c.in-Numbers.is at k in
-    c.word_of_list.ensures F ns x f l.0 l.1 (rw c.in-Numbers.is at h) (rw c.in-Numbers.is at t)
+    c.word_of_list.ensures F ns x f l.0 (rw c.in-Numbers.is at h) (rw c.in-Numbers.is at t)
 
-pub returns-else-elements : goal.returns-else-elements
-returns-else-elements c F ns x f k h t =
+pub returns-in-List : goal.returns-in-List
+returns-in-List c F ns x f k h t =
     let l = rw c.in-List.is at k in
-    let n = rw c.in-List.is at t in
-    c.word_of_list-else-elements.ensures F ns x f l.0 c.if-elements.false (rw c.in-List.is at h) (n c.if-elements.false)
+    c.word_of_list-in-List.ensures F ns x f l.0 (rw c.in-List.is at h) (rw c.in-List.is at t)

@@ -1,6 +1,4 @@
-use Rattle.std.proofs.Common.{ℕ, List, Option, subst}
-use Rattle.std.specs.Prelude.{MatchOption, Vec}
-use Rattle.std.specs.Global.{Global}
+use Rattle.std.proofs.Common.{ℕ, List, Option, subst, MatchOption, Vec, Global}
 use Rattle.json.specs.Json.{string}
 use Rattle.borsh_json.specs.Table.{IsHex}
 use Rattle.borsh_json.proofs.OpeningLaws.{denies_expected}

@@ -1,6 +1,4 @@
-use Rattle.std.proofs.Common.{◌≡◌, ◌+◌, ◌≤◌, ◌<◌, ap, sym, ◌∙◌, List, ℕ, suc, subst, length, arith, map, drop, string_bytes, get_or}
-use Rattle.std.specs.Prelude.{ℤ, slice_get, Some, String}
-use Rattle.std.specs.Global.{Global}
+use Rattle.std.proofs.Common.{◌≡◌, ◌+◌, ◌≤◌, ◌<◌, ap, sym, ◌∙◌, List, ℕ, suc, subst, length, arith, map, drop, string_bytes, get_or, ℤ, slice_get, Some, String, Global}
 use Rattle.std.proofs.lemmas.Slice.Eq.{bytes_eq-Decides}
 use Rattle.borsh_json.specs.Table.{IsVariant}
 use Rattle.borsh_json.proofs.FrameLaws.{get_from, get_map, drop_all, length_map}

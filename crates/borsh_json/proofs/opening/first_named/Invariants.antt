@@ -1,5 +1,4 @@
-use Rattle.std.proofs.Common.{◌≤◌, ◌-◌, ℕ, List, map, drop, length, string_bytes}
-use Rattle.std.specs.Prelude.{ℤ}
+use Rattle.std.proofs.Common.{◌≤◌, ◌-◌, ℕ, List, map, drop, length, ℤ}
 use Rattle.borsh_json.specs.Forms.{variant_bytes}
 use Rattle.borsh_json.specs.Table.{IsVariant}
 use Rattle.borsh_json.proofs.opening.first_named.Given as goal

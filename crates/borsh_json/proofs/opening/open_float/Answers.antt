@@ -1,5 +1,4 @@
-use Rattle.std.proofs.Common.{false, true, true≢false, sym, ◌∙◌, ap, refl}
-use Rattle.std.specs.Prelude.{from_bits, pos}
+use Rattle.std.proofs.Common.{true≢false, sym, ◌∙◌, ap, refl, from_bits, pos}
 use Rattle.borsh_walks.specs.Container.{little_endian, tag}
 use Rattle.borsh_json.specs.Table.{float}
 use Rattle.borsh_json.proofs.FloatLaws.{below_size}

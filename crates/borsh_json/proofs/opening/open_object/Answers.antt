@@ -1,4 +1,4 @@
-use Rattle.std.proofs.Common.{map, string_bytes}
+use Rattle.std.proofs.Common.{map}
 use Rattle.borsh_json.specs.Forms.{field_bytes}
 use Rattle.borsh_json.specs.Table.{fields}
 use Rattle.borsh_json.proofs.EachLaws.{fields_each}

@@ -1,7 +1,4 @@
-use Rattle.std.proofs.Common.{inl, inr, ℕ, List, Option, Some, map, sym, ◌∙◌, ap, subst, refl, string_bytes}
-use Rattle.std.specs.Prelude.{ℤ, String}
-use Rattle.std.specs.Global.{Global}
-use Rattle.std.specs.Str.{bytes_eq}
+use Rattle.std.proofs.Common.{inl, inr, ℕ, List, Option, Some, map, sym, ◌∙◌, ap, subst, refl, string_bytes, ℤ, String, Global, bytes_eq}
 use Rattle.std.specs.List.{IsDistinct}
 use Rattle.json.specs.Json.{object, no_members, member}
 use Rattle.json.specs.Token.{Token}

@@ -1,5 +1,4 @@
-use Rattle.std.proofs.Common.{ap, sym, subst}
-use Rattle.std.specs.Prelude.{option_map}
+use Rattle.std.proofs.Common.{ap, sym, subst, option_map}
 use Rattle.json.specs.Json.{Json}
 use Rattle.json.specs.Find.{as_str, as_object}
 use Rattle.borsh_json.specs.Frames.{NamesVariant}

@@ -1,6 +1,4 @@
-use Rattle.std.proofs.Common.{◌≡◌, ◌<◌, ap, sym, ◌∙◌, List, ℕ, subst, length, map, string_bytes, get_or}
-use Rattle.std.specs.Prelude.{ℤ, slice_get, Some, String}
-use Rattle.std.specs.Global.{Global}
+use Rattle.std.proofs.Common.{◌≡◌, ◌<◌, ap, sym, ◌∙◌, List, ℕ, subst, length, map, string_bytes, get_or, ℤ, slice_get, Some, String, Global}
 use Rattle.std.proofs.lemmas.Slice.Eq.{bytes_eq-Decides}
 use Rattle.borsh_json.proofs.FrameLaws.{get_from, get_map}
 use Rattle.borsh_json.proofs.OpeningLaws.{variant_here}

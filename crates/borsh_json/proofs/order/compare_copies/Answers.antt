@@ -1,5 +1,5 @@
-use Rattle.std.proofs.Common.{◌≡◌, ◌∙◌, map, length, sym, subst}
-use Rattle.borsh_json.specs.Forms.{form_of, HasNoBytes}
+use Rattle.std.proofs.Common.{◌∙◌, map, sym}
+use Rattle.borsh_json.specs.Forms.{form_of}
 use Rattle.borsh_json.specs.Found.{forms_of, names_of}
 use Rattle.borsh_json.specs.Ordered.{a_copy}
 use Rattle.borsh_json.proofs.FoundLaws.{not_true}

@@ -1,7 +1,5 @@
-use Rattle.std.proofs.Common.{◌≡◌, ◌∙◌, ◌++◌, ◌∷◌, [], ap, subst}
-use Rattle.std.specs.Ordering.{nat_cmp}
+use Rattle.std.proofs.Common.{subst}
 use Rattle.borsh_json.specs.declared.order.Ordered.{Ordered}
-use Rattle.borsh_json.specs.declared.order.Pending.TheVariants.{Elements}
 use Rattle.borsh_json.specs.Found.{forms_of, names_of}
 use Rattle.borsh_json.specs.Orders.{IsTurn}
 use Rattle.borsh_json.proofs.PendingLaws.{turn_at, front_single, front_number, front_text, front_array, front_tuple, turn_list, front_short, front_list, front_empty}

@@ -1,4 +1,4 @@
-use Rattle.std.proofs.Common.{true, false, ap}
+use Rattle.std.proofs.Common.{ap}
 use mathlib.Core.Bool.{not}
 use Rattle.borsh_json.proofs.FallenLaws.{numbers_fall, others_fall}
 use Rattle.borsh_json.proofs.order.falls.Goals as goal

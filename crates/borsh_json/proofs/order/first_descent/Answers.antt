@@ -1,5 +1,4 @@
-use Rattle.std.proofs.Common.{◌≡◌, ◌∙◌, ◌++◌, inl, inr, [], take, drop, length, refl, sym, ap, subst, arith}
-use Rattle.std.specs.Prelude.{All, ◌<◌}
+use Rattle.std.proofs.Common.{inl, inr, [], take, drop, refl, sym, arith}
 use Rattle.std.proofs.Math.Nat.{zero-mul}
 use Rattle.std.proofs.lemmas.Bool.{cases_lt}
 use Rattle.borsh_json.proofs.DescentLaws.{falls_next, front_of, one_passed, none_first, none_left, none_next, none_past}

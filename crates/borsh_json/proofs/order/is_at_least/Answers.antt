@@ -1,6 +1,4 @@
-use Rattle.std.proofs.Common.{List, [], ◌∷◌, refl, subst, sym}
-use Rattle.std.specs.Prelude.{reverse}
-use Rattle.std.specs.declared.cmp.Ordering.{Ordering}
+use Rattle.std.proofs.Common.{List, [], ◌∷◌, refl, subst, sym, reverse, Ordering}
 use Rattle.borsh_json.specs.declared.order.Next.{Next}
 use Rattle.borsh_json.specs.declared.order.Pending.{Pending}
 use Rattle.borsh_json.specs.Found.{forms_of, names_of}

@@ -1,5 +1,4 @@
-use Rattle.std.proofs.Common.{◌∙◌, map, string_bytes, sym}
-use Rattle.std.specs.Prelude.{codes}
+use Rattle.std.proofs.Common.{◌∙◌, map, string_bytes, sym, codes}
 use Rattle.std.proofs.lemmas.Slice.Eq.{bytes_eq-Decides}
 use Rattle.borsh_walks.specs.TupleNames.{following}
 use Rattle.borsh_json.proofs.OrderedLaws.{tuple_named}

@@ -1,8 +1,8 @@
-use Rattle.std.proofs.Common.{◌≡◌, ◌⊎◌, inl, inr, ◌∙◌, ◌++◌, ◌∷◌, [], length, ap, arith, refl}
+use Rattle.std.proofs.Common.{◌≡◌, ◌⊎◌, inl, inr, ◌∙◌, ◌++◌, ◌∷◌, [], length, ap, arith}
 use Rattle.borsh_json.specs.declared.order.Pending.{Pending}
 use Rattle.borsh_json.specs.Forms.{tuple}
 use Rattle.borsh_json.specs.Found.{forms_of, names_of}
-use Rattle.borsh_json.proofs.PendingLaws.{alike_both, both_end, next_elements, next_part, nothing_pends, one_ends, part_there, end_parts, end_copies, next_copy, copied_at, next_part_copy, end_part_copies, pending_decides}
+use Rattle.borsh_json.proofs.PendingLaws.{alike_both, both_end, next_elements, next_part, nothing_pends, one_ends, part_there, end_copies, next_copy, copied_at, next_part_copy, end_part_copies, pending_decides}
 use Rattle.borsh_json.proofs.order.next_value.Goals.{else-left-gt0-via-then-left-gt0+else-right-gt0, else-left-gt0-via-else-left-gt0, else-count-gt0-via-then-count-gt0+else-not-is_zero_size, else-count-gt0-via-else-count-gt0}
 use Rattle.borsh_json.proofs.order.next_value.Goals as goal
 

@@ -1,5 +1,4 @@
-use Rattle.std.proofs.Common.{◌≡◌, ◌≤◌, ◌-◌, length, drop, map}
-use Rattle.std.specs.Prelude.{string_bytes}
+use Rattle.std.proofs.Common.{◌≡◌, ◌≤◌, ◌-◌, length, drop, map, string_bytes}
 use Rattle.borsh_json.specs.Ordered.{variant_of}
 use Rattle.borsh_json.proofs.order.variant_with.Given as goal
 

@@ -1,6 +1,4 @@
-use Rattle.std.proofs.Common.{◌≡◌, ◌∙◌, List, ℕ, ap, subst, true, false}
-use Rattle.std.specs.Prelude.{Bool}
-use Rattle.std.specs.Borrow.{Bor}
+use Rattle.std.proofs.Common.{◌≡◌, ◌∙◌, List, ℕ, ap, subst, true, false, Bool, Bor}
 use Rattle.borsh_plan.specs.declared.plan.Plan.{Plan}
 use Rattle.borsh_plan.specs.Plan.{map_of, names_of as plan_names, planned, root_of}
 use Rattle.borsh_json.specs.Forms.{forms_in}

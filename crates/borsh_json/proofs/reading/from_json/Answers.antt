@@ -1,5 +1,4 @@
-use Rattle.std.proofs.Common.{◌≡◌, ℕ, List, Some}
-use Rattle.std.specs.Prelude.{IfOk, IfErr, OnOk, MatchResult}
+use Rattle.std.proofs.Common.{◌≡◌, ℕ, List, Some, IfOk, IfErr, OnOk, MatchResult}
 use Rattle.json.specs.Json.{Json, document}
 use Rattle.borsh_walks.specs.Definitions.{definitions_in}
 use Rattle.borsh_json.specs.Errors.{IsTextReason}

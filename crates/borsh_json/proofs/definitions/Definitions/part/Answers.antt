@@ -1,5 +1,4 @@
-use Rattle.std.proofs.Common.{◌≡◌, ◌∙◌, Some, ap, sym, subst}
-use Rattle.std.specs.Prelude.{unwrap_or}
+use Rattle.std.proofs.Common.{◌≡◌, ◌∙◌, Some, ap, sym, subst, unwrap_or}
 use Rattle.borsh_plan.specs.Names.{name_of}
 use Rattle.borsh_json.specs.Found.{names_of}
 use Rattle.borsh_json.proofs.PlaceLaws.{part_there}

@@ -1,5 +1,4 @@
-use Rattle.std.proofs.Common.{◌≡◌, ◌∙◌, ap, take, sym}
-use Rattle.std.specs.Prelude.{pos}
+use Rattle.std.proofs.Common.{◌≡◌, ◌∙◌, ap, take, sym, pos}
 use Rattle.borsh_json.specs.Ranks.{rank_of}
 use Rattle.borsh_json.proofs.NumberLaws.{rank_bytes}
 use Rattle.borsh_json.proofs.numbers.Number.of_rank.Goals as goal

@@ -1,5 +1,4 @@
-use Rattle.std.proofs.Common.{◌≡◌, ◌∙◌, None, Some, true, false, Bool, drop, sym, ap, subst}
-use Rattle.std.specs.Prelude.{MatchBool}
+use Rattle.std.proofs.Common.{◌≡◌, ◌∙◌, None, Some, true, false, Bool, drop, sym, ap, subst, MatchBool}
 use mathlib.Core.Bool.{not}
 use Rattle.borsh_json.specs.Orders.{IsNotBelow}
 use Rattle.borsh_json.proofs.order.Ascent.ascends.Goals as goal

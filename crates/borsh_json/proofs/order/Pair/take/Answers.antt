@@ -1,5 +1,4 @@
-use Rattle.std.proofs.Common.{◌<◌, ℕ, ap, arith, subst}
-use Rattle.std.specs.Prelude.{All}
+use Rattle.std.proofs.Common.{◌<◌, ℕ, arith, subst, All}
 use Rattle.borsh_json.proofs.DescentLaws.{all_left, cut_lengths}
 use Rattle.borsh_json.proofs.order.Pair.take.Goals as goal
 

@@ -1,6 +1,4 @@
-use Rattle.std.proofs.Common.{◌≡◌, ◌++◌, [], Option, ℕ, sym, subst, ap}
-use Rattle.std.specs.Prelude.{Result, Ok, Err, OnOk, Bool, Vec}
-use Rattle.std.specs.Global.{Global}
+use Rattle.std.proofs.Common.{◌≡◌, ◌++◌, [], Option, ℕ, sym, subst, ap, Result, Ok, Err, OnOk, Bool, Vec, Global}
 use Rattle.borsh_plan.specs.Plan.{map_of, names_of as plan_names}
 use Rattle.borsh_json.specs.declared.error.PartError.{PartError}
 use Rattle.borsh_json.specs.declared.opening.Frame.{Frame}

@@ -1,5 +1,4 @@
-use Rattle.std.proofs.Common.{◌≡◌, ◌++◌, [], length, ap, sym, ◌∙◌, subst, true, false}
-use Rattle.std.specs.Prelude.{MatchBool}
+use Rattle.std.proofs.Common.{◌≡◌, ◌++◌, [], length, ap, sym, ◌∙◌, subst, true, false, MatchBool}
 use Rattle.borsh_plan.specs.Plan.{map_of, names_of as plan_names}
 use Rattle.borsh_json.specs.Forms.{forms_in}
 use Rattle.borsh_json.specs.Frames.{BeginsAscending, AscentFalls, AscentRises, IsNext, steps_at, steps_through}

@@ -1,5 +1,4 @@
-use Rattle.std.proofs.Common.{◌≡◌, ◌+◌, ◌<◌, ◌∷◌, List, [], sym, ap, subst, ◌∙◌, get_or, length}
-use Rattle.std.specs.Prelude.{MatchOption}
+use Rattle.std.proofs.Common.{◌≡◌, ◌+◌, ◌<◌, ◌∷◌, List, [], sym, ap, subst, ◌∙◌, get_or, length, MatchOption}
 use Rattle.borsh_plan.specs.Plan.{map_of, names_of as plan_names}
 use Rattle.borsh_json.specs.declared.position.Key.TheVariants.{Name}
 use Rattle.borsh_json.specs.declared.position.Parts.{Parts}

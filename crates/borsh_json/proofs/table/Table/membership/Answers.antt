@@ -1,5 +1,4 @@
-use Rattle.std.proofs.Common.{subst}
-use Rattle.std.specs.Prelude.{IfOk}
+use Rattle.std.proofs.Common.{subst, IfOk}
 use Rattle.borsh_plan.specs.Plan.{definitions_of, root_of}
 use Rattle.borsh_values.specs.Membership.{IsAnswer}
 use Rattle.borsh_json.specs.declared.definitions.Definitions.{Definitions}

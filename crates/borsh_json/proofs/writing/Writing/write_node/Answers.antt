@@ -70,7 +70,7 @@ returns-in_ok-enter-in-Ok-Some-clause-part c x f i e kind order tells full has a
     let s = c.in_order.ensures.same in
     let rises = c.in_ok-check_elements.ensures in
     let only = same_only F (form_of n.definition.now) (names_of_rest written.0) op.0 written.3 (node_only d w walk c.args.at x l i o n c.in-Some.is t) in
-    let due = value_due d x (form_of n.definition.now) n.bytes.now (names_of_rest written.0) op.0 written.3 only full c.args.kind c.order_of.result has kd order tells rises.bytes rises.numbers (λ es q. (written.4.3 es q, c.order_of.ensures.all es q)) in
+    let due = value_due d x (form_of n.definition.now) n.bytes.now (names_of_rest written.0) op.0 written.3 only full c.args.kind c.order_of.result has kd order tells rises.bytes rises.numbers c.order_of.ensures.all in
     place_begun d w new x (form_of n.definition.now) n.bytes.now a refl (ap (λ l. l.now) c.in_ok-node.ensures.plan ∙ l) z.root h.bytes h.next (node_on d w walk c.args.at x l i o n c.in-Some.is t) q op.0 z.room (written.0, still_rest F ns c.in-Ok-Some.place q written.0 s.0 s.1 s.2 written.1, written.2, written.3, subst (λ (k : Parts). AreCalled (form_of n.definition.now) n.bytes.now k (names_of_rest written.0)) (sym s.0) written.5) due.0 due.1
     (new_marked d w.bytes.now x due.0 (form_of n.definition.now) c.args.kind c.in-Ok-Some.place q written.4 kd order s.0 s.1 s.2 (in_order d w.bytes.now x q.parts due.0 c.args.kind c.order_of.result q.ascent order c.order_of.ensures.list c.in_order.ensures.ascent) (in_turn d w.bytes.now due.0 c.order_of.result q.ascent c.in_order.ensures.ascent due.2)) z.place z.outer
 
