@@ -18,8 +18,8 @@ use std::collections::BTreeMap;
 /// is told; and also what has no JSON: two fields or variants of one name, lists with a length whose elements and maps whose keys have
 /// no bytes, and values that nest more than 128 deep.
 ///
-/// Determined: after `Ok` some JSON text represents the bytes as [`to_json`](crate::to_json)'s does; the errors are as there. Left
-/// open: memory.
+/// Determined: after `Ok` some JSON text represents the bytes as [`to_json`](crate::to_json)'s does, and what one represents is
+/// refused with `OutOfMemory`, `Ambiguous` or `TooDeep` alone; the errors are as there. Left open: memory.
 ///
 /// ```
 /// assert!(rt; check_strict(alloc, "bool", &definitions, &[1]).is_ok());

@@ -45,11 +45,11 @@ use std::collections::BTreeMap;
 /// characters of the style; a compact one is one line, without control characters; where any are allowed, it has no white space
 /// but that of its layout; with quoted numbers each whole number of 64 bits is a string. So no other bytes have it, they are a
 /// member of the root ([`crate::text_determines_bytes`]), and [`crate::from_json`] gives them back, but for `OutOfMemory`,
-/// `Ambiguous` and `TooDeep`. `NoMember` and `Ambiguous` are as of [`borsh_values::is_member`], and `NoValue` and `NotJson`
-/// aren't returned. After `Refused` they are a member, and the path leads from the root to a part of this kind: `TooDeep`, a value
-/// inside of 128 others; `Descends`, an element of a set or an entry of a map that isn't above the one before it, as far as the order
-/// of its keys is told; others, a value of the kind that the refusal names, which no JSON says. Left open: memory; which of such
-/// texts: tested.
+/// `Ambiguous` and `TooDeep`. Bytes that have such a text are refused with these errors alone. `NoMember` and `Ambiguous` are as of
+/// [`borsh_values::is_member`], and `NoValue` and `NotJson` aren't returned. After `Refused` they are a member, and the path leads
+/// from the root to a part of this kind: `TooDeep`, a value inside of 128 others; `Descends`, an element of a set or an entry of a
+/// map that isn't above the one before it, as far as the order of its keys is told; others, a value of the kind that the refusal
+/// names, which no JSON says. Left open: memory; which of such texts: tested.
 ///
 /// ```
 /// let text = to_json(alloc, "(u8, bool)", &definitions, &[7, 1], Style::COMPACT)?;

@@ -35,3 +35,9 @@ returns-in-Member-clause-complete c t =
     let bytes = c.args.bytes.now in
     let small = small_bytes bytes (λ k. let b = c.type_inv.bytes k in omega (arith, b)) in
     IfErr-weaker c.write_value.result _ _ (λ e s. given_up (forms_in (map_of l)) (root_of l) bytes e small s t) c.write_value.ensures.stops
+
+pub returns-in-NoMember-clause-complete : goal.returns-in-NoMember-clause-complete
+returns-in-NoMember-clause-complete c t =
+    let l = c.args.self.now.plan.now in
+    let m = subst (λ (a : Membership). IsAnswer (definitions_of l) (root_of l) c.args.bytes.now a) c.in-NoMember.is c.in_ok-membership.ensures in
+    m.0 (subst (λ C. Member C (root_of l) c.args.bytes.now) (shapes_are (map_of l)) t.1.3)
