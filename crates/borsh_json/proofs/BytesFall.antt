@@ -1,6 +1,6 @@
 -- Sets of bytes as digits, of which two neighbours don't ascend; and sets and maps as arrays, which have to ascend.
 use Rattle.std.proofs.Common.{◌≡◌, inl, inr, ℕ, suc, ◌<◌, ◌≤◌, ◌*◌, ◌%◌, ◌^◌, List, [], ◌∷◌, ◌++◌, length, append-nil, false, Option, Some, None, OnOk, refl, sym, ◌∙◌, ap, subst, arith}
-use Rattle.std.specs.Prelude.{ℤ, ◌<ℤ◌, pos, negsuc, codes, Result, Ok, Err, All, MatchOption}
+use Rattle.std.specs.Prelude.{ℤ, ◌<ℤ◌, pos, negsuc, Result, Ok, Err, All, MatchOption}
 use Rattle.std.specs.Cmp.{int_cmp_is, int_ranks}
 use Rattle.std.specs.Ordering.{int_cmp, MatchOrdering}
 use Rattle.std.specs.declared.cmp.Ordering.TheVariants.{Less, Equal, Greater}

@@ -1,7 +1,7 @@
 -- Bytes whose sets and maps ascend, as the writer goes through them.
 use Rattle.std.proofs.Common.{◌≡◌, inl, inr, ℕ, suc, zero, List, [], ◌∷◌, ◌++◌, length, map, replicate, drop, Bool, false, Option, Some, None, refl, sym, ◌∙◌, ap, subst}
 use Rattle.std.specs.Prelude.{IfSome, MatchOption, option_map}
-use Rattle.borsh_walks.specs.Container.{Shape, sequence as sequence_shape, product, IsIn, first, later}
+use Rattle.borsh_walks.specs.Container.{sequence as sequence_shape, product, IsIn, first, later}
 use Rattle.borsh_plan.specs.declared.named.Named.{Named}
 use Rattle.borsh_values.specs.Nodes.{packed_size, Opens, OpensElements}
 use Rattle.borsh_values.specs.Cursor.{OpensOnce}

@@ -1,5 +1,5 @@
 -- What some JSON represents is only given up: where a part of bytes is refused, they have none.
-use Rattle.std.proofs.Common.{◌≡◌, ◌⊎◌, inl, inr, ℕ, List, [], ◌∷◌, ◌++◌, Option, Some, refl, sym, ◌∙◌, ap, subst, append-nil}
+use Rattle.std.proofs.Common.{◌≡◌, ◌⊎◌, inl, inr, ℕ, List, [], ◌∷◌, ◌++◌, Option, Some, refl, sym, ◌∙◌, subst, append-nil}
 use Rattle.std.specs.List.{AllByRecursion}
 use Rattle.json.specs.Json.{Json}
 use Rattle.borsh_json.specs.declared.error.JsonError.{JsonError}
@@ -7,13 +7,13 @@ use Rattle.borsh_json.specs.declared.error.JsonError.TheVariants.{OutOfMemory, N
 use Rattle.borsh_json.specs.declared.error.Refusal.{Refusal}
 use Rattle.borsh_json.specs.declared.error.Refusal.TheVariants.{TooDeep, RepeatedName, EmptyElements, NotBool, NotUtf8, Zero, NotNumber, Descends, Expected, MissingField, UnknownName, RepeatedKey, Undefined}
 use Rattle.borsh_json.specs.Descents.{HasDescent}
-use Rattle.borsh_json.specs.Forms.{Form, tuple, HasNoBytes}
+use Rattle.borsh_json.specs.Forms.{Form, tuple}
 use Rattle.borsh_json.specs.InOrder.{Step, whole_value, InOrder, IsRepresented}
 use Rattle.borsh_json.specs.Inside.{IsInside}
 use Rattle.borsh_json.specs.NoJson.{IsAbout, HasNoJsonPart, IsOutOfOrder, RefusesBytes}
 use Rattle.borsh_json.specs.NoValue.{IsGivenUp, path_steps}
 use Rattle.borsh_json.specs.Represents.{HaveBytes, none_left}
-use Rattle.borsh_json.specs.Table.{Kind, no_bytes, truth, whole, float, utf8, list, row, fields, variants, DefinedKind, HasKind, Part}
+use Rattle.borsh_json.specs.Table.{Kind, no_bytes, row, DefinedKind, HasKind, Part}
 use Rattle.borsh_json.specs.Writes.{Stops}
 use Rattle.borsh_json.proofs.DescentJson.{no_descent}
 use Rattle.borsh_json.proofs.FoundLaws.{full_list}

@@ -1,5 +1,5 @@
 -- Values that are read part by part; and two of them, which compare as they do where other bytes follow, if the first is read in one way only.
-use Rattle.std.proofs.Common.{◌≡◌, ◌⊎◌, inl, inr, ℕ, suc, zero, ◌+◌, ◌*◌, ◌<◌, ◌≤◌, ◌^◌, List, [], ◌∷◌, ◌++◌, length, map, replicate, Bool, true, false, All, Option, Some, None, refl, sym, ◌∙◌, ap, subst, arith, append_assoc, append-nil}
+use Rattle.std.proofs.Common.{◌≡◌, ◌⊎◌, inl, inr, ℕ, suc, zero, ◌<◌, ◌≤◌, ◌^◌, List, [], ◌∷◌, ◌++◌, length, map, replicate, Bool, true, false, Option, Some, None, refl, sym, ◌∙◌, ap, subst, arith, append_assoc, append-nil}
 use Rattle.std.specs.Prelude.{⊤, ℤ, pos, codes, if◌then◌else◌}
 use Rattle.std.specs.Str.{bytes_eq}
 use Rattle.std.specs.declared.cmp.Ordering.{Ordering}
@@ -13,7 +13,7 @@ use Rattle.borsh_values.specs.Walks.{IsCounted}
 use Rattle.borsh_values.proofs.MemberLaws.{copies_of, member_as, members_head, no_more, one_count, same_front}
 use Rattle.borsh_values.proofs.TagLaws.{value_low}
 use Rattle.borsh_json.specs.Forms.{Form, primitive, sequence, tuple, choice, named, unnamed, no_fields, shape_of_form, shapes, HasNoBytes, IsList, IsOption}
-use Rattle.borsh_json.specs.Only.{IsOpened, AreOnly, none_only, empty_only, opened_only}
+use Rattle.borsh_json.specs.Only.{AreOnly, none_only, empty_only, opened_only}
 use Rattle.borsh_json.specs.Ordered.{Order, single, numbers, text, array, list, parts, other, OrdersBytes, HasOrder, Compared, a_value, a_copy, elements, IsCount, IsNode, IsCopy, variant_of, Fronts, FrontsOf, IsAtLeast, all_equal, first_above, first_equal}
 use Rattle.borsh_json.proofs.FormKinds.{shaped}
 use Rattle.borsh_json.proofs.FoundLaws.{full_primitive}

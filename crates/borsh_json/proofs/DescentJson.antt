@@ -1,40 +1,35 @@
 -- Sets and maps of which two elements don't ascend have no JSON in order.
-use Rattle.std.proofs.Common.{◌≡◌, ◌⊎◌, inl, inr, ℕ, suc, zero, ◌+◌, ◌-◌, ◌*◌, ◌<◌, ◌≤◌, ◌^◌, List, [], ◌∷◌, ◌++◌, length, map, take, drop, replicate, Bool, true, false, All, Option, Some, refl, sym, ◌∙◌, ap, subst, arith, append_assoc, append-nil, length-append}
-use Rattle.std.specs.Prelude.{⊤, ℤ, pos, codes, leb, ◌<ℤ◌}
-use Rattle.std.specs.Cmp.{int_ranks}
-use Rattle.std.specs.Ordering.{int_cmp, MatchOrdering}
+use Rattle.std.proofs.Common.{◌≡◌, inl, inr, ℕ, suc, zero, ◌≤◌, ◌^◌, List, [], ◌∷◌, ◌++◌, length, map, take, drop, replicate, Bool, true, false, Option, Some, refl, sym, ◌∙◌, ap, subst, arith, append_assoc, append-nil, length-append}
+use Rattle.std.specs.Prelude.{⊤, ℤ, pos, codes}
 use Rattle.std.specs.List.{AllByRecursion}
 use Rattle.std.specs.List.Sorted.{IsStrictlySortedBy}
-use Rattle.std.specs.declared.cmp.Ordering.{Ordering}
-use Rattle.std.specs.declared.cmp.Ordering.TheVariants.{Less, Equal, Greater}
+use Rattle.std.specs.declared.cmp.Ordering.TheVariants.{Less}
 use Rattle.json.specs.Json.{Json, null, array, Items}
 use Rattle.borsh_walks.specs.Container.{first, later, first_variant, later_variant, tag}
 use Rattle.borsh_values.specs.Nodes.{Opens}
 use Rattle.borsh_values.proofs.MemberLaws.{copies_of, same_front}
 use Rattle.borsh_json.specs.Descents.{HasDescent, PrimitivesDescend}
-use Rattle.borsh_json.specs.Forms.{Form, primitive, sequence, tuple, choice, named, unnamed, no_fields, shape_of_form, shapes, HasNoBytes, IsByte, IsList, IsMap}
-use Rattle.borsh_json.specs.Found.{IsSetName}
+use Rattle.borsh_json.specs.Forms.{Form, primitive, sequence, tuple, choice, named, unnamed, no_fields, shape_of_form, shapes, HasNoBytes, IsByte, IsMap}
 use Rattle.borsh_json.specs.Frames.{IsListKind}
 use Rattle.borsh_json.specs.InOrder.{Falls}
 use Rattle.borsh_json.specs.Only.{AreOnly, none_only, empty_only, opened_only}
 use Rattle.borsh_json.specs.Ordered.{a_value, IsAtLeast}
 use Rattle.borsh_json.specs.Represents.{SaysFirst, HaveBytes, none_left, next_part}
-use Rattle.borsh_json.specs.Table.{Lengths, Keys, texts, numbers, Kind, no_bytes, whole, utf8, byte_list, list, row, optional, variants, entries, InRange, IsHex, AreKeys, SequenceKind, a_text, some_bytes, an_object, some_elements, nullable, by_name, primitive_kind, DefinedKind, HasKind, Part, list_parts, Entry, entry_parts, key_json, key_order, IsArray, Says}
+use Rattle.borsh_json.specs.Table.{Lengths, Keys, texts, numbers, Kind, utf8, byte_list, row, entries, IsHex, AreKeys, SequenceKind, a_text, some_bytes, an_object, some_elements, nullable, by_name, primitive_kind, DefinedKind, HasKind, Part, list_parts, Entry, entry_parts, key_json, key_order, IsArray, Says}
 use Rattle.borsh_json.proofs.BytesFall.{bytes_fallen}
 use Rattle.borsh_json.proofs.CutLaws.{Front, IsRead, nothing_read, empty_read, node_read, copies_read, only_read, shorter}
 use Rattle.borsh_json.proofs.DescentLaws.{front_of, packed_alone}
 use Rattle.borsh_json.proofs.FormKinds.{form_known, map_elements, shaped}
 use Rattle.borsh_json.proofs.FoundLaws.{full_list, full_primitive, zero_part}
-use Rattle.borsh_json.proofs.InOrderLaws.{IsKindOfList, list_kind, array_said, keys_one, string_no_set}
+use Rattle.borsh_json.proofs.InOrderLaws.{IsKindOfList, list_kind, keys_one, string_no_set}
 use Rattle.borsh_json.proofs.KeyRanks.{keys_rise, key_parts}
 use Rattle.borsh_json.proofs.LeafLaws.{primitive_sized}
 use Rattle.borsh_json.proofs.Lockstep.{AreBytes, behind, before as bytes_before, AreNamed, list_named, named_front, defined, Match, no_names, silent, named_so, paired, match_list, match_entries, match_row, match_fields, listed, sized, longer, in_four, array_counts}
 use Rattle.borsh_json.proofs.NameLaws.{keys_full}
-use Rattle.borsh_json.proofs.NoJsonLaws.{IsSaid, values_passed}
+use Rattle.borsh_json.proofs.NoJsonLaws.{values_passed}
 use Rattle.borsh_json.proofs.OrderLaws.{clash}
 use Rattle.borsh_json.proofs.OrderNumbers.{long_tag, one_low}
 use Rattle.borsh_json.proofs.ReaderLaws.{split, uncons}
-use Rattle.borsh_json.proofs.RepresentsLaws.{kind_one}
 
 -- ---- lists
 two_of : {A : Type 0} (n : ℕ) (l : List A) → suc (suc n) ≤ length l → (front : List A) × (p : A) × (q : A) × (after : List A) × (l ≡ front ++ p ∷ q ∷ after) × (length front ≡ n)
@@ -224,9 +219,6 @@ module _ (F : List ℕ → Option Form) where
         let max : 256 ^ 4 ≡ 4294967296 = refl in
         (one_low 4 n d.count (omega (arith, h, max)) (let g = d.fits in omega (arith, g, max)) s.0, s.1)
 
-    fine : {cs : List ℕ} → own ≡ tag 4 (pos d.count) ++ cs → cs ++ bs ≡ behind_count → AreBytes behind_count
-    fine {cs} o e = subst (λ l. AreBytes l) e (behind (tag 4 (pos d.count)) (cs ++ bs) (subst (λ l. AreBytes l) (ap (λ o. o ++ bs) o ∙ append_assoc (tag 4 (pos d.count)) cs bs) small))
-
     -- an array
     keyed_falls : (f2 r3 : List ℕ) (j : Json) → HaveBytes F ((d.e, j) ∷ []) f2 → AreBytes f2 → d.after ≡ f2 ++ r3 → IsAtLeast F (a_value d.k ∷ []) (d.first ++ f2) f2
     keyed_falls f2 r3 j h small e =
@@ -239,12 +231,24 @@ module _ (F : List ℕ → Option Form) where
         ] in
         subst (λ r. IsAtLeast F (a_value d.k ∷ []) (d.first ++ f2) r) (append-nil f2) (longer F f2 [] found)
 
+    -- the parts of the elements before two that don't ascend, and those of the first of these
+    apart : (front ones rest : List Part) (m : ℕ) → qs ≡ front ++ (ones ++ rest) → m ≡ passed → Match F (front ++ []) (replicate m d.e ++ []) → Match F ones (d.e ∷ []) → bs ≡ behind_count
+        → HaveBytes F ones d.first × HaveBytes F (rest ++ ps) d.after × AreBytes d.after
+    apart front ones rest m q k f g is =
+        let all = subst (λ l. AreBytes l) is (behind own bs small) in
+        let left = behind d.middle (d.first ++ d.after) all in
+        let before = subst (λ (n : ℕ). Match F front (replicate n d.e)) k (subst (λ l. Match F front l) (append-nil (replicate m d.e)) (subst (λ (l : List Part). Match F l (replicate m d.e ++ [])) (append-nil front) f)) in
+        let s = split F more front ((ones ++ rest) ++ ps) (ap (λ (l : List Part). l ++ ps) q ∙ append_assoc front (ones ++ rest) ps) in
+        let u = exact (replicate passed d.e) d.middle front s.0 s.1 (d.first ++ d.after) d.elements before s.2 all (sym s.4 ∙ is) in
+        let t = split F s.3 ones (rest ++ ps) (append_assoc ones rest ps) in
+        let v = exact (d.e ∷ []) d.first ones t.0 t.1 d.after d.element g t.2 left (sym t.4 ∙ u.1) in
+        (subst (λ b. HaveBytes F ones b) v.0 t.2, subst (λ b. HaveBytes F (rest ++ ps) b) v.1 t.3, behind d.first d.after left)
+
     array_falls : (items : Items) → IsListKind kind → i ≡ array items → qs ≡ list_parts d.e items → ⊥
     array_falls items l a q =
         let e = d.e in
         let o = array_counts F x e kind i items own qs has d.keys.0 l a says in
         let c = counted (length qs) [] o.1 o.0 in
-        let all = fine (o.1 ∙ ap (λ n. tag 4 (pos n) ++ []) c.0) c.1 in
         let two = two_of passed qs (let m = d.more in let n = c.0 in omega (arith, m, n)) in
         let front = two.0 in
         let p = two.1 in
@@ -252,16 +256,9 @@ module _ (F : List ℕ → Option Form) where
         let after = two.3 in
         let names = subst (λ (l : List Part). AreNamed e l) (sym q ∙ two.4) (list_named e items) in
         let rest = named_behind e front (p ∷ r ∷ after) names in
-        let s = split F more front (p ∷ r ∷ (after ++ ps)) (ap (λ (l : List Part). l ++ ps) two.4 ∙ append_assoc front (p ∷ r ∷ after) ps) in
-        let u = exact (replicate passed e) d.middle front s.0 s.1 (d.first ++ d.after) d.elements
-        (subst (λ (n : ℕ). Match F front (replicate n e)) two.5 (subst (λ l. Match F front l) (append-nil (replicate (length front) e)) (subst (λ (l : List Part). Match F l (replicate (length front) e ++ [])) (append-nil front) (match_list F e front (named_front e front (p ∷ r ∷ after) names) no_names))))
-        s.2 all (sym s.4 ∙ c.1) in
-        let t = split F s.3 (p ∷ []) (r ∷ (after ++ ps)) refl in
-        let v = exact (e ∷ []) d.first (p ∷ []) t.0 t.1 d.after d.element (subst (λ y. Match F (p ∷ []) (y ∷ [])) rest.0 (named_so no_names)) t.2 (behind d.middle (d.first ++ d.after) all) (sym t.4 ∙ u.1) in
-        let w = split F t.3 (r ∷ []) (after ++ ps) refl in
+        let s = apart front (p ∷ []) (r ∷ after) (length front) two.4 two.5 (match_list F e front (named_front e front (p ∷ r ∷ after) names) no_names) (subst (λ y. Match F (p ∷ []) (y ∷ [])) rest.0 (named_so no_names)) c.1 in
+        let w = split F s.1 (r ∷ []) (after ++ ps) refl in
         let second = subst (λ (r : Part). HaveBytes F (r ∷ []) w.0) (renamed r e rest.1.0) w.2 in
-        let next = sym v.1 ∙ w.4 in
-        let last = bytes_before w.0 w.1 (subst (λ l. AreBytes l) next (behind d.first d.after (behind d.middle (d.first ++ d.after) all))) in
         none (suc passed) (inr (record {
           e = e;
           k = d.k;
@@ -270,15 +267,15 @@ module _ (F : List ℕ → Option Form) where
           left = p.1;
           right = r.1;
           after = after;
-          first = t.0;
+          first = d.first;
           second = w.0;
           keys = d.keys;
           is_array = a;
           parts = sym q ∙ two.4 ∙ ap (λ (p : Part). front ++ p ∷ r ∷ after) (renamed p e rest.0) ∙ ap (λ (r : Part). front ++ (e, p.1) ∷ r ∷ after) (renamed r e rest.1.0);
           index_is = ap suc (sym two.5);
-          left_says = subst (λ (p : Part). HaveBytes F (p ∷ []) t.0) (renamed p e rest.0) t.2;
+          left_says = subst (λ (p : Part). HaveBytes F (p ∷ []) d.first) (renamed p e rest.0) s.0;
           right_says = second;
-          falls = subst (λ l. IsAtLeast F (a_value d.k ∷ []) (l ++ w.0) w.0) (sym v.0) (keyed_falls w.0 w.1 r.1 second last next);
+          falls = keyed_falls w.0 w.1 r.1 second (bytes_before w.0 w.1 (subst (λ l. AreBytes l) w.4 s.2)) w.4;
         }))
 
     -- digits
@@ -329,30 +326,23 @@ module _ (F : List ℕ → Option Form) where
         let full = keys_full F k keys y.1 in
         let o = in_four F l f.0 e f.1 (length s.1) [] own s.5 in
         let c = counted (length s.1) [] o.1 o.0 in
-        let all = fine (o.1 ∙ ap (λ n. tag 4 (pos n) ++ []) c.0) c.1 in
         let two = two_of passed s.1 (let m = d.more in let n = c.0 in omega (arith, m, n)) in
-        let front = entry_parts keys k v two.0 in
         let p = two.1 in
         let r = two.2 in
-        let one : List Part = (k, key_json keys p.0) ∷ (v, p.1) ∷ [] in
-        let more_parts : List Part = (k, key_json keys r.0) ∷ (v, r.1) ∷ entry_parts keys k v two.3 in
-        let is : qs ≡ front ++ (one ++ more_parts) = s.6 ∙ ap (λ (es : List Entry). entry_parts keys k v es) two.4 ∙ entries_joined keys k v two.0 (p ∷ r ∷ two.3) in
-        let t = split F more front ((one ++ more_parts) ++ ps) (ap (λ (l : List Part). l ++ ps) is ∙ append_assoc front (one ++ more_parts) ps) in
-        let u = exact (replicate passed e) d.middle front t.0 t.1 (d.first ++ d.after) d.elements
-        (subst (λ (n : ℕ). Match F front (replicate n e)) two.5 (subst (λ l. Match F front l) (append-nil (replicate (length two.0) e)) (subst (λ (l : List Part). Match F l (replicate (length two.0) e ++ [])) (append-nil front) (match_entries F keys e k v full tup two.0 no_names))))
-        t.2 all (sym t.4 ∙ c.1) in
-        let w = split F t.3 one (more_parts ++ ps) refl in
-        let b = exact (e ∷ []) d.first one w.0 w.1 d.after d.element (paired full tup (named_so (named_so no_names))) w.2 (behind d.middle (d.first ++ d.after) all) (sym w.4 ∙ u.1) in
-        let left = uncons F w.2 in
-        let right = uncons F w.3 in
+        let ones : List Part = (k, key_json keys p.0) ∷ (v, p.1) ∷ [] in
+        let rest : List Part = (k, key_json keys r.0) ∷ (v, r.1) ∷ entry_parts keys k v two.3 in
+        let is : qs ≡ entry_parts keys k v two.0 ++ (ones ++ rest) = s.6 ∙ ap (λ (es : List Entry). entry_parts keys k v es) two.4 ∙ entries_joined keys k v two.0 (p ∷ r ∷ two.3) in
+        let t = apart (entry_parts keys k v two.0) ones rest (length two.0) is two.5 (match_entries F keys e k v full tup two.0 no_names) (paired full tup (named_so (named_so no_names))) c.1 in
+        let left = uncons F t.0 in
+        let right = uncons F t.1 in
         let key : d.k ≡ k = keys_one F x e e d.k k d.keys (d.keys.0, inr (v, tup, y.0.3)) in
         let falls = subst (λ k. IsAtLeast F (a_value k ∷ []) (d.first ++ d.after) d.after) key d.falls in
-        let there = subst (λ l. IsAtLeast F (a_value k ∷ []) l d.after) (ap (λ l. l ++ d.after) (sym b.0 ∙ left.3) ∙ append_assoc left.0 left.2 d.after) falls in
+        let there = subst (λ l. IsAtLeast F (a_value k ∷ []) l d.after) (ap (λ l. l ++ d.after) left.3 ∙ append_assoc left.0 left.2 d.after) falls in
         keys_rise F k keys p.0 r.0 left.0 right.0 (left.2 ++ d.after) right.2 y.1
         (subst (λ (qs : List Part). SaysFirst F k (key_json keys p.0) left.0 qs) (key_parts F k keys (key_json keys p.0) left.0 left.1 y.1 left.4) left.4)
         (subst (λ (qs : List Part). SaysFirst F k (key_json keys r.0) right.0 qs) (key_parts F k keys (key_json keys r.0) right.0 right.1 y.1 right.4) right.4)
         (texts_alone keys p r (sorted_two keys two.0 p r two.3 (subst (λ (es : List Entry). IsStrictlySortedBy (key_order keys) es) two.4 s.4)))
-        (subst (λ l. IsAtLeast F (a_value k ∷ []) (left.0 ++ (left.2 ++ d.after)) l) (sym b.1 ∙ right.3) there)
+        (subst (λ l. IsAtLeast F (a_value k ∷ []) (left.0 ++ (left.2 ++ d.after)) l) right.3 there)
 
     none_descends : IsKindOfList F d.e kind → ⊥
     none_descends (inl (l, q)) =

@@ -1,9 +1,7 @@
 -- Two neighbours that don't ascend, where the writer is.
 use Rattle.std.proofs.Common.{◌≡◌, inr, ℕ, suc, zero, ◌+◌, ◌<◌, ◌≤◌, List, [], ◌∷◌, ◌++◌, length, replicate, drop, Option, Some, None, refl, sym, ◌∙◌, ap, subst, arith, append_assoc, append-nil, length-append}
 use Rattle.std.proofs.Math.Seq.{drop-append_seam}
-use Rattle.std.specs.Prelude.{pos, option_map, Bool, true, false, Decides, Result, Ok, Err, IfErr, IfOk, OnOk, MatchBool, MatchOption}
-use Rattle.std.specs.declared.cmp.Ordering.TheVariants.{Less}
-use Rattle.json.specs.Json.{null}
+use Rattle.std.specs.Prelude.{pos, Bool, true, false, Decides, Result, Ok, Err, IfErr, IfOk, OnOk, MatchBool, MatchOption}
 use Rattle.borsh_walks.specs.Container.{Shape, primitive, sequence, product, choice, tag}
 use Rattle.borsh_plan.specs.Plan.{root_of}
 use Rattle.borsh_values.specs.Nodes.{packed_size, Opens, OpensElements, AreElementsOf}
@@ -36,8 +34,8 @@ use Rattle.borsh_json.specs.Leaves.{IsOpenedAs}
 use Rattle.borsh_json.specs.Orders.{KeysAscend, HasKeyOrder, OrderedBy, KindHasOrder, IsNotBelow, ArePrimitives}
 use Rattle.borsh_json.specs.Places.{IsAt, AreKeysOf, IsKindOf, IsListOf, lengths_of}
 use Rattle.borsh_json.specs.Represents.{SaysFirst}
-use Rattle.borsh_json.specs.Table.{Lengths, Keys, byte_list, list, entries, AreKeys, HasKind, key_json, key_order}
-use Rattle.borsh_json.specs.Writes.{IsFullOrFalls, TellsAscent, names_of_rest, names_of_all, opened, steps_to, Nested, IsLast, IsAbove, IsMapOf, IsLastKey, IsWritingAt, NoneFallsIn}
+use Rattle.borsh_json.specs.Table.{Lengths, Keys, byte_list, list, entries, AreKeys, HasKind, key_json}
+use Rattle.borsh_json.specs.Writes.{IsFullOrFalls, TellsAscent, names_of_rest, opened, steps_to, Nested, IsLast, IsAbove, IsMapOf, IsLastKey, IsWritingAt, NoneFallsIn}
 use Rattle.borsh_json.proofs.FormKinds.{form_found, form_known}
 use Rattle.borsh_json.proofs.NestedLaws.{IsLastPart, last_part}
 use Rattle.borsh_json.proofs.KeyRanks.{keys_at_least}

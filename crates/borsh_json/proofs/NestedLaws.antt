@@ -3,7 +3,6 @@ use Rattle.std.proofs.Common.{◌≡◌, ℕ, suc, ◌+◌, ◌<◌, ◌≤◌, 
 use Rattle.borsh_walks.specs.Container.{IsIn, first, later, Member, Members}
 use Rattle.borsh_walks.proofs.Laws.{zero_member}
 use Rattle.borsh_values.proofs.MemberLaws.{members_head}
-use Rattle.borsh_json.specs.declared.position.Parts.TheVariants.{Root}
 use Rattle.borsh_json.specs.declared.position.Place.{Place}
 use Rattle.borsh_json.specs.Forms.{Form, shapes, HasNoBytes}
 use Rattle.borsh_json.specs.Frames.{first_steps, last_steps, steps_at, steps_through}

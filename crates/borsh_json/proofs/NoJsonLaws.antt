@@ -1,30 +1,22 @@
 -- Bytes of which a part is refused have no JSON: it would say the part, since no other definition or bytes lead there.
-use Rattle.std.proofs.Common.{◌≡◌, ◌⊎◌, inl, inr, ℕ, suc, zero, ◌+◌, ◌*◌, List, [], ◌∷◌, ◌++◌, length, Option, Some, refl, sym, ◌∙◌, ap, subst, arith, append_assoc, append-nil}
+use Rattle.std.proofs.Common.{◌≡◌, ◌⊎◌, inl, inr, ℕ, suc, zero, ◌+◌, ◌*◌, List, [], ◌∷◌, ◌++◌, length, Option, Some, refl, sym, ◌∙◌, ap, subst, arith, append_assoc}
 use Rattle.std.specs.Prelude.{codes, slice_get}
 use Rattle.std.specs.List.{AllByRecursion}
 use Rattle.json.specs.Json.{Json, null, Members}
-use Rattle.borsh_walks.specs.Container.{IsIn, first, later}
+use Rattle.borsh_walks.specs.Container.{first}
 use Rattle.borsh_values.specs.Nodes.{Opens}
-use Rattle.borsh_json.specs.declared.error.JsonError.{JsonError}
-use Rattle.borsh_json.specs.declared.error.JsonError.TheVariants.{OutOfMemory, NoMember, NoValue, Ambiguous, NotJson, Refused}
-use Rattle.borsh_json.specs.declared.error.Refusal.{Refusal}
-use Rattle.borsh_json.specs.declared.error.Refusal.TheVariants.{TooDeep, RepeatedName, EmptyElements, NotBool, NotUtf8, Zero, NotNumber, Descends, Expected, MissingField, UnknownName, RepeatedKey, Undefined}
 use Rattle.borsh_json.specs.Forms.{Form, tuple, shape_of_form, shapes, HasNoBytes}
-use Rattle.borsh_json.specs.InOrder.{Step, field, place, element, variant, AreSteps, IsReached, whole_value, part_of, InOrder, IsRepresented}
+use Rattle.borsh_json.specs.InOrder.{Step, field, place, element, variant, AreSteps, IsReached, part_of}
 use Rattle.borsh_json.specs.Inside.{IsInside, outermost, inside}
-use Rattle.borsh_json.specs.NoJson.{IsNoJson, IsAbout, HasNoJsonPart, IsOutOfOrder, RefusesBytes}
-use Rattle.borsh_json.specs.NoValue.{IsGivenUp, path_steps}
+use Rattle.borsh_json.specs.NoJson.{IsNoJson}
 use Rattle.borsh_json.specs.Only.{IsOpened, AreOnly, none_only, empty_only, opened_only}
-use Rattle.borsh_json.specs.Represents.{SaysFirst, HaveBytes, none_left, next_part}
-use Rattle.borsh_json.specs.Table.{Kind, no_bytes, truth, whole, float, raw, utf8, byte_list, list, row, inner, fields, optional, variants, entries, DefinedKind, HasKind, Part, field_parts, Says}
-use Rattle.borsh_json.specs.Writes.{Stops}
+use Rattle.borsh_json.specs.Represents.{SaysFirst, HaveBytes, next_part}
+use Rattle.borsh_json.specs.Table.{Kind, no_bytes, truth, whole, float, raw, utf8, byte_list, list, row, inner, fields, optional, variants, entries, HasKind, Part, field_parts, Says}
 use Rattle.borsh_json.proofs.FormKinds.{shaped}
 use Rattle.borsh_json.proofs.FoundLaws.{zero_part}
-use Rattle.borsh_json.proofs.Lockstep.{AreBytes, behind, before as bytes_before, defined, Match, no_names, silent, named_so, paired, value_opens}
-use Rattle.borsh_json.proofs.OrderLaws.{clash}
+use Rattle.borsh_json.proofs.Lockstep.{AreBytes, behind, before as bytes_before, defined, Match, silent, named_so, paired, value_opens}
 use Rattle.borsh_json.proofs.ReaderLaws.{field_front, split, joined}
 use Rattle.borsh_json.proofs.RepresentsLaws.{kind_one}
-use Rattle.borsh_json.proofs.WritingSteps.{only_in}
 
 -- ---- paths to parts
 not_nil : (front qs : List Part) (q : Part) → front ++ q ∷ qs ≡ [] → ⊥
@@ -101,26 +93,13 @@ module _ (F : List ℕ → Option Form) (P : Part → Type 0) (inherited : IsInh
     pub is : bs ≡ bytes ++ tail
     pub each : AllByRecursion P parts
 
-  more_empty : {k v : List ℕ} (zs : List (List ℕ)) → HasNoBytes F k → HasNoBytes F v → ((z : List ℕ) → IsIn z zs → HasNoBytes F z) → (z : List ℕ) → IsIn z (k ∷ v ∷ zs) → HasNoBytes F z
-  more_empty zs a b h z first = a
-  more_empty zs a b h z (later first) = b
-  more_empty zs a b h z (later (later i)) = h z i
-
-  -- names without bytes are passed
-  empty_passed : (zs xs : List (List ℕ)) {ys : List (List ℕ)} {ps : List Part} {bytes bs : List ℕ} → ((z : List ℕ) → IsIn z zs → HasNoBytes F z) → Match F ps ys → ys ≡ zs ++ xs → HaveBytes F ps bytes → bs ≡ bytes ++ tail → AllByRecursion P ps → IsSaid xs bs
-  empty_passed [] xs {ps = ps} {bytes = bytes} none m q h e a = record { parts = ps; bytes = bytes; named = subst (λ l. Match F ps l) q m; said = h; is = e; each = a }
-  empty_passed (z ∷ zs) xs none no_names q h e a = cc
-  empty_passed (z ∷ zs) xs none (silent {xs = ys} k m) q h e a = empty_passed zs xs (λ y i. none y (later i)) m (let s : ys ≡ zs ++ xs = cc in s) h e a
-  empty_passed (z ∷ zs) xs none (named_so {x = x} {j = j} {ps = ps} {xs = ys} m) q (next_part {bs = bs} kind own qs k s r) e a =
-      let y : x ≡ z = cc in
-      let t = subst (λ (k : Kind). Says F k j own qs) (kind_one F k (inl (subst (λ y. HasNoBytes F y) (sym y) (none z first), refl))) s in
-      empty_passed zs xs (λ y i. none y (later i)) m (let s : ys ≡ zs ++ xs = cc in s) (subst (λ (l : List Part). HaveBytes F (l ++ ps) bs) t.2 r) (e ∙ ap (λ o. (o ++ bs) ++ tail) t.1) a.1
-  empty_passed (z ∷ zs) xs none (paired {e = x} {k = k} {v = v} {xs = ys} full c m) q h e a =
-      let y : x ≡ z = cc in
-      let s : ys ≡ zs ++ xs = cc in
-      let d = shaped (F x) c in
-      let i = subst (λ y. HasNoBytes F y) (sym y) (none z first) in
-      empty_passed (k ∷ v ∷ zs) xs (more_empty zs (zero_part F d i first) (zero_part F d i (later first)) (λ y i. none y (later i))) m (ap (λ l. k ∷ v ∷ l) s) h e a
+  -- a name without bytes is passed
+  empty_passed : {x : List ℕ} {xs : List (List ℕ)} {ps : List Part} {bytes bs : List ℕ} → HasNoBytes F x → Match F ps (x ∷ xs) → HaveBytes F ps bytes → bs ≡ bytes ++ tail → AllByRecursion P ps → IsSaid xs bs
+  empty_passed {ps = ps} {bytes = bytes} z (silent k m) h e a = record { parts = ps; bytes = bytes; named = m; said = h; is = e; each = a }
+  empty_passed z (named_so {j = j} {ps = ps} m) (next_part {bs = bs} kind own qs k s r) e a =
+      let t = subst (λ (k : Kind). Says F k j own qs) (kind_one F k (inl (z, refl))) s in
+      record { parts = ps; bytes = bs; named = m; said = subst (λ (l : List Part). HaveBytes F (l ++ ps) bs) t.2 r; is = e ∙ ap (λ o. (o ++ bs) ++ tail) t.1; each = a.1 }
+  empty_passed {x = x} z (paired full c m) h e a = absurd (full (zero_part F (shaped (F x) c) z first))
 
   -- a value is opened
   value_opened : {x own bs bytes all : List ℕ} {parts xs : List (List ℕ)} {ps : List Part} (f : Form) → IsOpened F x f own parts → AreBytes all → Match F ps (x ∷ xs) → HaveBytes F ps bytes → own ++ bs ≡ all → all ≡ bytes ++ tail → AllByRecursion P ps → IsSaid (parts ++ xs) bs
@@ -150,7 +129,7 @@ module _ (F : List ℕ → Option Form) (P : Part → Type 0) (inherited : IsInh
   -- values are passed
   pub values_passed : {ys xs : List (List ℕ)} {mid rest : List ℕ} → AreOnly F ys mid → AreBytes (mid ++ rest) → IsSaid (ys ++ xs) (mid ++ rest) → IsSaid xs rest
   values_passed none_only small s = s
-  values_passed {xs = xs} (empty_only {x = x} {xs = ys} z a) small s = values_passed a small (empty_passed (x ∷ []) (ys ++ xs) (λ y i. subst (λ y. HasNoBytes F y) (only_in y x i) z.1) s.named refl s.said s.is s.each)
+  values_passed (empty_only z a) small s = values_passed a small (empty_passed z.1 s.named s.said s.is s.each)
   values_passed {xs = xs} {rest = rest} (opened_only {bs = bs} {xs = ys} f own parts o a) small s =
       let t = value_opened {own = own} {bs = bs ++ rest} f o small s.named s.said (sym (append_assoc own bs rest)) s.is s.each in
       values_passed a (behind own (bs ++ rest) (subst (λ l. AreBytes l) (append_assoc own bs rest) small)) (subst (λ l. IsSaid l (bs ++ rest)) (sym (append_assoc parts ys xs)) t)

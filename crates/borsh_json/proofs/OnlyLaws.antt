@@ -1,5 +1,5 @@
 -- Values whose definitions go with their bytes in one way only, one after another.
-use Rattle.std.proofs.Common.{◌≡◌, ℕ, suc, zero, List, [], ◌∷◌, ◌++◌, All, length, replicate, Option, Some, refl, sym, ◌∙◌, ap, subst, append_assoc, append-nil}
+use Rattle.std.proofs.Common.{◌≡◌, ℕ, suc, zero, List, [], ◌∷◌, ◌++◌, replicate, Option, Some, refl, sym, subst, append_assoc, append-nil}
 use Rattle.borsh_walks.specs.Container.{Members}
 use Rattle.borsh_walks.specs.Container as shape
 use Rattle.borsh_values.specs.Nodes.{Opens}

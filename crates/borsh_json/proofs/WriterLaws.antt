@@ -57,10 +57,10 @@ use Rattle.borsh_json.specs.InOrder.{Step, place, element}
 use Rattle.borsh_json.specs.Inside.{IsInside}
 use Rattle.borsh_json.specs.NoJson.{HasNoJsonPart, IsOutOfOrder, RefusesBytes, RefusesOwn}
 use Rattle.borsh_json.specs.Orders.{HasKeyOrder, KindHasOrder, OrderedBy, IsNotBelow}
-use Rattle.borsh_json.specs.Leaves.{Holds, Adds, IsOpenedAs, WritesLeaf, RefusesKey, RefusesValue, long_of}
+use Rattle.borsh_json.specs.Leaves.{Adds, IsOpenedAs, WritesLeaf, RefusesKey, RefusesValue, long_of}
 use Rattle.borsh_json.specs.Places.{IsAt, AreKeysOf, IsKindOf, lengths_of}
 use Rattle.borsh_json.specs.Represents.{SaysFirst}
-use Rattle.borsh_json.specs.Table.{Keys, Kind, no_bytes, whole, utf8, HasKind, key_order, key_json}
+use Rattle.borsh_json.specs.Table.{Keys, no_bytes, whole, utf8, HasKind, key_order, key_json}
 use Rattle.borsh_walks.proofs.Laws.{zero_member}
 use Rattle.borsh_values.proofs.MemberLaws.{members_head}
 use Rattle.borsh_values.proofs.WalkedLaws.{read_product}
