@@ -100,7 +100,7 @@ module _ (F : List ℕ → Option Form) (e : List ℕ) (byte : IsByte F e) where
       }
 
   -- primitives that don't ascend, as bytes
-  bytes_fallen : (bytes : List ℕ) (i : ℕ) (d : PrimitivesDescend F e 1 bytes i) → (b : ℕ) × (c : ℕ) × (bytes ≡ d.before ++ b ∷ c ∷ d.after) × (c ≤ b)
+  pub bytes_fallen : (bytes : List ℕ) (i : ℕ) (d : PrimitivesDescend F e 1 bytes i) → (b : ℕ) × (c : ℕ) × (bytes ≡ d.before ++ b ∷ c ∷ d.after) × (c ≤ b)
   bytes_fallen bytes i d =
       let f = front F d.falls in
       let q = value_fronts F e (numbers 1 false) f.l f.r f.o f.us (byte_order F e byte) f.fronts in

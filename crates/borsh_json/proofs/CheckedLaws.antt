@@ -1,10 +1,11 @@
 -- Bytes whose sets and maps ascend, as the writer goes through them.
 use Rattle.std.proofs.Common.{◌≡◌, inl, inr, ℕ, suc, zero, List, [], ◌∷◌, ◌++◌, length, map, replicate, drop, Option, Some, None, refl, sym, ◌∙◌, ap, subst}
 use Rattle.std.specs.Prelude.{IfSome, MatchOption, option_map}
-use Rattle.borsh_walks.specs.Container.{Shape, sequence as sequence_shape, product, IsIn, first, later}
+use Rattle.borsh_walks.specs.Container.{sequence as sequence_shape, product, IsIn, first, later}
 use Rattle.borsh_plan.specs.declared.named.Named.{Named}
 use Rattle.borsh_values.specs.Nodes.{packed_size, Opens, OpensElements}
 use Rattle.borsh_values.specs.Cursor.{OpensOnce}
+use Rattle.borsh_values.specs.Walks.{IsCounted}
 use Rattle.borsh_json.specs.declared.definitions.Definitions.{Definitions}
 use Rattle.borsh_json.specs.declared.kinds.Elements.{Elements as FoundElements}
 use Rattle.borsh_json.specs.declared.kinds.Kind.{Kind as Found}
@@ -16,6 +17,7 @@ use Rattle.borsh_json.specs.Checked.{Due, one, ascending, NeedsNoOrder, IsOnly, 
 use Rattle.borsh_json.specs.Forms.{Form, primitive as primitive_form, sequence as sequence_form, tuple as tuple_form, shape_of_form, shapes, HasNoBytes}
 use Rattle.borsh_json.specs.Found.{forms_of, names_of}
 use Rattle.borsh_json.specs.Frames.{IsListKind}
+use Rattle.borsh_json.specs.Only.{IsOpened}
 use Rattle.borsh_json.specs.Ordered.{a_value, IsAtLeast}
 use Rattle.borsh_json.specs.Orders.{ArePrimitives, HasKeyOrder, KindHasOrder, KindTellsOrder, OrderedBy}
 use Rattle.borsh_json.specs.Descents.{HasKeys, PrimitivesDescend}
@@ -44,8 +46,11 @@ module _ (F : List ℕ → Option Form) where
   zeros_due [] z c = c
   zeros_due (y ∷ zs) z c = empty (z y first) (zeros_due zs (λ x i. z x (later i)) c)
 
-  pub product_only : {x : List ℕ} (f : Form) (ps : List (List ℕ)) → F x ≡ Some f → shape_of_form f ≡ product ps → IsOnly F x [] ps
-  product_only f ps c s = (f, c, subst (λ d. OpensOnce (shapes F) d [] ps) (sym s) (λ b ms r t o e. (o.0, sym (ap (λ b. b ++ r) o.0) ∙ e, o.1)))
+  product_once : (f : Form) (ps : List (List ℕ)) → shape_of_form f ≡ product ps → OpensOnce (shapes F) (shape_of_form f) [] ps
+  product_once f ps s = subst (λ d. OpensOnce (shapes F) d [] ps) (sym s) (λ b ms r t o e. (o.0, sym (ap (λ b. b ++ r) o.0) ∙ e, o.1))
+
+  pub product_opened : {x : List ℕ} (f : Form) (ps : List (List ℕ)) → (HasNoBytes F x → ⊥) → F x ≡ Some f → shape_of_form f ≡ product ps → IsOpened F x f [] ps
+  product_opened f ps full c s = (full, c, subst (λ s. Opens (shapes F) s [] ps) (sym s) (refl, refl), product_once f ps s, subst (λ s. IsCounted s) (sym s) tt)
 
   pub product_free : {x : List ℕ} (ps : List (List ℕ)) → shapes F x ≡ Some (product ps) → NeedsNoOrder F x
   product_free ps c kind h l e k keys = let q : Some (product ps) ≡ Some (sequence_shape 4 0 4294967295 e) = sym c ∙ ap (λ o. option_map shape_of_form o) keys.0 in cc
@@ -57,15 +62,15 @@ module _ (F : List ℕ → Option Form) where
   pub kind_free : {x : List ℕ} (kind : Kind) → HasKind F x kind → ((l : Lengths) (e : List ℕ) → kind ≡ list l e → ⊥) → ((l : Lengths) (e : List ℕ) → kind ≡ byte_list l e → ⊥) → NeedsNoOrder F x
   kind_free kind h p q other g l = absurd (not_list kind p q (subst (λ k. IsListKind k) (kind_one F g h) l))
 
-  pub same_only : {x own : List ℕ} {parts : List (List ℕ)} (f : Form) (qs : List (List ℕ)) → F x ≡ Some f → Opens (shapes F) (shape_of_form f) own qs → IsOnly F x own parts → IsOnly F x own qs
-  same_only {x = x} {own = own} f qs c o only =
+  pub same_opened : {x own : List ℕ} {parts : List (List ℕ)} (f : Form) (qs : List (List ℕ)) → (HasNoBytes F x → ⊥) → F x ≡ Some f → Opens (shapes F) (shape_of_form f) own qs → IsCounted (shape_of_form f) → IsOnly F x own parts → IsOpened F x f own qs
+  same_opened {own = own} {parts = parts} f qs full c o counted only =
       let q : Some only.0 ≡ Some f = sym only.1 ∙ c in
-      let g : f ≡ only.0 = cc in
-      let e = (only.2 own qs [] [] (subst (λ (f : Form). Opens (shapes F) (shape_of_form f) own qs) g o) refl).2 in
-      subst (λ l. IsOnly F x own l) (sym e) only
+      let g : only.0 ≡ f = cc in
+      let once = subst (λ (f : Form). OpensOnce (shapes F) (shape_of_form f) own parts) g only.2 in
+      (full, c, o, subst (λ l. OpensOnce (shapes F) (shape_of_form f) own l) (sym (once own qs [] [] o refl).2) once, counted)
 
   pub product_due : {x : List ℕ} (f : Form) (ps : List (List ℕ)) → F x ≡ Some f → shape_of_form f ≡ product ps → (HasNoBytes F x → ⊥) → IsDueAs x [] ps None
-  product_due f ps c s full ds after h = plain [] ps full (product_free ps (ap (λ o. option_map shape_of_form o) c ∙ ap (λ s. Some s) s)) (product_only f ps c s) h
+  product_due f ps c s full ds after h = plain [] ps full (product_free ps (ap (λ o. option_map shape_of_form o) c ∙ ap (λ s. Some s) s)) (f, c, product_once f ps s) h
 
   pub pair_due : (e k v : List ℕ) → F e ≡ Some (tuple_form (k ∷ v ∷ [])) → (HasNoBytes F k → ⊥) → IsDueAs e [] (k ∷ v ∷ []) None
   pair_due e k v c full = product_due (tuple_form (k ∷ v ∷ [])) (k ∷ v ∷ []) c refl (λ z. full (zero_part F (ap (λ o. option_map shape_of_form o) c) z first))
@@ -147,9 +152,12 @@ module _ (d : Definitions) (x : List ℕ) (f : Form) (own : List ℕ) (parts : L
   abbrev pub IsDueIn : Option Ordered → Type 0
   IsDueIn o = (k : Option (List ℕ)) × IsDueAs F x own parts k × IfSome k (λ k. MatchOption o ⊥ (λ order. OrderedBy d k order))
 
-  module _ (there : F x ≡ Some f) (opens : Opens (shapes F) (shape_of_form f) own parts) (only : IsOnly F x own parts) (full : HasNoBytes F x → ⊥) where
+  module _ (is : IsOpened F x f own parts) where
+    abbrev only : IsOnly F x own parts
+    only = (f, is.1, is.3)
+
     free_due : (o : Option Ordered) → NeedsNoOrder F x → IsDueIn o
-    free_due o n = (None, (λ ds after c. plain own parts full n only c), tt)
+    free_due o n = (None, (λ ds after c. plain own parts is.0 n only c), tt)
 
     other_due : (o : Option Ordered) (kind : Kind) → HasKind F x kind → ((l : Lengths) (e : List ℕ) → kind ≡ list l e → ⊥) → ((l : Lengths) (e : List ℕ) → kind ≡ byte_list l e → ⊥) → IsDueIn o
     other_due o kind h p q = free_due o (kind_free F kind h p q)
@@ -164,7 +172,7 @@ module _ (d : Definitions) (x : List ℕ) (f : Form) (own : List ℕ) (parts : L
             let a = subst (λ (o : Option Ordered). HasKeyOrder F ns x o) q keys in
             let bs = drop w own in
             let s = subst (λ (f : Form). NoneFallsIn es f own) g falls bs refl in
-            let r = packed_rises F ns x e a.0 own bs parts n w lo hi found a.1 (there ∙ ap (λ f. Some f) g) p (subst (λ (f : Form). Opens (shapes F) (shape_of_form f) own parts) g opens) refl
+            let r = packed_rises F ns x e a.0 own bs parts n w lo hi found a.1 (is.1 ∙ ap (λ f. Some f) g) p (subst (λ (f : Form). Opens (shapes F) (shape_of_form f) own parts) g is.2) refl
             (λ h i t. s found q F ns e (subst (λ n. ArePrimitives F ns e found n bs) (sym z) h) i (subst (λ n. PrimitivesDescend F e n bs i) (sym z) t)) in
             (None, (λ ds after c. packed own n r.0 p r.1 (subst (λ l. IsOnly F x own l) r.2 only) (subst (λ l. AreChecked F (map one l ++ ds) after) r.2 c)), tt)
 
@@ -172,11 +180,11 @@ module _ (d : Definitions) (x : List ℕ) (f : Form) (own : List ℕ) (parts : L
     elements_due : (found : Ordered) (e : List ℕ) → HasKind F x (list (lengths_of f) e) → packed_size (shapes F e) ≡ 0 → HasKeyOrder F ns x (Some found) → IsDueIn (Some found)
     elements_due found e h z a =
         let l = lengths_of f in
-        let g = form_known F (list l e) f h there (λ q. cc) in
-        let c = there ∙ ap (λ f. Some f) g in
+        let g = form_known F (list l e) f h is.1 (λ q. cc) in
+        let c = is.1 ∙ ap (λ f. Some f) g in
         let keys = a.1.1 in
         let same : a.1.0 ≡ e = list_element F x e l.width l.least l.greatest c a.1.0 keys.0 in
-        let o = subst (λ (f : Form). Opens (shapes F) (shape_of_form f) own parts) g opens in
+        let o = subst (λ (f : Form). Opens (shapes F) (shape_of_form f) own parts) g is.2 in
         let t : OpensElements 0 e o.0 o.1 parts = subst (λ m. OpensElements m e o.0 o.1 parts) z o.5 in (
           Some a.0,
           (e, o.0, t.1, λ ds after c. collection own o.0 (subst (λ e. HasKeys F x e a.0) same keys) z (subst (λ l. IsOnly F x own l) t.1 only) c),
@@ -192,12 +200,12 @@ module _ (d : Definitions) (x : List ℕ) (f : Form) (own : List ℕ) (parts : L
     value_due (Float n) o has k h t b c l = other_due o (float k.0) k.2 (λ l e q. cc) (λ l e q. cc)
     value_due (ByteList es) o has k h t b c l =
         let l = lengths_of f in
-        let s = form_known F (byte_list l k.0) f k.2 there (λ e. cc) in
+        let s = form_known F (byte_list l k.0) f k.2 is.1 (λ e. cc) in
         numbers_due o es 0 l.width l.least l.greatest k.0 s.0 (byte_there F x l k.0 k.2) h.0 h.1 (λ q kind g z. t q) (b es refl)
     value_due (Numbers es) o has k h t b c l =
         let l = lengths_of f in
         let n = positive es.size k.1 in
-        numbers_due o es n.0 l.width l.least l.greatest k.0.0 (form_known F (list l k.0.0) f k.0.2 there (λ e. cc)) (k.2 k.0.0 k.0.1 ∙ ap (λ n. Some (primitive_form n)) n.1) n.1 h (λ q kind g z. t q) (c es refl)
+        numbers_due o es n.0 l.width l.least l.greatest k.0.0 (form_known F (list l k.0.0) f k.0.2 is.1 (λ e. cc)) (k.2 k.0.0 k.0.1 ∙ ap (λ n. Some (primitive_form n)) n.1) n.1 h (λ q kind g z. t q) (c es refl)
     value_due (ListKind es) o has k h t b c l = by o (l es refl)
       where
         by : (o : Option Ordered) → o ≡ es.order → IsDueIn o

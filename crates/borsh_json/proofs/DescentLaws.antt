@@ -14,6 +14,7 @@ use Rattle.borsh_json.specs.declared.order.Ordered.{Ordered}
 use Rattle.borsh_json.specs.Orders.{ArePrimitives, DecidesFall}
 use Rattle.borsh_json.proofs.FormKinds.{shaped}
 use Rattle.borsh_json.proofs.FoundLaws.{full_primitive}
+use Rattle.borsh_json.proofs.OnlyLaws.{copies_only}
 use Rattle.borsh_json.proofs.OrderLaws.{clash, front}
 use Rattle.borsh_json.proofs.OrderNumbers.{long_tag}
 
@@ -118,6 +119,7 @@ module _ (F : List ℕ → Option Form) where
         let u = d.first_is in
         let v = d.second_is in
         let t = d.passed in
+        let one_times : suc n ≡ 1 * suc n = (let j = suc-mul 0 (suc n) in let z = zero-mul (suc n) in omega (arith, j, z)) in
         record {
           e = e;
           k = k;
@@ -130,8 +132,8 @@ module _ (F : List ℕ → Option Form) where
               ∙ ap (λ l. tag 4 (pos c) ++ l) (append_assoc d.before (first ++ (second ++ d.after)) rest ∙ ap (λ l. d.before ++ l) (append_assoc first (second ++ d.after) rest ∙ ap (λ l. first ++ l) (append_assoc second d.after rest)));
           fits = fits;
           more = two_more (i - 1) c n (length d.after) (omega (arith, a, b, g, u, v, t, len));
-          elements = copies_of (shapes F) n (i - 1) d.before (shaped (F e) p) d.passed (all_left P d.before (first ++ (second ++ d.after)) all);
-          element = of_primitive (shaped (F e) p ∙ ap (λ m. Some (shape.primitive m)) (sym u)) (all_left P first (second ++ d.after) behind);
+          elements = copies_only F n (i - 1) p (copies_of (shapes F) n (i - 1) d.before (shaped (F e) p) d.passed (all_left P d.before (first ++ (second ++ d.after)) all));
+          element = copies_only F n 1 p (copies_of (shapes F) n 1 first (shaped (F e) p) (u ∙ one_times) (all_left P first (second ++ d.after) behind));
           falls = subst (λ k. IsAtLeast F (a_value k ∷ []) (first ++ (second ++ (d.after ++ rest))) (second ++ (d.after ++ rest))) (sym s.1) (packed_with first second u v d.falls (second ++ (d.after ++ rest)) (d.after ++ rest));
         }
 

@@ -24,6 +24,7 @@ use Rattle.borsh_json.specs.Descents.{HasDescent, PrimitivesDescend}
 use Rattle.borsh_json.specs.Forms.{Form, sequence as sequence_form, primitive as primitive_form, form_of, shape_of_form, shapes}
 use Rattle.borsh_json.specs.Found.{forms_of, names_of}
 use Rattle.borsh_json.specs.NoJson.{IsOutOfOrder}
+use Rattle.borsh_json.specs.Only.{AreOnly}
 use Rattle.borsh_json.specs.Ordered.{a_value, IsAtLeast}
 use Rattle.borsh_json.specs.Frames.{IsElementFall, IsOf, IsPath, NoneFalls, first_steps}
 use Rattle.borsh_json.specs.InOrder.{Step, element as element_step}
@@ -87,13 +88,13 @@ module _ (d : Definitions) (w : Writing) (p : Place) (a : IsWritingAt d w p) (z 
   l = last_part (forms_of d) (root_of d.plan.now) i a.mark.1 starts (subst (λ (xs : List (List ℕ)). Nested (forms_of d) (root_of d.plan.now) (opened a.mark.0 a.mark.1 xs ∷ a.state.outer) a.state.done) names a.state.nested)
 
   its_form : l.partly.form ≡ sequence_form 4 0 4294967295 e
-  its_form = let q : Some l.partly.form ≡ Some (sequence_form 4 0 4294967295 e) = sym l.partly.defined ∙ order.1.0 in cc
+  its_form = let q : Some l.partly.form ≡ Some (sequence_form 4 0 4294967295 e) = sym l.partly.opened.1 ∙ order.1.0 in cc
 
   -- the elements that are read, and the next one
   listed : (count : ℕ) × (l.partly.own ≡ tag 4 (pos count)) × (l.partly.read ≡ replicate (length l.partly.read) e) × (l.part ∷ z ∷ zs ≡ replicate (suc (suc (length zs))) e) × (count ≡ length l.partly.read + suc (suc (length zs))) × (count ≤ 4294967295)
   listed =
       let t = l.partly in
-      let o = subst (λ (f : Form). Opens C (shape_of_form f) t.own (t.read ++ l.part ∷ z ∷ zs)) its_form t.opens in
+      let o = subst (λ (f : Form). Opens C (shape_of_form f) t.own (t.read ++ l.part ∷ z ∷ zs)) its_form t.opened.2 in
       let u = unpacked (packed_size (C e)) e o.0 o.1 t.read (z ∷ zs) l.part o.5 in
       let v = parted o.0 e t.read (l.part ∷ z ∷ zs) u.1 in
       (o.0, o.4 ∙ ap (λ b. tag 4 (pos o.0) ++ b) u.0 ∙ append-nil (tag 4 (pos o.0)), v.0, v.1, v.2, o.3)
@@ -110,8 +111,8 @@ module _ (d : Definitions) (w : Writing) (p : Place) (a : IsWritingAt d w p) (z 
       let b : w.bytes.now ≡ l.until ++ (l.bytes ++ w.walk.left.now) = s.halved.joined ∙ ap (λ b. b ++ w.walk.left.now) l.is ∙ append_assoc l.until l.bytes w.walk.left.now in
       ap (λ n. drop n w.bytes.now) l.begins ∙ ap (λ b. drop (length l.until) b) b ∙ drop-append_seam l.until (l.bytes ++ w.walk.left.now)
 
-  element : Member C e l.bytes
-  element = subst (λ y. Member C y l.bytes) part_is l.member
+  element : AreOnly (forms_of d) (e ∷ []) l.bytes
+  element = subst (λ y. AreOnly (forms_of d) (y ∷ []) l.bytes) part_is l.member
 
   -- the steps to the next one
   leads : first_steps a.mark.1.0 (suc a.mark.1.1) ≡ element_step (suc (length l.partly.read)) ∷ []
@@ -145,7 +146,7 @@ module _ (d : Definitions) (w : Writing) (p : Place) (a : IsWritingAt d w p) (z 
         bytes_are = ap (λ b. b ++ (t.mid ++ (l.bytes ++ left))) listed.1;
         fits = listed.5;
         more = m;
-        elements = subst (λ xs. Members C xs t.mid) listed.2 t.members;
+        elements = subst (λ xs. AreOnly (forms_of d) xs t.mid) listed.2 t.members;
         element = element;
         falls = subst (λ b. IsAtLeast (forms_of d) (a_value k ∷ []) b left) dropped c;
       } in

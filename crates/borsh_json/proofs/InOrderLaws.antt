@@ -27,7 +27,7 @@ use Rattle.borsh_json.proofs.RepresentsLaws.{bytes_one, kind_one}
 use Rattle.borsh_json.proofs.WrittenLaws.{whole_each}
 
 -- ---- names
-string_no_set : (x e : List ℕ) → x ≡ codes "String" → IsSetName x e → ⊥
+pub string_no_set : (x e : List ℕ) → x ≡ codes "String" → IsSetName x e → ⊥
 string_no_set x e a (inl s) = let q : codes "String" ≡ codes "BTreeSet<" ++ e ++ codes ">" = sym a ∙ s in let h : 83 ≡ 66 = ap (λ l. get_or l 0 0) q in omega (arith, h)
 string_no_set x e a (inr s) = let q : codes "String" ≡ codes "HashSet<" ++ e ++ codes ">" = sym a ∙ s in let h : 83 ≡ 72 = ap (λ l. get_or l 0 0) q in omega (arith, h)
 
@@ -46,7 +46,7 @@ module _ (F : List ℕ → Option Form) where
 
   -- ---- kinds of lists
   -- a list is written as a text, as bytes, as an array or as an object
-  abbrev IsKindOfList : List ℕ → Kind → Type 0
+  abbrev pub IsKindOfList : List ℕ → Kind → Type 0
   IsKindOfList e kind = ((l : Lengths) × (kind ≡ utf8 l)) ⊎ ((l : Lengths) × ((kind ≡ byte_list l e) ⊎ (kind ≡ list l e))) ⊎ ((l : Lengths) × (keys : Keys) × (k : List ℕ) × (v : List ℕ) × (kind ≡ entries l keys k v))
 
   sequence_kind : {x e : List ℕ} {l : Lengths} (kind : Kind) → SequenceKind F x l e kind → IsKindOfList e kind
@@ -55,7 +55,7 @@ module _ (F : List ℕ → Option Form) where
   sequence_kind {l = l} kind (an_object {k = k} {v = v} {keys = keys} m a) = inr (inr (l, keys, k, v, refl))
   sequence_kind {l = l} kind (some_elements a b c d) = inr (inl (l, inr refl))
 
-  list_kind : (x e : List ℕ) (kind : Kind) → HasKind F x kind → IsList F x e → IsKindOfList e kind
+  pub list_kind : (x e : List ℕ) (kind : Kind) → HasKind F x kind → IsList F x e → IsKindOfList e kind
   list_kind x e kind (inl z) s = absurd (full_list F s z.0)
   list_kind x e kind (inr d) s =
       let q : Some d.1 ≡ Some (sequence 4 0 4294967295 e) = sym d.2 ∙ s in

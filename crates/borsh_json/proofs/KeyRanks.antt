@@ -1,21 +1,27 @@
 -- The order of the keys of objects is that of their bytes.
-use Rattle.std.proofs.Common.{◌≡◌, inl, inr, ℕ, ◌<◌, ◌^◌, List, [], ◌∷◌, ◌++◌, length, Bool, true, false, Option, refl, sym, ◌∙◌, ap, subst, arith, ℤ, pos, codes, nat_le, if◌then◌else◌, int_cmp, Less}
+use Rattle.std.proofs.Common.{◌≡◌, ◌⊎◌, inl, inr, ℕ, ◌<◌, ◌^◌, List, [], ◌∷◌, ◌++◌, length, Bool, true, false, Option, refl, sym, ◌∙◌, ap, subst, arith, ℤ, ◌<ℤ◌, pos, codes, nat_le, if◌then◌else◌, int_cmp, Ordering, Less, Equal, Greater}
+use Rattle.std.specs.Cmp.{int_ranks}
+use Rattle.std.specs.Ordering.{MatchOrdering}
 use Rattle.std.specs.Str.Parse.{signed_digits_value}
-use Rattle.json.specs.Json.{null, number, string}
+use Rattle.json.specs.Json.{Json, null, number, string}
 use Rattle.borsh_walks.specs.Container.{tag}
 use Rattle.borsh_plan.specs.declared.named.Named.{Named}
+use Rattle.borsh_values.proofs.MemberLaws.{same_front}
 use Rattle.borsh_json.specs.declared.kinds.KeyKind.{KeyKind}
 use Rattle.borsh_json.specs.declared.kinds.KeyKind.TheVariants.{Text as TextKeys, Number as NumberKeys}
-use Rattle.borsh_json.specs.Forms.{Form, sequence}
-use Rattle.borsh_json.specs.Ordered.{a_value, IsAtLeast}
+use Rattle.borsh_json.specs.Forms.{Form, primitive, sequence}
+use Rattle.borsh_json.specs.Ordered.{numbers as number_values, a_value, IsAtLeast}
 use Rattle.borsh_json.specs.Places.{AreKeysOf}
 use Rattle.borsh_json.specs.Represents.{SaysFirst}
-use Rattle.borsh_json.specs.Table.{Lengths, Keys, texts, numbers, AreKeys, a_text, HasKind, utf8, whole, InRange, Says, key_json, key_order}
+use Rattle.borsh_json.specs.Table.{Lengths, Keys, texts, numbers, AreKeys, a_text, HasKind, utf8, whole, InRange, Part, Says, key_json, key_order}
 use Rattle.borsh_json.proofs.DescentLaws.{numbers_at_least, texts_at_least}
 use Rattle.borsh_json.proofs.FoundLaws.{full_list}
 use Rattle.borsh_json.proofs.KindOrders.{text_order, number_order}
+use Rattle.borsh_json.proofs.NameLaws.{keys_full}
 use Rattle.borsh_json.proofs.NumberLaws.{value_of}
 use Rattle.borsh_json.proofs.OpeningLaws.{one_string}
+use Rattle.borsh_json.proofs.OrderLaws.{front, value_fronts, some_bytes, texts_tell}
+use Rattle.borsh_json.proofs.OrderNumbers.{as_naturals, long_tag, same_cmp, sign_tested}
 use Rattle.borsh_json.proofs.RepresentsLaws.{kind_one, kind_small, short}
 
 as_number : (b : Bool) (s t : List ℕ) → (if b then string s else number s) ≡ number t → s ≡ t
@@ -60,3 +66,42 @@ module _ (F : List ℕ → Option Form) (k : List ℕ) where
       let above = subst (λ (keys : Keys). key_order keys (s, null) (t, null) ≡ Less → ⊥) o.0 d in
       let c = numbers_at_least F k n.size n.is_signed x.0 y.0 bs cs (number_order F k n.size n.is_signed n.is_non_zero b o.1) x.1 y.1 (λ z. above (sym same ∙ z)) in
       subst (λ other. IsAtLeast F (a_value k ∷ []) (own ++ bs) (other ++ cs)) (sym y.2) (subst (λ own. IsAtLeast F (a_value k ∷ []) (own ++ bs) (tag n.size y.0 ++ cs)) (sym x.2) c)
+
+  -- ---- keys that ascend are no such
+  tag_one : (n : ℕ) (signed : Bool) (y z : ℤ) → 0 < n → InRange n signed y → InRange n signed z → tag n y ≡ tag n z → y ≡ z
+  tag_one n signed y z some a b e =
+      let g = as_naturals n signed y z a b (λ s. sym (sign_tested n y (tag n y) some (subst (λ s. InRange n s y) s a) refl) ∙ sign_tested n z (tag n y) some (subst (λ s. InRange n s z) s b) e) in
+      let q : int_cmp y z ≡ Equal = sym g.6 ∙ sym (same_cmp n g.0 g.1 (tag n y) (tag n z) g.2 g.3 g.4 g.5 e) in
+      subst (λ r. MatchOrdering r (y <ℤ z) (y ≡ z) (z <ℤ y)) q (int_ranks y z)
+
+  not_less : (o p : Ordering) (T : Type 0) → (o ≡ Greater) ⊎ ((o ≡ Equal) × T) → o ≡ p → p ≡ Less → ⊥
+  not_less o p T (inl a) q e = let k : Greater ≡ Less = sym a ∙ q ∙ e in cc
+  not_less o p T (inr a) q e = let k : Equal ≡ Less = sym a.0 ∙ q ∙ e in cc
+
+  pub keys_rise : (keys : Keys) (s t own other bs cs : List ℕ) → AreKeys F k keys → SaysFirst F k (key_json keys s) own [] → SaysFirst F k (key_json keys t) other [] → key_order keys (s, null) (t, null) ≡ Less → IsAtLeast F (a_value k ∷ []) (own ++ bs) (other ++ cs) → ⊥
+  keys_rise texts s t own other bs cs a p q e h =
+      let x = text_bytes s own a p in
+      let y = text_bytes t other a q in
+      texts_tell F k [] (own ++ bs) (other ++ cs) bs cs Less (text_order F k a) (inr (s, t, x.0, y.0, ap (λ o. o ++ bs) x.1, ap (λ o. o ++ cs) y.1, sym e)) h
+  keys_rise (numbers n) s t own other bs cs a p q e h =
+      let has : HasKind F k (whole n a.1 a.2) = inr (keys_full F k (numbers n) a, primitive n, a.0, sym a.3) in
+      let x = number_bytes n a.1 a.2 s own has p in
+      let y = number_bytes n a.1 a.2 t other has q in
+      let f = front F h in
+      let v = value_fronts F k (number_values n a.1) f.l f.r f.o f.us (number_order F k n a.1 a.2 a has) f.fronts in
+      let some = some_bytes F k n a.1 (number_order F k n a.1 a.2 a has) in
+      let left = same_front own f.l bs f.A f.left (ap (λ l. length l) x.2 ∙ long_tag n x.0 ∙ sym (ap (λ l. length l) v.4 ∙ long_tag n v.0)) in
+      let right = same_front other f.r cs f.B f.right (ap (λ l. length l) y.2 ∙ long_tag n y.0 ∙ sym (ap (λ l. length l) v.5 ∙ long_tag n v.1)) in
+      let one = tag_one n a.1 v.0 x.0 some v.2 x.1 (sym v.4 ∙ sym left.0 ∙ x.2) in
+      let two = tag_one n a.1 v.1 y.0 some v.3 y.1 (sym v.5 ∙ sym right.0 ∙ y.2) in
+      not_less f.o (key_order (numbers n) (s, null) (t, null)) _ f.behind (v.6 ∙ ap (λ z. int_cmp z v.1) one ∙ ap (λ z. int_cmp x.0 z) two ∙ ap (λ z. int_cmp z y.0) (sym x.3) ∙ ap (λ z. int_cmp (signed_digits_value 10 s) z) (sym y.3)) e
+
+  -- keys have no parts
+  pub key_parts : (keys : Keys) (j : Json) (own : List ℕ) (qs : List Part) → AreKeys F k keys → SaysFirst F k j own qs → qs ≡ []
+  key_parts texts j own qs a f =
+      let l : Lengths = record { width = 4; least = 0; greatest = 4294967295 } in
+      let h : HasKind F k (utf8 l) = inr (full_list F a.1, sequence 4 0 4294967295 (codes "u8"), a.1, a_text (a.0, refl) a.2) in
+      (subst (λ kind. Says F kind j own qs) (kind_one F f.1 h) f.2).4
+  key_parts (numbers n) j own qs a f =
+      let has : HasKind F k (whole n a.1 a.2) = inr (keys_full F k (numbers n) a, primitive n, a.0, sym a.3) in
+      (subst (λ kind. Says F kind j own qs) (kind_one F f.1 has) f.2).3

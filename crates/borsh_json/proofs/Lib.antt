@@ -25,11 +25,16 @@ pub mod LoopLaws
 pub mod ReadingLaws
 pub mod WritingLaws
 pub mod WritingPlaces
+pub mod OnlyLaws
+pub mod CutLaws
 pub mod NestedLaws
 pub mod WritingSteps
 pub mod FallLaws
 pub mod CheckedLaws
 pub mod Lockstep
+pub mod NoJsonLaws
+pub mod DescentJson
+pub mod CompleteLaws
 pub mod WriterLaws
 pub mod MemberLaws
 pub mod EachLaws

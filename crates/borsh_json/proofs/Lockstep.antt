@@ -1,5 +1,5 @@
 -- JSON that says bytes is in order if they were checked: it has the parts that are due, in the same order.
-use Rattle.std.proofs.Common.{◌≡◌, inl, inr, ℕ, suc, zero, ◌+◌, ◌-◌, ◌*◌, ◌<◌, ◌≤◌, List, [], ◌∷◌, ◌++◌, length, map, replicate, drop, Bool, false, Option, Some, None, refl, sym, ◌∙◌, ap, subst, arith, append_assoc, append-nil, length-append}
+use Rattle.std.proofs.Common.{◌≡◌, inl, inr, ℕ, suc, zero, ◌-◌, ◌*◌, ◌<◌, ◌≤◌, List, [], ◌∷◌, ◌++◌, length, map, replicate, drop, Option, Some, None, refl, sym, ◌∙◌, ap, subst, arith, append_assoc, append-nil, length-append}
 use Rattle.std.specs.Prelude.{ℤ, pos, codes, All, IfSome}
 use Rattle.std.specs.List.{AllByRecursion}
 use Rattle.std.proofs.Math.Nat.{suc-mul, zero-mul}
@@ -27,20 +27,20 @@ use Rattle.borsh_json.proofs.FoundLaws.{full_list, full_primitive, list_element,
 use Rattle.borsh_json.proofs.InOrderLaws.{items_said, keys_one, whole_in_order}
 use Rattle.borsh_json.proofs.WrittenLaws.{divided}
 use Rattle.borsh_json.proofs.LeafLaws.{primitive_sized, float_length}
-use Rattle.borsh_json.proofs.NameLaws.{packed_primitive}
+use Rattle.borsh_json.proofs.NameLaws.{keys_full, packed_primitive}
 use Rattle.borsh_json.proofs.OrderLaws.{clash, moved}
 use Rattle.borsh_json.proofs.OrderNumbers.{long_tag}
 use Rattle.borsh_json.proofs.ReaderLaws.{mapped, field_front, uncons, split, no_parts}
 use Rattle.borsh_json.proofs.RepresentsLaws.{hex_one, kind_one, bytes_one}
 
 -- all bytes are below 256
-abbrev AreBytes : List ℕ → Type 0
+abbrev pub AreBytes : List ℕ → Type 0
 AreBytes bytes = All (λ b. b < 256) bytes
 
-behind : (xs ys : List ℕ) → AreBytes (xs ++ ys) → AreBytes ys
+pub behind : (xs ys : List ℕ) → AreBytes (xs ++ ys) → AreBytes ys
 behind xs ys h = all_right (λ b. b < 256) xs ys h
 
-before : (xs ys : List ℕ) → AreBytes (xs ++ ys) → AreBytes xs
+pub before : (xs ys : List ℕ) → AreBytes (xs ++ ys) → AreBytes xs
 before xs ys h = all_left (λ b. b < 256) xs ys h
 
 -- ---- names of what is due
@@ -54,14 +54,14 @@ due_parts [] ds = refl
 due_parts (x ∷ xs) ds = ap (λ l. x ∷ l) (due_parts xs ds)
 
 -- the parts are all of one name
-abbrev AreNamed : List ℕ → List Part → Type 0
+abbrev pub AreNamed : List ℕ → List Part → Type 0
 AreNamed e qs = AllByRecursion (λ (q : Part). q.0 ≡ e) qs
 
-list_named : (e : List ℕ) (js : Items) → AreNamed e (list_parts e js)
+pub list_named : (e : List ℕ) (js : Items) → AreNamed e (list_parts e js)
 list_named e no_items = tt
 list_named e (item j js) = (refl, list_named e js)
 
-named_front : (e : List ℕ) (qs rs : List Part) → AreNamed e (qs ++ rs) → AreNamed e qs
+pub named_front : (e : List ℕ) (qs rs : List Part) → AreNamed e (qs ++ rs) → AreNamed e qs
 named_front e [] rs h = tt
 named_front e (q ∷ qs) rs h = (h.0, named_front e qs rs h.1)
 
@@ -74,7 +74,7 @@ module _ (F : List ℕ → Option Form) where
   abbrev C : List ℕ → Option Shape
   C = shapes F
 
-  defined : {x : List ℕ} {kind : Kind} (d : Form) → F x ≡ Some d → (HasNoBytes F x → ⊥) → HasKind F x kind → DefinedKind F x d kind
+  pub defined : {x : List ℕ} {kind : Kind} (d : Form) → F x ≡ Some d → (HasNoBytes F x → ⊥) → HasKind F x kind → DefinedKind F x d kind
   defined d c n (inl h) = absurd (n h.0)
   defined {x = x} {kind = kind} d c n (inr h) =
       let g : Some h.1 ≡ Some d = sym h.2 ∙ c in
@@ -82,29 +82,29 @@ module _ (F : List ℕ → Option Form) where
       subst (λ d. DefinedKind F x d kind) e h.3
 
   -- ---- parts and names
-  -- the parts have these names, but for values without bytes, which are no parts, and tuples of two, which may be two parts
-  data Match : List Part → List (List ℕ) → Type 0 where
+  -- the parts have these names, but for values without bytes, which are no parts, and tuples of two, which may be two parts if the first has bytes
+  pub data Match : List Part → List (List ℕ) → Type 0 where
     no_names : Match [] []
     silent : {x : List ℕ} {ps : List Part} {xs : List (List ℕ)} → HasNoBytes F x → Match ps xs → Match ps (x ∷ xs)
     named_so : {x : List ℕ} {j : Json} {ps : List Part} {xs : List (List ℕ)} → Match ps xs → Match ((x, j) ∷ ps) (x ∷ xs)
-    paired : {e k v : List ℕ} {ps : List Part} {xs : List (List ℕ)} → F e ≡ Some (tuple (k ∷ v ∷ [])) → Match ps (k ∷ v ∷ xs) → Match ps (e ∷ xs)
+    paired : {e k v : List ℕ} {ps : List Part} {xs : List (List ℕ)} → (HasNoBytes F k → ⊥) → F e ≡ Some (tuple (k ∷ v ∷ [])) → Match ps (k ∷ v ∷ xs) → Match ps (e ∷ xs)
 
-  match_list : (e : List ℕ) (qs : List Part) {ps : List Part} {xs : List (List ℕ)} → AreNamed e qs → Match ps xs → Match (qs ++ ps) (replicate (length qs) e ++ xs)
+  pub match_list : (e : List ℕ) (qs : List Part) {ps : List Part} {xs : List (List ℕ)} → AreNamed e qs → Match ps xs → Match (qs ++ ps) (replicate (length qs) e ++ xs)
   match_list e [] a m = m
   match_list e (q ∷ qs) {ps = ps} {xs = xs} a m = subst (λ y. Match (q ∷ (qs ++ ps)) (y ∷ (replicate (length qs) e ++ xs))) a.0 (named_so (match_list e qs a.1 m))
 
-  match_entries : (keys : Keys) (e k v : List ℕ) → F e ≡ Some (tuple (k ∷ v ∷ [])) → (es : List Entry) {ps : List Part} {xs : List (List ℕ)} → Match ps xs → Match (entry_parts keys k v es ++ ps) (replicate (length es) e ++ xs)
-  match_entries keys e k v c [] m = m
-  match_entries keys e k v c (x ∷ es) m = paired c (named_so (named_so (match_entries keys e k v c es m)))
+  pub match_entries : (keys : Keys) (e k v : List ℕ) → (HasNoBytes F k → ⊥) → F e ≡ Some (tuple (k ∷ v ∷ [])) → (es : List Entry) {ps : List Part} {xs : List (List ℕ)} → Match ps xs → Match (entry_parts keys k v es ++ ps) (replicate (length es) e ++ xs)
+  match_entries keys e k v full c [] m = m
+  match_entries keys e k v full c (x ∷ es) m = paired full c (named_so (named_so (match_entries keys e k v full c es m)))
 
-  match_row : (xs : List (List ℕ)) (js : Items) (qs : List Part) {ps : List Part} {ys : List (List ℕ)} → row_parts xs js ≡ Some qs → Match ps ys → Match (qs ++ ps) (xs ++ ys)
+  pub match_row : (xs : List (List ℕ)) (js : Items) (qs : List Part) {ps : List Part} {ys : List (List ℕ)} → row_parts xs js ≡ Some qs → Match ps ys → Match (qs ++ ps) (xs ++ ys)
   match_row [] no_items qs {ps = ps} {ys = ys} e m = subst (λ (qs : List Part). Match (qs ++ ps) ys) (let q : [] ≡ qs = cc in q) m
   match_row [] (item j js) qs e m = cc
   match_row (x ∷ xs) js qs {ps = ps} {ys = ys} e m =
       let f = row_front x xs js qs e in
       subst (λ (qs : List Part). Match (qs ++ ps) (x ∷ (xs ++ ys))) (sym f.4) (named_so (match_row xs f.1 f.2 f.3 m))
 
-  match_fields : (fs : List (List ℕ × List ℕ)) (ms : Members) (qs : List Part) {ps : List Part} {ys : List (List ℕ)} → field_parts fs ms ≡ Some qs → Match ps ys → Match (qs ++ ps) (map (λ (f : List ℕ × List ℕ). f.1) fs ++ ys)
+  pub match_fields : (fs : List (List ℕ × List ℕ)) (ms : Members) (qs : List Part) {ps : List Part} {ys : List (List ℕ)} → field_parts fs ms ≡ Some qs → Match ps ys → Match (qs ++ ps) (map (λ (f : List ℕ × List ℕ). f.1) fs ++ ys)
   match_fields [] ms qs {ps = ps} {ys = ys} e m = subst (λ (qs : List Part). Match (qs ++ ps) ys) (let q : [] ≡ qs = cc in q) m
   match_fields (f ∷ fs) ms qs {ps = ps} {ys = ys} e m =
       let t = field_front f fs ms qs e in
@@ -171,12 +171,12 @@ module _ (F : List ℕ → Option Form) where
   reached (named_so {x = x} {ps = ps} {xs = xs} m) ds others all q a =
       let f = due_first ds others x xs all q a in
       (f.0, subst (λ l. Match ps l) (sym f.1) m, f.2)
-  reached (paired {e = e} {k = k} {v = v} {xs = xs} c m) ds others all q a =
+  reached (paired {e = e} {k = k} {v = v} {xs = xs} full c m) ds others all q a =
       let f = due_first ds others e xs all q a in
       reached m (one k ∷ one v ∷ f.0) others all (ap (λ l. k ∷ v ∷ l) f.1) (parted c f.2)
 
   -- ---- numbers in a row
-  sized : (k : Kind) (n : ℕ) (j : Json) (own : List ℕ) (qs : List Part) → HasSize k n → Says F k j own qs → (length own ≡ n) × (qs ≡ [])
+  pub sized : (k : Kind) (n : ℕ) (j : Json) (own : List ℕ) (qs : List Part) → HasSize k n → Says F k j own qs → (length own ≡ n) × (qs ≡ [])
   sized no_bytes n j own qs h s = absurd h
   sized truth n j own qs h s = (ap (λ l. length l) s.2 ∙ sym h, s.3)
   sized (whole m signed non_zero) n j own qs h s = (ap (λ l. length l) s.2.2 ∙ long_tag m s.2.0 ∙ sym h.0, s.3)
@@ -198,7 +198,7 @@ module _ (F : List ℕ → Option Form) where
       sized (primitive_kind e (suc n)) (suc n) j own qs (primitive_sized e (suc n)) (subst (λ (k : Kind). Says F k j own qs) k s.2)
 
   -- the parts match what is due of the bytes; the first of them may be numbers that were passed with the list that has them
-  data Locked (others : List Due) (left : List ℕ) : List Part → List ℕ → Type 0 where
+  pub data Locked (others : List Due) (left : List ℕ) : List Part → List ℕ → Type 0 where
     due : {ps : List Part} {bytes : List ℕ} (ds : List Due) → Match ps (due_names ds) → AreChecked F (ds ++ others) (bytes ++ left) → Locked others left ps bytes
     number : {e bs : List ℕ} {j : Json} {ps : List Part} (n : ℕ) (own : List ℕ) → F e ≡ Some (primitive (suc n)) → length own ≡ suc n → Locked others left ps bs → Locked others left ((e, j) ∷ ps) (own ++ bs)
 
@@ -219,13 +219,15 @@ module _ (F : List ℕ → Option Form) where
 
   -- ---- what JSON says, as the definition opens it
   -- JSON says the own bytes and the parts, behind which are others; more bytes of them are in the definition's own, which then has these names; so the parts match what is due
-  record Opened (s : Shape) (own bs : List ℕ) (qs ps : List Part) : Type 0 where
-    more : List ℕ
-    rest : List ℕ
-    names : List (List ℕ)
-    bytes_are : bs ≡ more ++ rest
-    opens : Opens C s (own ++ more) names
-    locked : (others : List Due) (left : List ℕ) (ds : List Due) (xs : List (List ℕ)) → due_names ds ≡ names ++ xs → Match ps xs → AreChecked F (ds ++ others) (rest ++ left) → Locked others left (qs ++ ps) bs
+  pub record Opened (s : Shape) (own bs : List ℕ) (qs ps : List Part) : Type 0 where
+    pub more : List ℕ
+    pub rest : List ℕ
+    pub names : List (List ℕ)
+    pub bytes_are : bs ≡ more ++ rest
+    pub opens : Opens C s (own ++ more) names
+    -- those that are left have the bytes behind the definition's own
+    pub said : (xs : List (List ℕ)) → Match ps xs → HaveBytes F (qs ++ ps) bs → (front : List Part) × (left : List Part) × (qs ++ ps ≡ front ++ left) × Match left (names ++ xs) × HaveBytes F left rest
+    pub locked : (others : List Due) (left : List ℕ) (ds : List Due) (xs : List (List ℕ)) → due_names ds ≡ names ++ xs → Match ps xs → AreChecked F (ds ++ others) (rest ++ left) → Locked others left (qs ++ ps) bs
 
   module _ (own bs : List ℕ) (qs ps : List Part) where
     parts_open : (s : Shape) (names : List (List ℕ)) → Opens C s own names → ((xs : List (List ℕ)) → Match ps xs → Match (qs ++ ps) (names ++ xs)) → Opened s own bs qs ps
@@ -235,6 +237,7 @@ module _ (F : List ℕ → Option Form) where
       names = names;
       bytes_are = refl;
       opens = subst (λ b. Opens C s b names) (sym (append-nil own)) o;
+      said = λ xs n h. ([], qs ++ ps, refl, m xs n, h);
       locked = λ others left ds xs e n a. due ds (subst (λ l. Match (qs ++ ps) l) (sym e) (m xs n)) a;
     }
 
@@ -277,17 +280,18 @@ module _ (F : List ℕ → Option Form) where
           names = [];
           bytes_are = t.4;
           opens = numbers_open n (length qs) (own ++ t.0) t.0 c a.3.0 a.3.1 is v.0 fine;
+          said = λ xs m k. (qs, ps, refl, m, t.3);
           locked = λ others left ds xs q m k. subst (λ l. Locked others left (qs ++ ps) l) (sym t.4) (v.1 others left ps t.1 (due ds (subst (λ l. Match ps l) (sym q) m) k));
         }
 
-  listed : {k : ℤ} {v p : List ℕ} {vs : List (ℤ × List ℕ × List ℕ)} → IsVariant k v p vs → IsListedVariant k p (map (λ (v : ℤ × List ℕ × List ℕ). (v.0, v.2)) vs)
+  pub listed : {k : ℤ} {v p : List ℕ} {vs : List (ℤ × List ℕ × List ℕ)} → IsVariant k v p vs → IsListedVariant k p (map (λ (v : ℤ × List ℕ × List ℕ). (v.0, v.2)) vs)
   listed this = first_variant
   listed (that i) = later_variant (listed i)
 
   row_opens : (xs : List (List ℕ)) (j : Json) (own bs : List ℕ) (qs ps : List Part) → Says F (row xs) j own qs → Opened (shape.product xs) own bs qs ps
   row_opens xs j own bs qs ps t = parts_open own bs qs ps (shape.product xs) xs (t.0, refl) (λ ys m. match_row xs t.1 qs t.3 m)
 
-  value_opens : (x : List ℕ) (f : Form) (kind : Kind) (j : Json) (own bs : List ℕ) (qs ps : List Part) → DefinedKind F x f kind → F x ≡ Some f → Says F kind j own qs → HaveBytes F (qs ++ ps) bs → AreBytes (own ++ bs) → Opened (shape_of_form f) own bs qs ps
+  pub value_opens : (x : List ℕ) (f : Form) (kind : Kind) (j : Json) (own bs : List ℕ) (qs ps : List Part) → DefinedKind F x f kind → F x ≡ Some f → Says F kind j own qs → HaveBytes F (qs ++ ps) bs → AreBytes (own ++ bs) → Opened (shape_of_form f) own bs qs ps
   value_opens x (primitive n) kind j own bs qs ps d c s h small =
       let t = sized (primitive_kind x n) n j own qs (primitive_sized x n) (subst (λ (k : Kind). Says F k j own qs) d s) in
       none_open own bs qs ps (shape.primitive n) (t.0, before own bs small, refl) t.1
@@ -296,7 +300,7 @@ module _ (F : List ℕ → Option Form) where
   value_opens x (sequence w lo hi e) kind j own bs qs ps (some_bytes t b) c (inr s) h small = array_opens w lo hi e j own bs qs ps s h small (packed_size (C e)) refl
   value_opens x (sequence w lo hi e) kind j own bs qs ps (an_object {k = k} {v = v} {keys = keys} m a) c s h small =
       let t = map_elements F w lo hi e c m in
-      parts_open own bs qs ps (shape.sequence w lo hi e) (replicate (length s.1) e) (elements_open w lo hi e (length s.1) own (ap (λ d. packed_size d) (shaped (F e) t)) s.5.0 s.5.1 s.5.2) (λ xs n. subst (λ (l : List Part). Match (l ++ ps) (replicate (length s.1) e ++ xs)) (sym s.6) (match_entries keys e k v t s.1 n))
+      parts_open own bs qs ps (shape.sequence w lo hi e) (replicate (length s.1) e) (elements_open w lo hi e (length s.1) own (ap (λ d. packed_size d) (shaped (F e) t)) s.5.0 s.5.1 s.5.2) (λ xs n. subst (λ (l : List Part). Match (l ++ ps) (replicate (length s.1) e ++ xs)) (sym s.6) (match_entries keys e k v (keys_full F k keys a) t s.1 n))
   value_opens x (sequence w lo hi e) kind j own bs qs ps (some_elements a b y z) c s h small = array_opens w lo hi e j own bs qs ps s h small (packed_size (C e)) refl
   value_opens x (tuple xs) kind j own bs qs ps d c s h small = row_opens xs j own bs qs ps (subst (λ (k : Kind). Says F k j own qs) d s)
   value_opens x (unnamed []) kind j own bs qs ps d c s h small = row_opens [] j own bs qs ps (subst (λ (k : Kind). Says F k j own qs) d s)
@@ -357,7 +361,7 @@ module _ (F : List ℕ → Option Form) where
     passed (next_part {bs = bs} kind own qs h s r) k small = passed r (onward k (kind, h, s) r small refl) (behind own bs small)
 
   -- ---- elements that ascend
-  longer : {ts : List Compared} {bs cs : List ℕ} (more most : List ℕ) → IsAtLeast F ts bs cs → IsAtLeast F ts (bs ++ more) (cs ++ most)
+  pub longer : {ts : List Compared} {bs cs : List ℕ} (more most : List ℕ) → IsAtLeast F ts bs cs → IsAtLeast F ts (bs ++ more) (cs ++ most)
   longer more most all_equal = all_equal
   longer more most (first_above {t = t} {ts = ts} l r bs cs us f) = moved F {ts = t ∷ ts} refl (sym (append_assoc l bs more)) (sym (append_assoc r cs most)) (first_above l r (bs ++ more) (cs ++ most) us f)
   longer more most (first_equal {t = t} {ts = ts} {bs = bs} {cs = cs} l r us f h) = moved F {ts = t ∷ ts} refl (sym (append_assoc l bs more)) (sym (append_assoc r cs most)) (first_equal l r us f (longer more most h))
@@ -395,13 +399,13 @@ module _ (F : List ℕ → Option Form) where
 
   -- ---- a list as an array
   -- a list of any length has its count in four bytes
-  in_four : (l : Lengths) (d e : List ℕ) → sequence 4 0 4294967295 e ≡ sequence l.width l.least l.greatest d → (k : ℕ) (cs own : List ℕ) → IsPrefixed l k cs own → (k ≤ 4294967295) × (own ≡ tag 4 (pos k) ++ cs)
+  pub in_four : (l : Lengths) (d e : List ℕ) → sequence 4 0 4294967295 e ≡ sequence l.width l.least l.greatest d → (k : ℕ) (cs own : List ℕ) → IsPrefixed l k cs own → (k ≤ 4294967295) × (own ≡ tag 4 (pos k) ++ cs)
   in_four l d e q k cs own p =
       let w : l.width ≡ 4 = cc in
       let g : l.greatest ≡ 4294967295 = cc in
       (subst (λ n. k ≤ n) g p.1, p.2 ∙ ap (λ w. tag w (pos k) ++ cs) w)
 
-  array_counts : (x e : List ℕ) (kind : Kind) (j : Json) (items : Items) (own : List ℕ) (qs : List Part) → HasKind F x kind → IsList F x e → IsListKind kind → j ≡ array items → Says F kind j own qs → (length qs ≤ 4294967295) × (own ≡ tag 4 (pos (length qs)) ++ [])
+  pub array_counts : (x e : List ℕ) (kind : Kind) (j : Json) (items : Items) (own : List ℕ) (qs : List Part) → HasKind F x kind → IsList F x e → IsListKind kind → j ≡ array items → Says F kind j own qs → (length qs ≤ 4294967295) × (own ≡ tag 4 (pos (length qs)) ++ [])
   array_counts x e kind j items own qs h c (l, d, inl k) a s =
       let f = form_known F (list l d) (sequence 4 0 4294967295 e) (subst (λ (k : Kind). HasKind F x k) k h) c (λ z. cc) in
       let t = subst (λ (k : Kind). Says F k j own qs) k s in

@@ -198,7 +198,7 @@ module _ (F : List ℕ → Option Form) where
   parts_tell x ps ts L R h = silent_tells (a_value x) ts (map (λ p. a_value p) ps) L R (λ l r p vs f. value_fronts x (parts ps) l r p vs h f) (parts ps, h, (refl, refl, refl, refl))
 
   -- ---- numbers and texts
-  some_bytes : (x : List ℕ) (n : ℕ) (signed : Bool) → HasOrder F x (numbers n signed) → 0 < n
+  pub some_bytes : (x : List ℕ) (n : ℕ) (signed : Bool) → HasOrder F x (numbers n signed) → 0 < n
   some_bytes x n signed (inl (z, e)) = cc
   some_bytes x zero signed (inr (z, inl f)) = absurd (z (zeroed (shape.primitive 0) [] (ap (λ o. option_map shape_of_form o) f.0) refl (λ p i. elim i [ ])))
   some_bytes x (suc n) signed (inr (z, inl f)) = omega arith

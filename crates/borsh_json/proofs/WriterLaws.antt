@@ -4,7 +4,7 @@ use Rattle.std.proofs.Math.Seq.{drop-append_seam}
 use Rattle.json.specs.Json.{null}
 use Rattle.json.specs.Token.{Token}
 use Rattle.json.specs.Tree.{json_tokens}
-use Rattle.borsh_walks.specs.Container.{Shape, product, Member, of_primitive, of_sequence, of_parts, of_choice, Members, no_members, more_members}
+use Rattle.borsh_walks.specs.Container.{Shape, product, Member, of_primitive, of_sequence, of_parts, of_choice, Members, more_members}
 use Rattle.borsh_walks.specs.Definitions.{definitions_in}
 use Rattle.borsh_walks.specs.declared.definition.Definition.{Definition}
 use Rattle.borsh_plan.specs.Names.{name_of}
@@ -43,6 +43,7 @@ use Rattle.borsh_json.specs.declared.position.Position.{Position}
 use Rattle.borsh_json.specs.declared.sources.EntryKey.{EntryKey}
 use Rattle.borsh_json.specs.declared.writing.Writing.{Writing}
 use Rattle.borsh_json.specs.Checked.{one, NeedsNoOrder, IsOnly, AreChecked, plain}
+use Rattle.borsh_json.specs.Only.{IsOpened, AreOnly, none_only, empty_only}
 use Rattle.borsh_json.specs.Errors.{error_of}
 use Rattle.borsh_json.specs.Forms.{Form, form_of, forms_in, shape_of_form, shapes, HasNoBytes}
 use Rattle.borsh_json.specs.Found.{forms_of, names_of}
@@ -55,12 +56,12 @@ use Rattle.borsh_json.specs.Orders.{HasKeyOrder, KindHasOrder, OrderedBy, IsNotB
 use Rattle.borsh_json.specs.Leaves.{Adds, IsOpenedAs, WritesLeaf, RefusesKey, RefusesValue, long_of}
 use Rattle.borsh_json.specs.Places.{IsAt, AreKeysOf, IsKindOf, lengths_of}
 use Rattle.borsh_json.specs.Represents.{SaysFirst}
-use Rattle.borsh_json.specs.Table.{Keys, Kind, no_bytes, whole, utf8, HasKind, key_order, key_json}
+use Rattle.borsh_json.specs.Table.{Keys, no_bytes, whole, utf8, HasKind, key_order, key_json}
 use Rattle.borsh_walks.proofs.Laws.{zero_member}
-use Rattle.borsh_values.proofs.MemberLaws.{opens_member, members_head}
+use Rattle.borsh_values.proofs.MemberLaws.{members_head}
 use Rattle.borsh_values.proofs.WalkedLaws.{read_product}
 use Rattle.borsh_json.specs.Writes.{IsAbove, IsLast, IsBegunOf, IsWhole, IsWrittenOn, ends_of, Rest, IsRest, WritesFront, names_of_rest, names_of_all, leaf_depth, AreCalled, one_more, opened, Nested, passed, Mark, of_pair, AreEach, IsNewPlace, IsAscending, IsKeyed, IsLastKey, IsComparing, IsMarked, IsRestOf, BeginsNext, TellsAscent, RisesAt, IsWriterOf, IsHalved, IsWriting, IsAwaiting, IsWrittenAs, Stops, IsWritingAt, IsAwaitingAt, IsFull, IsFullOrFalls, AscendsFrom, IsOfWrite, write_steps}
-use Rattle.borsh_json.proofs.CheckedLaws.{IsDueAs, IsRisen, kind_free, same_only, product_due, pair_due, leaf_checked, zero_checked}
+use Rattle.borsh_json.proofs.CheckedLaws.{IsDueAs, IsRisen, kind_free, same_opened, product_opened, product_due, pair_due, leaf_checked, zero_checked}
 use Rattle.borsh_walks.proofs.Forms.{shape_is, shapes_are}
 use Rattle.borsh_json.proofs.FallLaws.{falls, next_steps}
 use Rattle.borsh_json.proofs.NestedLaws.{read_leaf, inside_of, as_deep, same_steps}
@@ -69,7 +70,8 @@ use Rattle.borsh_json.proofs.WritingPlaces.{as_many, each_pushed, each_popped, k
 use Rattle.borsh_json.proofs.FormKinds.{form_known}
 use Rattle.borsh_json.proofs.StopLaws.{about_some}
 use Rattle.borsh_json.proofs.WrittenLaws.{next_written}
-use Rattle.borsh_json.proofs.WritingSteps.{only_in, halved_on, leaf_writes, front_writes, awaits, entry_halved, entry_nested, awaits_entry, end_writes, end_whole}
+use Rattle.borsh_json.proofs.OnlyLaws.{value_only}
+use Rattle.borsh_json.proofs.WritingSteps.{key_full, only_in, halved_on, leaf_writes, front_writes, awaits, entry_halved, entry_nested, awaits_entry, end_writes, end_whole}
 
 -- ---- nodes
 module _ {A : Type 0} (m : BTreeMap (String A) Definition) (x : List ℕ) (old new : Walker) (n : Node) (k : IsNodeOf m x old new n) where
@@ -180,7 +182,7 @@ leaf_room (Numbers es) n l e g = (let h = g es refl in omega (arith, e, h))
 leaf_room kind n l e g = omega arith
 
 abbrev pub IsPlaceBegun : (List ℕ → Option Form) → List Named → List ℕ → Form → List ℕ → Output → Output → Place → Type 0
-IsPlaceBegun F ns x f own old new q = (r : Rest) × IsRest F ns q r × WritesFront F x own r old new × Opens (shapes F) (shape_of_form f) own (names_of_rest r) × AreCalled f own q.parts (names_of_rest r)
+IsPlaceBegun F ns x f own old new q = (r : Rest) × IsRest F ns q r × WritesFront F x own r old new × IsOpened F x f own (names_of_rest r) × AreCalled f own q.parts (names_of_rest r)
 
 -- the root's place has no order
 pub root_marked : (d : Definitions) (bytes : List ℕ) (p : Place) → p.parts ≡ Root → p.begun ≡ 0 → p.ascent ≡ None → IsMarked d bytes p ([], (Root, 0, None), None)
@@ -207,15 +209,15 @@ module _ (d : Definitions) (w new : Writing) (x : List ℕ) (f : Form) (own : Li
     (bytes : w.walk.left.now ≡ own ++ new.walk.left.now) (next : new.walk.offset ≡ w.walk.offset + length own)
     (onward : (done : List ℕ) (parts ps : List (List ℕ)) → Opens (shapes (forms_of d)) (shape_of_form f) own parts → IsReadTo (shapes (forms_of d)) (root_of d.plan.now) done (x ∷ ps) w.walk.left.now → IsReadTo (shapes (forms_of d)) (root_of d.plan.now) (done ++ own) (parts ++ ps) new.walk.left.now) where
   -- the writer is in front of the next part of the place
-  pub leaf_begun : (kind : Found) → forms_of d x ≡ Some f → leaf_depth kind ≤ a.room → (h : IsWrittenAs (forms_of d) (names_of d) kind x f own w.out new.out None) → IsDueAs (forms_of d) x own h.1 None → new.position.place ≡ w.position.place → new.position.outer.items ≡ w.position.outer.items → IsWritingAt d new new.position.place
-  leaf_begun kind c l h due p o =
+  pub leaf_begun : (kind : Found) → leaf_depth kind ≤ a.room → (h : IsWrittenAs (forms_of d) (names_of d) kind x f own w.out new.out None) → IsOpened (forms_of d) x f own h.1 → IsDueAs (forms_of d) x own h.1 None → new.position.place ≡ w.position.place → new.position.outer.items ≡ w.position.outer.items → IsWritingAt d new new.position.place
+  leaf_begun kind l h is due p o =
       let F = forms_of d in
       let ns = names_of d in
       let root = root_of d.plan.now in
       let s = a.state in
       let written = a.writer.tokens ++ json_tokens h.0.json in
       let k = halved_on F ns root w.bytes.now x (shape_of_form f) s.done w.walk.left.now own new.walk.left.now h.1 (names_of_all (s.inner ∷ s.around)) bytes (λ r. onward s.done h.1 (names_of_all (s.inner ∷ s.around)) h.2 r) s.halved in
-      let n = read_leaf F root own (names_of_all (s.inner ∷ s.around)) f s.nested c h.2 h.3 k.read.1 in
+      let n = read_leaf F root own (names_of_all (s.inner ∷ s.around)) f s.nested is h.3 k.read.1 in
       let t = leaf_writes F ns root w.bytes.now x a.room w.position.place w.position.outer.items a.mark a.marks w.walk.left.now a.writer.tokens s own new.walk.left.now w.out new.out a.writer.kept (leaf_depth kind) h.1 l n h.0 h.3 k (leaf_checked F w.bytes.now root x own new.walk.left.now w.walk.left.now h.1 bytes h.3 due s.rises) in
       record {
         writer = record { plan = plan; long = a.writer.long; kept = h.0.adds.0 ∙ a.writer.kept; tokens = written; holds = h.0.adds.1 a.writer.tokens a.writer.holds; offset = moved w new own a.writer.offset same bytes next; root = ap (λ (b : Bor (List ℕ)). b.now) roots ∙ a.writer.root };
@@ -230,17 +232,17 @@ module _ (d : Definitions) (w new : Writing) (x : List ℕ) (f : Form) (own : Li
       }
 
   -- or of the first part of another place
-  pub place_begun : (q : Place) → forms_of d x ≡ Some f → length w.position.outer.items < 128 → (h : IsPlaceBegun (forms_of d) (names_of d) x f own w.out new.out q) → (keys : Option (List ℕ)) → IsDueAs (forms_of d) x own (names_of_rest h.0) keys → IsMarked d w.bytes.now q (x, (q.parts, 0, None), keys) → new.position.place ≡ q → new.position.outer.items ≡ w.position.outer.items ++ w.position.place ∷ [] → IsWritingAt d new new.position.place
-  place_begun q c room h keys due z p o =
+  pub place_begun : (q : Place) → length w.position.outer.items < 128 → (h : IsPlaceBegun (forms_of d) (names_of d) x f own w.out new.out q) → (keys : Option (List ℕ)) → IsDueAs (forms_of d) x own (names_of_rest h.0) keys → IsMarked d w.bytes.now q (x, (q.parts, 0, None), keys) → new.position.place ≡ q → new.position.outer.items ≡ w.position.outer.items ++ w.position.place ∷ [] → IsWritingAt d new new.position.place
+  place_begun q room h keys due z p o =
       let F = forms_of d in
       let ns = names_of d in
       let root = root_of d.plan.now in
       let s = a.state in
       let written = a.writer.tokens ++ h.2.front in
       let r = h.0 in
-      let k = halved_on F ns root w.bytes.now x (shape_of_form f) s.done w.walk.left.now own new.walk.left.now (names_of_rest r) (names_of_all (s.inner ∷ s.around)) bytes (λ t. onward s.done (names_of_rest r) (names_of_all (s.inner ∷ s.around)) h.3 t) s.halved in
+      let k = halved_on F ns root w.bytes.now x (shape_of_form f) s.done w.walk.left.now own new.walk.left.now (names_of_rest r) (names_of_all (s.inner ∷ s.around)) bytes (λ t. onward s.done (names_of_rest r) (names_of_all (s.inner ∷ s.around)) h.3.2 t) s.halved in
       let l = as_many (IsRest F ns) w.position.outer.items s.around s.there in
-      let t = front_writes F ns root w.bytes.now x a.room w.position.place w.position.outer.items a.mark a.marks w.walk.left.now a.writer.tokens s own new.walk.left.now w.out new.out a.writer.kept f r q new.position.outer.items (omega (arith, l, room)) c h.3 h.4 h.1 h.2 o k keys bytes due in
+      let t = front_writes F ns root w.bytes.now x a.room w.position.place w.position.outer.items a.mark a.marks w.walk.left.now a.writer.tokens s own new.walk.left.now w.out new.out a.writer.kept f r q new.position.outer.items (omega (arith, l, room)) h.3 h.4 h.1 h.2 o k keys bytes due in
       record {
         writer = record { plan = plan; long = a.writer.long; kept = h.2.adds.0 ∙ a.writer.kept; tokens = written; holds = h.2.adds.1 a.writer.tokens a.writer.holds; offset = moved w new own a.writer.offset same bytes next; root = ap (λ (b : Bor (List ℕ)). b.now) roots ∙ a.writer.root };
         mark = (x, (q.parts, 0, None), keys);
@@ -280,9 +282,6 @@ module _ (d : Definitions) (w : Writing) (walk : Walker) (at : ℕ) (x : List �
 
   pub node_form : (f : Form) → forms_of d x ≡ Some f → f ≡ form_of n.definition.now
   node_form f e = some_form f (form_of n.definition.now) (sym e ∙ node_opened.0)
-
-  pub node_shape : shapes (forms_of d) x ≡ Some (shape_of_form (form_of n.definition.now))
-  node_shape = ap (λ o. option_map shape_of_form o) node_opened.0
 
   pub node_on : (done : List ℕ) (parts ps : List (List ℕ)) → Opens (shapes (forms_of d)) (shape_of_form (form_of n.definition.now)) n.bytes.now parts → IsReadTo (shapes (forms_of d)) (root_of d.plan.now) done (x ∷ ps) w.walk.left.now → IsReadTo (shapes (forms_of d)) (root_of d.plan.now) (done ++ n.bytes.now) (parts ++ ps) walk.left.now
   node_on done parts ps = opened_on (map_of d.plan.now) x w.walk walk n node_is (root_of d.plan.now) done parts ps
@@ -342,7 +341,7 @@ module _ (d : Definitions) (w new : Writing) (x : List ℕ) (a : IsAwaitingAt d 
       let leaf : WritesLeaf F 0 x [] w.out new.out = record { json = null; adds = t; numbers = tt; nests = omega arith; says = λ ps bs h. next_written F no_bytes [] [] (inl (z, refl)) (refl, refl, refl) (λ e s q. cc) h } in
       let h = subst (λ b. IsHalved F root w.bytes.now b w.walk.left.now (x ∷ names)) (sym (append-nil s.done)) s.halved in
       let head = members_head (shapes F) s.halved.read.1 in
-      let n = passed s.nested (subst (λ b. Member (shapes F) x b) (zero_member (shapes F) head.2 z) head.2) in
+      let n = passed s.nested (empty_only (subst (λ b. Member (shapes F) x b) (zero_member (shapes F) head.2 z) head.2, z) none_only) in
       let k = leaf_writes F ns root w.bytes.now x a.room w.position.place w.position.outer.items a.mark a.marks w.walk.left.now a.writer.tokens s [] w.walk.left.now w.out new.out a.writer.kept 0 (x ∷ []) (omega arith) n leaf (λ y i. subst (λ y. HasNoBytes F y) (only_in y x i) z) h (zero_checked F w.bytes.now root x w.walk.left.now z s.rises) in
       record {
         writer = writer_still d w new a.writer roots walk same (Token.null ∷ []) t;
@@ -371,9 +370,8 @@ module _ (d : Definitions) (w new : Writing) (x : List ℕ) (a : IsAwaitingAt d 
       let F = forms_of d in
       let root = root_of d.plan.now in
       let c : shapes F x ≡ Some (shape_of_form f) = ap (λ o. option_map shape_of_form o) e in
-      let opens : Opens (shapes F) (shape_of_form f) [] (names_of_rest r) = subst (λ s. Opens (shapes F) s [] (names_of_rest r)) (sym s) (refl, refl) in
       place_begun d w new x f [] a same (subst (λ (k : Walker). k.plan.now ≡ d.plan.now) (sym walk) a.writer.plan) roots (ap (λ (k : Walker). k.left.now) (sym walk)) (let e = ap (λ (k : Walker). k.offset) walk in omega (arith, e))
-      (λ done parts ps n g. subst (λ (k : Walker). IsReadTo (shapes F) root (done ++ []) (parts ++ ps) k.left.now) (sym walk) (struct_on (shapes F) root x w.walk.left.now (names_of_rest r) (shape_of_form f) c s done parts ps n g)) q e room (r, h, t, opens, called) None (product_due F f (names_of_rest r) e s full) (new_marked d w.bytes.now x None f kind q q z i k refl refl refl (subst (λ (l : Option Ascent). IsAscending d w.bytes.now l (x, (q.parts, 0, None), None)) (sym z.0) tt) tt) p o
+      (λ done parts ps n g. subst (λ (k : Walker). IsReadTo (shapes F) root (done ++ []) (parts ++ ps) k.left.now) (sym walk) (struct_on (shapes F) root x w.walk.left.now (names_of_rest r) (shape_of_form f) c s done parts ps n g)) q room (r, h, t, product_opened F f (names_of_rest r) full e s, called) None (product_due F f (names_of_rest r) e s full) (new_marked d w.bytes.now x None f kind q q z i k refl refl refl (subst (λ (l : Option Ascent). IsAscending d w.bytes.now l (x, (q.parts, 0, None), None)) (sym z.0) tt) tt) p o
 
 -- ---- parts and their keys
 -- whether a key is above the last one
@@ -383,16 +381,8 @@ first_above kind keys o s e = (λ t. subst (λ o. IsAbove keys o s) (sym e) tt, 
 pub next_above : (kind : KeyKind) (keys : Keys) (o : Option (List ℕ)) (s : List ℕ) (last : EntryKey) (b : Bool) → (l : IsLast kind (Some last) o) → Decides b (key_order keys (l.0, null) (s, null) ≡ Less) → Decides b (IsAbove keys o s)
 next_above kind keys o s last b l d = subst (λ o. Decides b (IsAbove keys o s)) (sym l.1) d
 
--- keys have bytes, and nothing in them has to ascend
+-- in keys nothing has to ascend
 module _ (F : List ℕ → Option Form) (ns : List Named) (k : List ℕ) (f : Form) where
-  has_bytes : (kind : Kind) → HasKind F k kind → (kind ≡ no_bytes → ⊥) → HasNoBytes F k → ⊥
-  has_bytes kind (inl h) n z = n h.1
-  has_bytes kind (inr h) n z = h.0 z
-
-  key_full : (kind : KeyKind) (keys : Keys) → AreKeysOf F ns k f kind keys → HasNoBytes F k → ⊥
-  key_full TextKeys keys a = has_bytes (utf8 (lengths_of f)) a.1 (λ e. cc)
-  key_full (NumberKeys n) keys a = has_bytes (whole n.size n.is_signed n.is_non_zero) a.1 (λ e. cc)
-
   key_free : (kind : KeyKind) (keys : Keys) → AreKeysOf F ns k f kind keys → NeedsNoOrder F k
   key_free TextKeys keys a = kind_free F (utf8 (lengths_of f)) a.1 (λ l e q. cc) (λ l e q. cc)
   key_free (NumberKeys n) keys a = kind_free F (whole n.size n.is_signed n.is_non_zero) a.1 (λ l e q. cc) (λ l e q. cc)
@@ -579,12 +569,11 @@ module _ (d : Definitions) (w new : Writing) (p : Place) (part : FoundPart) (es 
         let written = a.writer.tokens ++ Token.key s ∷ [] in
         let rest = t.value ∷ (replicate t.count t.pair ++ names_of_all v.around) in
         let node = node_is d w new.walk es.key t.key a.writer.plan t.key_named found n is g in
-        let o = subst (λ l. Opens (shapes F) (shape_of_form (form_of n.definition.now)) n.bytes.now l) none opens in
-        let h = halved_on F ns root w.bytes.now t.key (shape_of_form (form_of n.definition.now)) v.done w.walk.left.now n.bytes.now new.walk.left.now [] rest node.bytes (λ r. node_on d w new.walk es.key t.key a.writer.plan t.key_named found n is g v.done [] rest o r) entry_next in
-        let m = opens_member (shapes F) (shape_of_form (form_of n.definition.now)) n.bytes.now [] [] (node_shape d w new.walk es.key t.key a.writer.plan t.key_named found n is g) o no_members in
-        let k2 : Mark = (a.mark.0, one_more a.mark.1 (length v.done), a.mark.2) in
         let full = key_full F ns t.key (form_of n.definition.now) es.key_kind t.keys entry_keys in
-        let first : IsDueAs F t.key n.bytes.now [] None = λ ds after c. plain n.bytes.now [] full (key_free F ns t.key (form_of n.definition.now) es.key_kind t.keys entry_keys) (subst (λ l. IsOnly F t.key n.bytes.now l) none (same_only F (form_of n.definition.now) names entry_opened.0 opens (node_only d w new.walk es.key t.key a.writer.plan t.key_named found n is g))) c in
+        let own = subst (λ l. IsOpened F t.key (form_of n.definition.now) n.bytes.now l) none (same_opened F (form_of n.definition.now) names full entry_opened.0 opens entry_opened.2 (node_only d w new.walk es.key t.key a.writer.plan t.key_named found n is g)) in
+        let h = halved_on F ns root w.bytes.now t.key (shape_of_form (form_of n.definition.now)) v.done w.walk.left.now n.bytes.now new.walk.left.now [] rest node.bytes (λ r. node_on d w new.walk es.key t.key a.writer.plan t.key_named found n is g v.done [] rest own.2 r) entry_next in
+        let k2 : Mark = (a.mark.0, one_more a.mark.1 (length v.done), a.mark.2) in
+        let first : IsDueAs F t.key n.bytes.now [] None = λ ds after c. plain n.bytes.now [] full (key_free F ns t.key (form_of n.definition.now) es.key_kind t.keys entry_keys) (form_of n.definition.now, own.1, own.3) c in
         let keyed : IsKeyed d w.bytes.now new.position.place.parts new.position.place.last k2 = λ fs c e.
         (let q : EntryOf es ≡ EntryOf fs = sym entry ∙ its_entries d w.walk.offset p w.position.place part b v.inner fs c v.here (sym parts ∙ e) in
         let same : es ≡ fs = cc in
@@ -592,7 +581,7 @@ module _ (d : Definitions) (w new : Writing) (p : Place) (part : FoundPart) (es 
         let there = subst (λ (fs : FoundEntries). IsLastKey d w.bytes.now fs (Some key) (Some (length v.done))) same (length v.done, t.key, t.keys, s, n.bytes.now, new.walk.left.now, refl, t.key_named, t.kind, k, says, last_there w.bytes.now v.done w.walk.left.now (n.bytes.now ++ new.walk.left.now) v.halved.joined node.bytes) in
         (order, subst (λ (l : Option EntryKey). IsLastKey d w.bytes.now fs l (Some (length v.done))) (sym last) there)) in
         let here : IsMarked d w.bytes.now new.position.place k2 = (subst (λ (o : Option Ascent). IsAscending d w.bytes.now o k2) (sym ascent) (its_ascent d w.walk.offset p w.position.place part b w.bytes.now a.mark (length v.done) (at_offset d w p a) a.here.0), keyed, subst (λ (o : Option Ascent). IsComparing d w.bytes.now o a.mark.2) (sym ascent) (its_turn d w.walk.offset p w.position.place part b w.bytes.now a.mark.2 a.here.2), same_parts ∙ b.1 ∙ a.here.3, same_begun ∙ b.4 ∙ ap suc a.here.4) in
-        let r = awaits_entry F ns root w.bytes.now p new.position.place w.position.outer.items a.mark a.marks w.walk.left.now a.writer.tokens written v parts es part t n.bytes.now new.walk.left.now key s (ap last_steps (sym a.here.3 ∙ t.entries.1)) last k says above (subst (λ b. Member (shapes F) t.key b) (append-nil n.bytes.now) m) h refl (part_rises d w p a tells) node.bytes (pair_due F t.pair t.key t.value t.defined full) first in (
+        let r = awaits_entry F ns root w.bytes.now p new.position.place w.position.outer.items a.mark a.marks w.walk.left.now a.writer.tokens written v parts es part t n.bytes.now new.walk.left.now key s (ap last_steps (sym a.here.3 ∙ t.entries.1)) last k says above (subst (λ b. AreOnly F (t.key ∷ []) b) (append-nil n.bytes.now) (value_only F own none_only)) h refl (part_rises d w p a tells) node.bytes (pair_due F t.pair t.key t.value t.defined full) first in (
           t.value,
           t.named,
           record {

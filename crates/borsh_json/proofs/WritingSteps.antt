@@ -1,15 +1,16 @@
 -- Where the writer is after each step.
 use Rattle.std.specs.Prelude.{option_map}
-use Rattle.std.proofs.Common.{◌≡◌, ℕ, suc, ◌+◌, ◌-◌, ◌<◌, ◌≤◌, List, [], ◌∷◌, ◌++◌, length, replicate, drop, Option, Some, None, refl, sym, ◌∙◌, ap, subst, arith, append_assoc, append-nil}
+use Rattle.std.proofs.Common.{◌≡◌, inl, inr, ℕ, suc, ◌+◌, ◌-◌, ◌<◌, ◌≤◌, List, [], ◌∷◌, ◌++◌, length, replicate, drop, Option, Some, None, refl, sym, ◌∙◌, ap, subst, arith, append_assoc, append-nil}
 use Rattle.std.proofs.Math.Seq.{drop-append_seam}
 use Rattle.json.specs.Token.{Token}
 use Rattle.json.specs.Tree.{json_tokens}
 use Rattle.borsh_walks.specs.Container.{Shape, IsIn, first, later, Member}
-use Rattle.borsh_values.specs.Nodes.{Opens}
 use Rattle.borsh_values.specs.Walks.{IsReadTo}
 use Rattle.borsh_plan.specs.declared.named.Named.{Named}
 use Rattle.borsh_values.proofs.WalkedLaws.{read_start, read_zero, read_product, read_end}
 use Rattle.borsh_json.specs.declared.kinds.Entries.{Entries as FoundEntries}
+use Rattle.borsh_json.specs.declared.kinds.KeyKind.{KeyKind}
+use Rattle.borsh_json.specs.declared.kinds.KeyKind.TheVariants.{Text as TextKeys, Number as NumberKeys}
 use Rattle.borsh_json.specs.declared.output.LongNumbers.{LongNumbers}
 use Rattle.borsh_json.specs.declared.output.Output.{Output}
 use Rattle.borsh_json.specs.declared.position.Part.{Part as FoundPart}
@@ -22,12 +23,14 @@ use Rattle.borsh_json.specs.Forms.{Form, tuple, shape_of_form, shapes, HasNoByte
 use Rattle.borsh_json.specs.Frames.{IsEntryKey, last_steps}
 use Rattle.borsh_json.specs.InOrder.{place}
 use Rattle.borsh_json.specs.Leaves.{WritesLeaf, long_of, AreWritten}
-use Rattle.borsh_json.specs.Places.{IsAt}
+use Rattle.borsh_json.specs.Only.{IsOpened, AreOnly}
+use Rattle.borsh_json.specs.Places.{IsAt, AreKeysOf, lengths_of}
 use Rattle.borsh_json.specs.Represents.{SaysFirst}
-use Rattle.borsh_json.specs.Table.{Part, key_json}
+use Rattle.borsh_json.specs.Table.{Keys, Kind, no_bytes, whole, utf8, HasKind, Part, key_json}
 use Rattle.borsh_json.specs.Writes.{Rest, value_rest, entries_rest, names_of_rest, names_of_all, IsAbove, MayFollow, MayFollowAll, IsLast, IsWhole, Begins, one_more, opened, AreCalled, Nested, unread, entered, passed, Mark, of_pair, AreLevels, no_levels, level, entry_level, IsHalved, IsRestOf, IsRest, AreRests, IsCheckedTo, IsWriting, IsAwaiting, WritesFront, IsFront}
 use Rattle.borsh_json.proofs.WritingLaws.{begins, ends, key_written, leaf_written, front_written, end_written, entry_taken}
-use Rattle.borsh_json.proofs.CheckedLaws.{IsDueAs, IsRisen, nothing_owed, starts_checked, next_checked, entry_checked, front_checked, end_checked}
+use Rattle.borsh_json.proofs.CheckedLaws.{IsDueAs, IsRisen, nothing_owed, product_opened, starts_checked, next_checked, entry_checked, front_checked, end_checked}
+use Rattle.borsh_json.proofs.FoundLaws.{zero_part}
 use Rattle.borsh_json.proofs.NestedLaws.{settled, left as left_level}
 use Rattle.borsh_json.proofs.WrittenLaws.{key_formed, next_written}
 use Rattle.borsh_json.proofs.WritingPlaces.{key_tokens, TakesPart, TakesEntry, each_pushed, each_popped}
@@ -47,6 +50,16 @@ module _ (F : List ℕ → Option Form) (root : List ℕ) where
   pub skipped : (zeros names : List (List ℕ)) (done left : List ℕ) → ((y : List ℕ) → IsIn y zeros → HasNoBytes F y) → IsReadTo (shapes F) root done (zeros ++ names) left → IsReadTo (shapes F) root done names left
   skipped [] names done left z r = r
   skipped (y ∷ zeros) names done left z r = skipped zeros names done left (λ x i. z x (later i)) (read_zero (shapes F) (z y first) r)
+
+-- keys have bytes
+module _ (F : List ℕ → Option Form) (ns : List Named) (k : List ℕ) (f : Form) where
+  has_bytes : (kind : Kind) → HasKind F k kind → (kind ≡ no_bytes → ⊥) → HasNoBytes F k → ⊥
+  has_bytes kind (inl h) n z = n h.1
+  has_bytes kind (inr h) n z = h.0 z
+
+  pub key_full : (kind : KeyKind) (keys : Keys) → AreKeysOf F ns k f kind keys → HasNoBytes F k → ⊥
+  key_full TextKeys keys a = has_bytes (utf8 (lengths_of f)) a.1 (λ e. cc)
+  key_full (NumberKeys n) keys a = has_bytes (whole n.size n.is_signed n.is_non_zero) a.1 (λ e. cc)
 
 module _ (F : List ℕ → Option Form) (ns : List Named) (root bytes : List ℕ) where
   -- in front of the root
@@ -115,10 +128,10 @@ module _ (F : List ℕ → Option Form) (ns : List Named) (root bytes : List ℕ
 
       pub entry_nested : Nested F root (opened t.pair (of_pair, 0, None) (t.key ∷ t.value ∷ []) ∷ opened m.0 (one_more m.1 (length w.done)) (replicate t.count t.pair) ∷ w.outer) w.done
       entry_nested =
-          subst (λ b. Nested F root (opened t.pair (of_pair, 0, None) (t.key ∷ t.value ∷ []) ∷ opened m.0 (one_more m.1 (length w.done)) (replicate t.count t.pair) ∷ w.outer) b) (append-nil w.done) (entered (tuple (t.key ∷ t.value ∷ [])) [] of_pair pair_nested t.defined (refl, refl) pair_called)
+          subst (λ b. Nested F root (opened t.pair (of_pair, 0, None) (t.key ∷ t.value ∷ []) ∷ opened m.0 (one_more m.1 (length w.done)) (replicate t.count t.pair) ∷ w.outer) b) (append-nil w.done) (entered (tuple (t.key ∷ t.value ∷ [])) [] of_pair pair_nested (product_opened F (tuple (t.key ∷ t.value ∷ [])) (t.key ∷ t.value ∷ []) (λ z. key_full F ns t.key (form_of es.key_definition.now) es.key_kind t.keys t.kind (zero_part F (ap (λ o. option_map shape_of_form o) t.defined) z first)) t.defined refl) pair_called)
 
       -- its key was written
-      pub awaits_entry : (own after : List ℕ) (key : EntryKey) (s : List ℕ) → last_steps m.1.0 ≡ place 1 ∷ [] → q.last ≡ Some key → IsEntryKey es.key_kind key s → SaysFirst F t.key (key_json t.keys s) own [] → IsAbove t.keys t.before s → Member (shapes F) t.key own
+      pub awaits_entry : (own after : List ℕ) (key : EntryKey) (s : List ℕ) → last_steps m.1.0 ≡ place 1 ∷ [] → q.last ≡ Some key → IsEntryKey es.key_kind key s → SaysFirst F t.key (key_json t.keys s) own [] → IsAbove t.keys t.before s → AreOnly F (t.key ∷ []) own
           → IsHalved F root bytes (w.done ++ own) after (t.value ∷ (replicate t.count t.pair ++ names_of_all w.around)) → new ≡ written ++ Token.key s ∷ []
           → IsRisen F bytes m left → left ≡ own ++ after → IsDueAs F t.pair [] (t.key ∷ t.value ∷ []) None → IsDueAs F t.key own [] None
           → IsAwaiting F ns long root bytes t.value (128 - length w.around) q ps (m.0, one_more m.1 (length w.done), m.2) ms after new
@@ -172,8 +185,8 @@ module _ (F : List ℕ → Option Form) (ns : List Named) (root bytes : List ℕ
         }
 
     -- or its beginning
-    pub front_writes : (kept : long_of old ≡ long) (f : Form) (r : Rest) (q : Place) (qs : List Place) → length a.around < 128 → F x ≡ Some f → Opens (shapes F) (shape_of_form f) own (names_of_rest r) → AreCalled f own q.parts (names_of_rest r) → IsRest F ns q r → (front : WritesFront F x own r old new) → qs ≡ ps ++ p ∷ [] → IsHalved F root bytes (a.done ++ own) after (names_of_rest r ++ names_of_all (a.inner ∷ a.around)) → (keys : Option (List ℕ)) → left ≡ own ++ after → IsDueAs F x own (names_of_rest r) keys → IsWriting F ns long root bytes q qs (x, (q.parts, 0, None), keys) (m ∷ ms) after (written ++ front.front)
-    front_writes kept f r q qs l c o called k front e h keys joins due =
+    pub front_writes : (kept : long_of old ≡ long) (f : Form) (r : Rest) (q : Place) (qs : List Place) → length a.around < 128 → IsOpened F x f own (names_of_rest r) → AreCalled f own q.parts (names_of_rest r) → IsRest F ns q r → (front : WritesFront F x own r old new) → qs ≡ ps ++ p ∷ [] → IsHalved F root bytes (a.done ++ own) after (names_of_rest r ++ names_of_all (a.inner ∷ a.around)) → (keys : Option (List ℕ)) → left ≡ own ++ after → IsDueAs F x own (names_of_rest r) keys → IsWriting F ns long root bytes q qs (x, (q.parts, 0, None), keys) (m ∷ ms) after (written ++ front.front)
+    front_writes kept f r q qs l o called k front e h keys joins due =
         record {
           inner = r;
           around = a.inner ∷ a.around;
@@ -184,7 +197,7 @@ module _ (F : List ℕ → Option Form) (ns : List Named) (root bytes : List ℕ
           halved = h;
           outer = opened a.value (one_more a.before (length a.done)) a.beside ∷ a.outer;
           levels = a.levels;
-          nested = entered f own q.parts a.nested c o called;
+          nested = entered f own q.parts a.nested o called;
           rises = front_checked F bytes root x own after left r q.parts keys joins due a.rises;
           begun = front_written F root r (a.inner ∷ a.around) x n front.front own written a.done (let m = a.room in omega (arith, m)) (subst (λ long. IsFront F long x own r front.front) kept front.whole) a.begun;
         }

@@ -1,8 +1,9 @@
 -- Sets and maps, and bytes of which two neighbours don't ascend.
 use Rattle.std.specs.Prelude.{◌≡◌, ◌⊎◌, ℕ, suc, ◌<◌, ◌≤◌, ◌*◌, ◌-◌, pos, List, [], ◌∷◌, ◌++◌, length, replicate, Option, Some}
-use Rattle.borsh_walks.specs.Container.{Member, Members, tag}
-use Rattle.borsh_json.specs.Forms.{Form, shapes, tuple, IsList}
+use Rattle.borsh_walks.specs.Container.{tag}
+use Rattle.borsh_json.specs.Forms.{Form, tuple, IsList}
 use Rattle.borsh_json.specs.Found.{IsSetName, IsMapName}
+use Rattle.borsh_json.specs.Only.{AreOnly}
 use Rattle.borsh_json.specs.Ordered.{a_value, IsAtLeast}
 
 module _ (F : List ℕ → Option Form) where
@@ -35,6 +36,6 @@ module _ (F : List ℕ → Option Form) where
     pub bytes_are : bytes ≡ tag 4 (pos count) ++ (middle ++ (first ++ after))
     pub fits : count ≤ 4294967295
     pub more : suc (suc passed) ≤ count
-    pub elements : Members (shapes F) (replicate passed e) middle
-    pub element : Member (shapes F) e first
+    pub elements : AreOnly F (replicate passed e) middle
+    pub element : AreOnly F (e ∷ []) first
     pub falls : IsAtLeast F (a_value k ∷ []) (first ++ after) after

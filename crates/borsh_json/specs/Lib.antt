@@ -9,6 +9,7 @@ pub mod Places
 pub mod Ordered
 pub mod InOrder
 pub mod Represents
+pub mod Only
 pub mod Inside
 pub mod NoJson
 pub mod NoValue

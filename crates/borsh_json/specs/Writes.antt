@@ -4,7 +4,7 @@ use Rattle.std.specs.declared.cmp.Ordering.TheVariants.{Less}
 use Rattle.json.specs.Token.{Token}
 use Rattle.json.specs.Json.{Json, null, Items, Members, no_members, member}
 use Rattle.json.specs.Tree.{json_tokens, items_tokens, members_tokens, depth, items_depth, members_depth, HasNumbers, ItemsHaveNumbers, MembersHaveNumbers}
-use Rattle.borsh_walks.specs.Container.{product, IsIn, Member}
+use Rattle.borsh_walks.specs.Container.{product, IsIn}
 use Rattle.borsh_plan.specs.Plan.{root_of}
 use Rattle.borsh_values.specs.Nodes.{Opens, AreElementsOf}
 use Rattle.borsh_values.specs.Walks.{IsReadTo}
@@ -47,6 +47,7 @@ use Rattle.borsh_json.specs.InOrder.{Step, place, element, InOrder}
 use Rattle.borsh_json.specs.Inside.{LeadTo}
 use Rattle.borsh_json.specs.Leaves.{Holds, Adds, IsOpenedAs, RefusesValue, WritesLeaf, long_of, AreWritten}
 use Rattle.borsh_json.specs.NoJson.{RefusesBytes}
+use Rattle.borsh_json.specs.Only.{IsOpened, AreOnly}
 use Rattle.borsh_json.specs.NoValue.{path_steps}
 use Rattle.borsh_json.specs.Table.{Keys, Part, row_parts, Entry, entries_of, entry_parts, key_json, key_order}
 
@@ -170,8 +171,8 @@ module _ (F : List ℕ → Option Form) (root : List ℕ) where
   -- these bytes are read up to a place inside of values, the innermost first; the root is the only part of no value
   pub data Nested : List Level → List ℕ → Type 0 where
     unread : Nested (opened [] (Root, 0, None) (root ∷ []) ∷ []) []
-    entered : {x y before : List ℕ} {g : Progress} {xs parts : List (List ℕ)} {ls : List Level} (f : Form) (own : List ℕ) (called : Parts) → Nested (opened y g (x ∷ xs) ∷ ls) before → F x ≡ Some f → Opens (shapes F) (shape_of_form f) own parts → AreCalled f own called parts → Nested (opened x (called, 0, None) parts ∷ opened y (one_more g (length before)) xs ∷ ls) (before ++ own)
-    passed : {x y before own : List ℕ} {g : Progress} {xs : List (List ℕ)} {ls : List Level} → Nested (opened y g (x ∷ xs) ∷ ls) before → Member (shapes F) x own → Nested (opened y (one_more g (length before)) xs ∷ ls) (before ++ own)
+    entered : {x y before : List ℕ} {g : Progress} {xs parts : List (List ℕ)} {ls : List Level} (f : Form) (own : List ℕ) (called : Parts) → Nested (opened y g (x ∷ xs) ∷ ls) before → IsOpened F x f own parts → AreCalled f own called parts → Nested (opened x (called, 0, None) parts ∷ opened y (one_more g (length before)) xs ∷ ls) (before ++ own)
+    passed : {x y before own : List ℕ} {g : Progress} {xs : List (List ℕ)} {ls : List Level} → Nested (opened y g (x ∷ xs) ∷ ls) before → AreOnly F (x ∷ []) own → Nested (opened y (one_more g (length before)) xs ∷ ls) (before ++ own)
 
 -- the name of a place's value, how far it is read, and the name of the keys if these have to ascend
 abbrev pub Mark : Type 0

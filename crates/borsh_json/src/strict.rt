@@ -1,5 +1,5 @@
 // Whether a type takes a member, as far as names tell.
-ghost use Rattle.borsh_json.specs.Words.{IsNoJsonReason, IsRepresented, Member, ShowsNoJson, definitions_in, definitions_of, forms_in, map_of, root_of};
+ghost use Rattle.borsh_json.specs.Words.{IsGivenUp, IsNoJsonReason, IsRepresented, Member, ShowsNoJson, definitions_in, definitions_of, forms_in, map_of, root_of};
 ghost use Rattle.std.specs.Prelude.{IfErr, OnOk};
 
 use crate::error::JsonError;
@@ -18,8 +18,8 @@ use std::collections::BTreeMap;
 /// is told; and also what has no JSON: two fields or variants of one name, lists with a length whose elements and maps whose keys have
 /// no bytes, and values that nest more than 128 deep.
 ///
-/// Determined: after `Ok` some JSON text represents the bytes as [`to_json`](crate::to_json)'s does; the errors are as there. Left
-/// open: memory.
+/// Determined: after `Ok` some JSON text represents the bytes as [`to_json`](crate::to_json)'s does, and what one represents is
+/// refused with `OutOfMemory`, `Ambiguous` or `TooDeep` alone; the errors are as there. Left open: memory.
 ///
 /// ```
 /// assert!(rt; check_strict(alloc, "bool", &definitions, &[1]).is_ok());
@@ -35,6 +35,7 @@ pub fn check_strict<'a>(
     ensures represented { OnOk result (IsRepresented (forms_in map.now) root.now bytes.now) }
     ensures reason { IfErr result (λ e. IsNoJsonReason (definitions_in map.now) root.now bytes.now e) }
     ensures refused { IfErr result (λ e. ShowsNoJson (forms_in map.now) root.now bytes.now e) }
+    ensures complete { IsRepresented (forms_in map.now) root.now bytes.now → IfErr result IsGivenUp }
 {
     let plan = Plan::new(alloc, root, map)?;
     let json = Table::new(alloc, &plan)?;
@@ -52,6 +53,8 @@ impl<'a, 'l> Table<'a, 'l> {
             IfErr result (λ e. IsNoJsonReason (definitions_of l) (root_of l) bytes.now e) }
         ensures refused { let l = self.now.plan.now in
             IfErr result (λ e. ShowsNoJson (forms_in (map_of l)) (root_of l) bytes.now e) }
+        ensures complete { let l = self.now.plan.now in
+            IsRepresented (forms_in (map_of l)) (root_of l) bytes.now → IfErr result IsGivenUp }
     {
         self.write(bytes, Output::Nothing)?;
         Ok(())

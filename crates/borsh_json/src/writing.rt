@@ -1,5 +1,5 @@
 // A value as JSON.
-ghost use Rattle.borsh_json.specs.Words.{Adds, AreKeysOf, BeginsNext, EntryOf, Form, FoundBytes, FoundElements, FoundKeyKind, FoundList, FoundNumbers, FoundPart, HasNoBytes, HasNode, Holds, IsAbove, IsAt, IsAwaitingAt, IsBegunOf, IsEntryKey, IsKeyPut, IsKindOf, IsLast, IsNoJsonReason, IsPartWritten, IsWritingAt, IsWrittenNext, Keys, KindHasOrder, KindTellsOrder, Member, NamedPlace, NoneFallsIn, Place, RefusesElements, RisesAt, ShowsNoJson, StopsBy, TellsAscent, TextRepresents, WritesJson, definitions_in, definitions_of, ends_of, form_of, forms_in, forms_of, map_of, names_of, root_of, shapes, steps_at, steps_through};
+ghost use Rattle.borsh_json.specs.Words.{Adds, AreKeysOf, BeginsNext, EntryOf, Form, FoundBytes, FoundElements, FoundKeyKind, FoundList, FoundNumbers, FoundPart, HasNoBytes, HasNode, Holds, IsAbove, IsAt, IsAwaitingAt, IsBegunOf, IsEntryKey, IsGivenUp, IsKeyPut, IsKindOf, IsLast, IsNoJsonReason, IsPartWritten, IsRepresented, IsWritingAt, IsWrittenNext, Keys, KindHasOrder, KindTellsOrder, Member, NamedPlace, NoneFallsIn, Place, RefusesElements, RisesAt, ShowsNoJson, StopsBy, TellsAscent, TextRepresents, WritesJson, definitions_in, definitions_of, ends_of, form_of, forms_in, forms_of, map_of, names_of, root_of, shapes, steps_at, steps_through};
 ghost use Rattle.borsh_json.specs.Ascii.{IsInLine, IsPlain, IsSameJson};
 ghost use Rattle.borsh_json.specs.Printed.{HasQuotedNumbers, IsPrinted};
 ghost use Rattle.borsh_json.specs.declared.output.Layout.TheVariants.{Compact};
@@ -45,11 +45,11 @@ use std::collections::BTreeMap;
 /// characters of the style; a compact one is one line, without control characters; where any are allowed, it has no white space
 /// but that of its layout; with quoted numbers each whole number of 64 bits is a string. So no other bytes have it, they are a
 /// member of the root ([`crate::text_determines_bytes`]), and [`crate::from_json`] gives them back, but for `OutOfMemory`,
-/// `Ambiguous` and `TooDeep`. `NoMember` and `Ambiguous` are as of [`borsh_values::is_member`], and `NoValue` and `NotJson`
-/// aren't returned. After `Refused` they are a member, and the path leads from the root to a part of this kind: `TooDeep`, a value
-/// inside of 128 others; `Descends`, an element of a set or an entry of a map that isn't above the one before it, as far as the order
-/// of its keys is told; others, a value of the kind that the refusal names, which no JSON says. Left open: memory; which of such
-/// texts: tested.
+/// `Ambiguous` and `TooDeep`. Bytes that have such a text are refused with these errors alone. `NoMember` and `Ambiguous` are as of
+/// [`borsh_values::is_member`], and `NoValue` and `NotJson` aren't returned. After `Refused` they are a member, and the path leads
+/// from the root to a part of this kind: `TooDeep`, a value inside of 128 others; `Descends`, an element of a set or an entry of a
+/// map that isn't above the one before it, as far as the order of its keys is told; others, a value of the kind that the refusal
+/// names, which no JSON says. Left open: memory; which of such texts: tested.
 ///
 /// ```
 /// let text = to_json(alloc, "(u8, bool)", &definitions, &[7, 1], Style::COMPACT)?;
@@ -72,6 +72,7 @@ pub fn to_json<'a>(
         IfOk result (λ text. HasQuotedNumbers F root.now (string_bytes text)) }
     ensures reason { IfErr result (λ e. IsNoJsonReason (definitions_in map.now) root.now bytes.now e) }
     ensures refused { IfErr result (λ e. ShowsNoJson (forms_in map.now) root.now bytes.now e) }
+    ensures complete { IsRepresented (forms_in map.now) root.now bytes.now → IfErr result IsGivenUp }
 {
     let plan = Plan::new(alloc, root, map)?;
     let json = Table::new(alloc, &plan)?;
@@ -93,6 +94,8 @@ impl<'a, 'l> Table<'a, 'l> {
             IfErr result (λ e. IsNoJsonReason (definitions_of l) (root_of l) bytes.now e) }
         ensures refused { let l = self.now.plan.now in
             IfErr result (λ e. ShowsNoJson (forms_in (map_of l)) (root_of l) bytes.now e) }
+        ensures complete { let l = self.now.plan.now in
+            IsRepresented (forms_in (map_of l)) (root_of l) bytes.now → IfErr result IsGivenUp }
     {
         let out = self.write(bytes, Output::new(self.alloc(), style))?;
         let Some(text) = out.into_bytes(style) else {
@@ -112,6 +115,8 @@ impl<'a, 'l> Table<'a, 'l> {
             IfErr result (λ e. IsNoJsonReason (definitions_of l) (root_of l) bytes.now e) }
         ensures refused { let l = self.now.plan.now in
             IfErr result (λ e. ShowsNoJson (forms_in (map_of l)) (root_of l) bytes.now e) }
+        ensures complete { let l = self.now.plan.now in
+            IsRepresented (forms_in (map_of l)) (root_of l) bytes.now → IfErr result IsGivenUp }
     {
         match self.membership(bytes)? {
             Membership::Member => write_value(self, bytes, out),

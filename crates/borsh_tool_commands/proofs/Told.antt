@@ -19,6 +19,7 @@ use Rattle.borsh_json.specs.Forms.{forms_in}
 use Rattle.borsh_json.specs.InOrder.{Step, IsRepresented}
 use Rattle.borsh_json.specs.NoJson.{RefusesBytes}
 use Rattle.borsh_json.specs.declared.error.Refusal.{Refusal}
+use Rattle.borsh_json.specs.declared.error.Refusal.TheVariants.{TooDeep}
 use Rattle.std.specs.Char.{digit_char}
 use Rattle.borsh_tool_commands.specs.Plain.{escaped}
 
@@ -63,5 +64,5 @@ module _ (m : BTreeMap (String Global) Definition) {root name bytes out : List �
   pub no_told : (why : List ℕ) (strict : Bool) → root ≡ name → (Member (definitions_in m) root bytes → ⊥) → (is_yes ≡ false) × (out ≡ line_of (codes "no member: " ++ why)) → AnswersMember m name bytes strict is_yes out
   no_told why strict same none h = no_member why (λ is. none (subst (λ (r : List ℕ). Member (definitions_in m) r bytes) (sym same) is)) h.0 h.1
 
-  pub refusal_told : (why : List ℕ) (path : List Step) (refusal : Refusal) → root ≡ name → Member (definitions_in m) root bytes → RefusesBytes (forms_in m) root bytes path refusal → (is_yes ≡ false) × (out ≡ line_of (codes "not canonical: " ++ why)) → AnswersMember m name bytes true is_yes out
-  refusal_told why path refusal same is r h = not_canonical why path refusal (subst (λ (r : List ℕ). Member (definitions_in m) r bytes) same is) (subst (λ (x : List ℕ). RefusesBytes (forms_in m) x bytes path refusal) same r) refl h.0 h.1
+  pub refusal_told : (why : List ℕ) (path : List Step) (refusal : Refusal) → root ≡ name → Member (definitions_in m) root bytes → RefusesBytes (forms_in m) root bytes path refusal → (IsRepresented (forms_in m) root bytes → refusal ≡ TooDeep) → (is_yes ≡ false) × (out ≡ line_of (codes "not canonical: " ++ why)) → AnswersMember m name bytes true is_yes out
+  refusal_told why path refusal same is r f h = not_canonical why path refusal (subst (λ (r : List ℕ). Member (definitions_in m) r bytes) same is) (subst (λ (x : List ℕ). RefusesBytes (forms_in m) x bytes path refusal) same r) (subst (λ (x : List ℕ). IsRepresented (forms_in m) x bytes → refusal ≡ TooDeep) same f) refl h.0 h.1

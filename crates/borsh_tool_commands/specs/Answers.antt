@@ -6,6 +6,7 @@ use Rattle.borsh_json.specs.Forms.{forms_in}
 use Rattle.borsh_json.specs.InOrder.{Step, IsRepresented}
 use Rattle.borsh_json.specs.NoJson.{RefusesBytes}
 use Rattle.borsh_json.specs.declared.error.Refusal.{Refusal}
+use Rattle.borsh_json.specs.declared.error.Refusal.TheVariants.{TooDeep}
 use Rattle.borsh_walks.specs.Answers.{spoken}
 use Rattle.borsh_walks.specs.Container.{Member}
 use Rattle.borsh_walks.specs.Definitions.{definitions_in}
@@ -27,8 +28,8 @@ missing_text name = words_line (codes "missing", Some name)
 -- ---- `member`
 
 -- `member`, of bytes that JSON represents if they have to be canonical; or `no member`, where, and why, exactly if they are none; or, only if they have to
--- be, `not canonical` of a member that has no JSON for a reason, at a path
+-- be, `not canonical` of a member that has no JSON, or none that nests at most 128 deep, for a reason, at a path
 pub data AnswersMember (m : BTreeMap (String Global) Definition) (root bytes : List ℕ) (strict yes : Bool) (out : List ℕ) : Type 0 where
   member : Member (definitions_in m) root bytes → (strict ≡ true → IsRepresented (forms_in m) root bytes) → yes ≡ true → out ≡ line_of (codes "member") → AnswersMember m root bytes strict yes out
   no_member : (why : List ℕ) → (Member (definitions_in m) root bytes → ⊥) → yes ≡ false → out ≡ line_of (codes "no member: " ++ why) → AnswersMember m root bytes strict yes out
-  not_canonical : (why : List ℕ) (path : List Step) (refusal : Refusal) → Member (definitions_in m) root bytes → RefusesBytes (forms_in m) root bytes path refusal → strict ≡ true → yes ≡ false → out ≡ line_of (codes "not canonical: " ++ why) → AnswersMember m root bytes strict yes out
+  not_canonical : (why : List ℕ) (path : List Step) (refusal : Refusal) → Member (definitions_in m) root bytes → RefusesBytes (forms_in m) root bytes path refusal → (IsRepresented (forms_in m) root bytes → refusal ≡ TooDeep) → strict ≡ true → yes ≡ false → out ≡ line_of (codes "not canonical: " ++ why) → AnswersMember m root bytes strict yes out

@@ -4,6 +4,7 @@ use Rattle.borsh_walks.specs.Definitions.{definitions_in}
 use Rattle.borsh_json.specs.Errors.{IsNoJsonReason}
 use Rattle.borsh_json.specs.Forms.{forms_in}
 use Rattle.borsh_json.specs.InOrder.{IsRepresented}
+use Rattle.borsh_json.specs.NoValue.{IsGivenUp}
 use Rattle.borsh_json.proofs.PlanLaws.{by_plan}
 use Rattle.borsh_json.proofs.strict.check_strict.Goals as goal
 
@@ -18,3 +19,7 @@ returns-clause-represented c =
 pub returns-clause-reason : goal.returns-clause-reason
 returns-clause-reason c =
     by_plan (λ root map. IfErr c.check_strict.result (λ e. IsNoJsonReason (definitions_in map) root c.args.bytes.now e)) c.in_ok-json.json c.in_ok-plan.plan c.in_ok-json.ensures c.in_ok-plan.ensures c.check_strict.ensures.reason
+
+pub returns-clause-complete : goal.returns-clause-complete
+returns-clause-complete c =
+    by_plan (λ root map. IsRepresented (forms_in map) root c.args.bytes.now → IfErr c.check_strict.result (λ e. IsGivenUp e)) c.in_ok-json.json c.in_ok-plan.plan c.in_ok-json.ensures c.in_ok-plan.ensures c.check_strict.ensures.complete

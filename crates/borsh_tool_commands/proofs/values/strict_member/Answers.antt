@@ -1,10 +1,12 @@
-use Rattle.std.proofs.Common.{rules}
+use Rattle.std.proofs.Common.{◌≡◌, rules}
 use Rattle.std.specs.Prelude.{true}
 use Rattle.borsh_walks.specs.Container.{Member}
 use Rattle.borsh_walks.specs.Definitions.{definitions_in}
 use Rattle.borsh_json.specs.Forms.{forms_in}
+use Rattle.borsh_json.specs.InOrder.{IsRepresented}
 use Rattle.borsh_json.specs.NoJson.{RefusesBytes}
 use Rattle.borsh_json.specs.NoValue.{path_steps}
+use Rattle.borsh_json.specs.declared.error.Refusal.TheVariants.{TooDeep}
 use Rattle.borsh_tool_commands.proofs.Told.{no_told, refusal_told, yes_told}
 use Rattle.borsh_tool_commands.proofs.values.strict_member.Goals as goal
 
@@ -25,4 +27,5 @@ returns-in_ok-no-in-Err-Refused-clause-ok c =
     let is : Member (definitions_in m) c.as_str.result.now c.args.bytes.now = search rules in
     let steps = path_steps c.in-Err-Refused.part in
     let why : RefusesBytes (forms_in m) c.as_str.result.now c.args.bytes.now steps c.in-Err-Refused.refusal = search rules in
-    refusal_told m _ steps c.in-Err-Refused.refusal c.as_str.ensures.value is why c.in_ok-no-in-Err-Refused.ensures
+    let kept : IsRepresented (forms_in m) c.as_str.result.now c.args.bytes.now → c.in-Err-Refused.refusal ≡ TooDeep = search rules in
+    refusal_told m _ steps c.in-Err-Refused.refusal c.as_str.ensures.value is why kept c.in_ok-no-in-Err-Refused.ensures

@@ -12,7 +12,7 @@ use Rattle.borsh_json.specs.Found.{forms_of, names_of}
 use Rattle.borsh_json.specs.Frames.{steps_at, steps_through}
 use Rattle.borsh_json.specs.Places.{IsKindOf}
 use Rattle.borsh_json.specs.Writes.{names_of_all, names_of_rest, AreCalled, IsWrittenAs, Stops}
-use Rattle.borsh_json.proofs.CheckedLaws.{plain_due, same_only, value_due}
+use Rattle.borsh_json.proofs.CheckedLaws.{plain_due, same_opened, value_due}
 use Rattle.borsh_json.proofs.WriterLaws.{undecided, stops_value, stops_full, stops_either, leaf_room, leaf_begun, place_begun, new_marked, in_order, in_turn, still_rest, node_is, node_only, node_opened, node_form, node_on, is_deep, room_awaiting}
 use Rattle.borsh_json.proofs.writing.Writing.write_node.Goals as goal
 
@@ -69,9 +69,9 @@ returns-in_ok-enter-in-Ok-Some-clause-part c x f i e kind order tells full has a
     let q = c.in_order.result in
     let s = c.in_order.ensures.same in
     let rises = c.in_ok-check_elements.ensures in
-    let only = same_only F (form_of n.definition.now) (names_of_rest written.0) op.0 written.3 (node_only d w walk c.args.at x l i o n c.in-Some.is t) in
-    let due = value_due d x (form_of n.definition.now) n.bytes.now (names_of_rest written.0) op.0 written.3 only full c.args.kind c.order_of.result has kd order tells rises.bytes rises.numbers c.order_of.ensures.all in
-    place_begun d w new x (form_of n.definition.now) n.bytes.now a refl (ap (λ l. l.now) c.in_ok-node.ensures.plan ∙ l) z.root h.bytes h.next (node_on d w walk c.args.at x l i o n c.in-Some.is t) q op.0 z.room (written.0, still_rest F ns c.in-Ok-Some.place q written.0 s.0 s.1 s.2 written.1, written.2, written.3, subst (λ (k : Parts). AreCalled (form_of n.definition.now) n.bytes.now k (names_of_rest written.0)) (sym s.0) written.5) due.0 due.1
+    let is = same_opened F (form_of n.definition.now) (names_of_rest written.0) full op.0 written.3 op.2 (node_only d w walk c.args.at x l i o n c.in-Some.is t) in
+    let due = value_due d x (form_of n.definition.now) n.bytes.now (names_of_rest written.0) is c.args.kind c.order_of.result has kd order tells rises.bytes rises.numbers c.order_of.ensures.all in
+    place_begun d w new x (form_of n.definition.now) n.bytes.now a refl (ap (λ l. l.now) c.in_ok-node.ensures.plan ∙ l) z.root h.bytes h.next (node_on d w walk c.args.at x l i o n c.in-Some.is t) q z.room (written.0, still_rest F ns c.in-Ok-Some.place q written.0 s.0 s.1 s.2 written.1, written.2, is, subst (λ (k : Parts). AreCalled (form_of n.definition.now) n.bytes.now k (names_of_rest written.0)) (sym s.0) written.5) due.0 due.1
     (new_marked d w.bytes.now x due.0 (form_of n.definition.now) c.args.kind c.in-Ok-Some.place q written.4 kd order s.0 s.1 s.2 (in_order d w.bytes.now x q.parts due.0 c.args.kind c.order_of.result q.ascent order c.order_of.ensures.list c.in_order.ensures.ascent) (in_turn d w.bytes.now due.0 c.order_of.result q.ascent c.in_order.ensures.ascent due.2)) z.place z.outer
 
 pub returns-in-Ok-None-clause-part : goal.returns-in-Ok-None-clause-part
@@ -91,9 +91,9 @@ returns-in-Ok-None-clause-part c x f i e kind order tells full has a =
     let written = subst (λ (p : Option Place). IsWrittenAs F ns c.args.kind x (form_of n.definition.now) n.bytes.now w.out c.begin_value.new.out p) c.in-Ok-None.field-0-is (c.in-Ok-None.ensures has x h.parts i op kd) in
     let new : Writing = record { walk = walk; position = w.position; out = c.begin_value.new.out; bytes = w.bytes } in
     let rises = c.in_ok-check_elements.ensures in
-    let only = same_only F (form_of n.definition.now) written.1 op.0 written.2 (node_only d w walk c.args.at x l i o n c.in-Some.is t) in
-    let due = value_due d x (form_of n.definition.now) n.bytes.now written.1 op.0 written.2 only full c.args.kind None has kd order tells rises.bytes rises.numbers (λ es q. absurd (written.4 es q)) in
-    leaf_begun d w new x (form_of n.definition.now) n.bytes.now a refl (ap (λ l. l.now) c.in_ok-node.ensures.plan ∙ l) refl h.bytes h.next (node_on d w walk c.args.at x l i o n c.in-Some.is t) c.args.kind op.0 (leaf_room c.args.kind a.room (length w.position.outer.items) (room_awaiting d w x a) c.in_ok-check_elements.ensures.room) written (plain_due F x n.bytes.now written.1 due.0 due.1 due.2) refl refl
+    let is = same_opened F (form_of n.definition.now) written.1 full op.0 written.2 op.2 (node_only d w walk c.args.at x l i o n c.in-Some.is t) in
+    let due = value_due d x (form_of n.definition.now) n.bytes.now written.1 is c.args.kind None has kd order tells rises.bytes rises.numbers (λ es q. absurd (written.4 es q)) in
+    leaf_begun d w new x (form_of n.definition.now) n.bytes.now a refl (ap (λ l. l.now) c.in_ok-node.ensures.plan ∙ l) refl h.bytes h.next (node_on d w walk c.args.at x l i o n c.in-Some.is t) c.args.kind (leaf_room c.args.kind a.room (length w.position.outer.items) (room_awaiting d w x a) c.in_ok-check_elements.ensures.room) written is (plain_due F x n.bytes.now written.1 due.0 due.1 due.2) refl refl
 
 pub returns-in-Err-clause-part : goal.returns-in-Err-clause-part
 returns-in-Err-clause-part c x f i e kind order tells full has a =
