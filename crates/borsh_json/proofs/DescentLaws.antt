@@ -2,8 +2,7 @@
 use Rattle.std.proofs.Common.{◌≡◌, ◌⊎◌, inl, inr, ℕ, suc, zero, ◌+◌, ◌-◌, ◌*◌, ◌<◌, ◌≤◌, ◌^◌, List, [], ◌∷◌, ◌++◌, length, map, take, drop, Bool, Option, Some, refl, sym, ◌∙◌, ap, subst, arith, append_assoc, append-nil, length-append, length-drop, length-take-le, take-append-drop, ℤ, pos, All, Decides, true, false, nat_cmp, int_cmp, Ordering, Less, Equal, Greater}
 use Rattle.std.specs.Cmp.Lexicographic.{slice_cmp}
 use Rattle.std.proofs.Math.Nat.{suc-mul, zero-mul, mul-le-mul_left, mul-le-mul_right}
-use Rattle.borsh_walks.specs.Container.{of_primitive, tag}
-use Rattle.borsh_walks.specs.Container as shape
+use Rattle.borsh_walks.specs.Container.{tag}
 use Rattle.borsh_values.proofs.MemberLaws.{copies_of, same_front}
 use Rattle.borsh_json.specs.Descents.{PrimitivesDescend, HasKeys, HasDescent}
 use Rattle.borsh_json.specs.Forms.{Form, primitive, shape_of_form, shapes}

@@ -1,7 +1,7 @@
 -- Two neighbours that don't ascend, where the writer is.
 use Rattle.std.proofs.Common.{◌≡◌, inr, ℕ, suc, zero, ◌+◌, ◌<◌, ◌≤◌, List, [], ◌∷◌, ◌++◌, length, replicate, drop, Option, Some, None, refl, sym, ◌∙◌, ap, subst, arith, append_assoc, append-nil, length-append, pos, Bool, true, false, Decides, Result, Ok, Err, IfErr, IfOk, OnOk, MatchBool, MatchOption}
 use Rattle.std.proofs.Math.Seq.{drop-append_seam}
-use Rattle.borsh_walks.specs.Container.{Shape, primitive, sequence, product, choice, tag, Member, Members}
+use Rattle.borsh_walks.specs.Container.{Shape, primitive, sequence, product, choice, tag}
 use Rattle.borsh_plan.specs.Plan.{root_of}
 use Rattle.borsh_values.specs.Nodes.{packed_size, Opens, OpensElements, AreElementsOf}
 use Rattle.borsh_json.specs.declared.definitions.Definitions.{Definitions}

@@ -1,5 +1,5 @@
 -- Floats, their bits and their texts.
-use Rattle.std.proofs.Common.{◌≡◌, inl, inr, ◌∷◌, ◌++◌, [], ℕ, ◌+◌, ◌*◌, ◌^◌, ◌<◌, List, length, Bool, true, false, true≢false, Option, Some, None, refl, sym, ◌∙◌, ap, subst, arith, if◌then◌else◌, not, codes, T, from_bits, to_bits, option_map, MatchOption, MatchResult, Result, Ok, Err, IsTrue, IsFalse, Bor, bytes_eq, Contains}
+use Rattle.std.proofs.Common.{◌≡◌, inl, inr, ◌∷◌, ◌++◌, [], ℕ, ◌*◌, ◌^◌, ◌<◌, List, length, Bool, true, false, true≢false, Option, Some, None, refl, sym, ◌∙◌, ap, subst, arith, if◌then◌else◌, not, codes, T, from_bits, to_bits, option_map, MatchOption, MatchResult, Result, Ok, Err, IsTrue, IsFalse, Bor, bytes_eq, Contains}
 use Rattle.std.specs.Float.{Float, Format, nan, inf, fin, binary32, binary64, float_is_finite}
 use Rattle.std.specs.Float.Ieee.{top}
 use Rattle.std.specs.Float.Numeral.{scan_numeral}

@@ -1,9 +1,8 @@
 -- Where in a value the writer is.
-use Rattle.std.proofs.Common.{◌≡◌, ℕ, suc, ◌+◌, ◌<◌, ◌≤◌, List, [], ◌∷◌, ◌++◌, length, Option, Some, refl, sym, ◌∙◌, ap, subst, arith, append_assoc, append-nil, length-append, option_map}
-use Rattle.borsh_walks.specs.Container.{IsIn, first, later, Member, Members, no_members, more_members}
+use Rattle.std.proofs.Common.{◌≡◌, ℕ, suc, ◌+◌, ◌<◌, ◌≤◌, List, [], ◌∷◌, ◌++◌, length, Option, Some, refl, sym, ◌∙◌, ap, subst, arith, append_assoc, append-nil, length-append}
+use Rattle.borsh_walks.specs.Container.{IsIn, first, later, Member, Members}
 use Rattle.borsh_walks.proofs.Laws.{zero_member}
-use Rattle.borsh_values.specs.Nodes.{Opens}
-use Rattle.borsh_values.proofs.MemberLaws.{opens_member, members_head, whole, joined}
+use Rattle.borsh_values.proofs.MemberLaws.{members_head}
 use Rattle.borsh_json.specs.declared.position.Place.{Place}
 use Rattle.borsh_json.specs.Forms.{Form, shapes, HasNoBytes}
 use Rattle.borsh_json.specs.Frames.{first_steps, last_steps, steps_at, steps_through}

@@ -1,5 +1,5 @@
 -- Steps of the writer's loop.
-use Rattle.std.proofs.Common.{◌≡◌, All, ℕ, suc, ◌+◌, ◌≤◌, List, [], ◌∷◌, ◌++◌, length, Option, Some, refl, sym, ◌∙◌, ap, subst, arith, append_assoc, append-nil}
+use Rattle.std.proofs.Common.{◌≡◌, ℕ, suc, ◌+◌, ◌≤◌, List, [], ◌∷◌, ◌++◌, length, Option, Some, refl, sym, ◌∙◌, ap, subst, arith, append_assoc, append-nil}
 use Rattle.json.specs.Token.{Token}
 use Rattle.json.specs.Json.{Json, item, member, document, if_last, value, max_depth}
 use Rattle.json.specs.Lex.{tokens}

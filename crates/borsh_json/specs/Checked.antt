@@ -1,5 +1,5 @@
 -- Bytes of which each definition opens once, and in which what has to ascend does, whatever JSON says them.
-use Rattle.std.specs.Prelude.{◌≡◌, ℕ, suc, zero, List, [], ◌∷◌, ◌++◌, map, replicate, drop, Bool, Option, Some, None, IfSome}
+use Rattle.std.specs.Prelude.{◌≡◌, ℕ, suc, zero, List, [], ◌∷◌, ◌++◌, map, replicate, drop, Option, Some, None, IfSome}
 use Rattle.borsh_values.specs.Nodes.{packed_size}
 use Rattle.borsh_values.specs.Cursor.{OpensOnce}
 use Rattle.borsh_json.specs.Descents.{HasKeys, PrimitivesDescend}

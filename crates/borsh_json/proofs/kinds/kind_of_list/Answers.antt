@@ -1,4 +1,4 @@
-use Rattle.std.proofs.Common.{◌≡◌, ◌-◌, ◌∙◌, inl, inr, false, Some, arith, option_map, sym, ap, subst}
+use Rattle.std.proofs.Common.{◌≡◌, ◌-◌, ◌∙◌, inl, inr, Some, arith, option_map, sym, ap, subst}
 use Rattle.borsh_plan.specs.Plan.{names_of as plan_names}
 use Rattle.borsh_values.specs.Nodes.{packed_size}
 use Rattle.borsh_json.specs.declared.kinds.Elements.{Elements}

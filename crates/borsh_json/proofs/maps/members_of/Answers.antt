@@ -1,4 +1,4 @@
-use Rattle.std.proofs.Common.{◌∙◌, List, ℕ, sym, ap, subst, true, false, is_some}
+use Rattle.std.proofs.Common.{◌∙◌, List, ℕ, sym, ap, subst, is_some}
 use Rattle.json.specs.Find.{as_object}
 use Rattle.borsh_walks.proofs.Tables.{marks_none}
 use Rattle.borsh_json.specs.Frames.{IsText}

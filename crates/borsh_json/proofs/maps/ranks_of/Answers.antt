@@ -1,4 +1,4 @@
-use Rattle.std.proofs.Common.{◌∙◌, inl, inr, List, ℕ, sym, ap, subst, true, false, is_some, nat_cmp}
+use Rattle.std.proofs.Common.{◌∙◌, inl, inr, List, ℕ, sym, ap, subst, is_some, nat_cmp}
 use Rattle.json.specs.Find.{as_object}
 use Rattle.borsh_json.specs.Frames.{IsRank}
 use Rattle.borsh_json.proofs.MemberLaws.{passed_start, passed_here, passed_more, passed_twice, passed_all, not_each, none_of}

@@ -1,6 +1,6 @@
-use Rattle.std.proofs.Common.{◌≡◌, ◌∙◌, ℕ, length, refl, subst, sym, true≢false}
+use Rattle.std.proofs.Common.{◌≡◌, ◌∙◌, length, refl, subst, sym, true≢false}
 use Rattle.std.proofs.lemmas.Bool.Decides.{Decides-eqb}
-use Rattle.std.specs.Prelude.{Option, Some}
+use Rattle.std.specs.Prelude.{Option}
 use Rattle.borsh_values.specs.Preorder.{GivesNext}
 use Rattle.borsh_values.specs.declared.nodes.Node.{Node}
 use Rattle.borsh_json.specs.Rows.{nothing}
