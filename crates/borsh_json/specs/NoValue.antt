@@ -100,7 +100,7 @@ module _ (F : List ℕ → Option Form) (root : List ℕ) where
   ShowsNoValue text (NotJson offset) = document text ≡ None
   ShowsNoValue text (Refused path refusal) = (j : Json) → document text ≡ Some j → (path.root.now ≡ root) × FailsAt j (path_steps path) refusal × SaysNothing j refusal
 
--- of a text that represents some bytes these are the only errors: memory, definitions that aren't unambiguous, and parts inside of 128 others
+-- of a text that represents some bytes, and of such bytes, these are the only errors: memory, definitions that aren't unambiguous, and parts inside of 128 others
 abbrev pub IsGivenUp : JsonError → Type 0
 IsGivenUp OutOfMemory = ⊤
 IsGivenUp (NoMember f) = ⊥
