@@ -1,6 +1,6 @@
 -- The places of names among the entries of a map, and marks by place.
-use Rattle.std.proofs.Common.{◌≡◌, ◌⊎◌, ℕ, suc, zero, ◌<◌, ◌≤◌, List, [], ◌∷◌, length, refl, sym, ◌∙◌, ap, subst, arith, Some, None, true, false, Bool, inl, inr, Less, Equal, Greater, Ordering}
-use Rattle.std.specs.Prelude.{Option, String, cond, get_or, map, option_map, replicate, slice_get, slice_set, string_bytes, drop}
+use Rattle.std.proofs.Common.{◌≡◌, ℕ, suc, zero, ◌<◌, ◌≤◌, List, [], ◌∷◌, length, refl, sym, ◌∙◌, ap, subst, arith, Some, None, true, false, Bool, inl, inr, Less, Equal, Greater, Ordering}
+use Rattle.std.specs.Prelude.{Option, String, cond, get_or, option_map, replicate, slice_get, slice_set, string_bytes, drop}
 use Rattle.std.specs.Borrow.{Bor}
 use Rattle.std.specs.Cmp.{IsTotalOrder}
 use Rattle.std.specs.List.{AllByRecursion, AllWithin}
@@ -9,7 +9,7 @@ use Rattle.std.specs.Map.{keys_of, lookup}
 use Rattle.std.specs.Map.Iter.{deref_pair}
 use Rattle.std.specs.Cmp.Lexicographic.{nat_list_cmp_total, slice_cmp}
 use Rattle.std.specs.Ordering.{nat_cmp, is_eq, ordering_index, ordering_reverse}
-use Rattle.std.proofs.lemmas.Bool.{cases_eq}
+use Rattle.std.proofs.lemmas.Bool.{cases_lt}
 use Rattle.std.proofs.lemmas.Map.Keys.{Less-from_sorted}
 use Rattle.borsh_walks.specs.Places.{place_in, mark_by, filled, AreEntries, AreInOrder}
 use Rattle.borsh_walks.proofs.Names.{same_name}
@@ -122,21 +122,11 @@ rises a b x e = by (slice_cmp nat_cmp a x) refl
     by Equal q = let g = less_greater x b (sym (total.congr a x b q) ∙ e) in subst (λ r. 1 ≤ ordering_index r) (sym g) (omega arith)
     by Greater q = let g = less_greater x b (total.trans x a b (total.antisymm x a ∙ ap ordering_reverse q) e) in subst (λ r. 2 ≤ ordering_index r) (sym g) (omega arith)
 
-module _ {X : Type 0} where
-  abbrev pub name_at : List (Bor (List ℕ) × Bor X) → ℕ → Bor (List ℕ) × Bor X → List ℕ
-  name_at vs k d = (get_or vs k d).0.now
-
-  ascends : (vs : List (Bor (List ℕ) × Bor X)) (i j : ℕ) (d : Bor (List ℕ) × Bor X) → AreInOrder vs → i < j → j < length vs → slice_cmp nat_cmp (name_at vs i d) (name_at vs j d) ≡ Less
-  ascends vs = Less-from_sorted (λ v w. slice_cmp nat_cmp v.0.now w.0.now) vs
-
-  pub ordered_by : (vs : List (Bor (List ℕ) × Bor X)) (x : List ℕ) → AreInOrder vs → IsNonDecreasingBy (λ y. ordering_index (slice_cmp nat_cmp y.0.now x)) vs
-  ordered_by vs x o i j d low high = elim (cases_eq i j) [
-    | inl e ↦ subst (λ k. ordering_index (slice_cmp nat_cmp (name_at vs i d) x) ≤ ordering_index (slice_cmp nat_cmp (name_at vs k d) x)) e (omega arith)
-    | inr f ↦ rises (name_at vs i d) (name_at vs j d) x (ascends vs i j d o (below i j low f) high)
-  ]
-    where
-      below : (i j : ℕ) → i ≤ j → (i ≡ j → ⊥) → i < j
-      below i j low f = omega (arith, low, f)
+pub ordered_by : {X : Type 0} (vs : List (Bor (List ℕ) × Bor X)) (x : List ℕ) → AreInOrder vs → IsNonDecreasingBy (λ y. ordering_index (slice_cmp nat_cmp y.0.now x)) vs
+ordered_by vs x o i j d low high = elim (cases_lt i j) [
+  | inl h ↦ rises (get_or vs i d).0.now (get_or vs j d).0.now x (Less-from_sorted _ vs i j d o h high)
+  | inr h ↦ let e : i ≡ j = omega (arith, low, h) in subst (λ k. ordering_index (slice_cmp nat_cmp (get_or vs i d).0.now x) ≤ ordering_index (slice_cmp nat_cmp (get_or vs k d).0.now x)) e (omega arith)
+]
 
 module _ {A X : Type 0} where
   first_name : (v : Bor (List ℕ) × Bor X) (vs : List (Bor (List ℕ) × Bor X)) (e : String A × X) (es : List (String A × X)) → AreEntries (e ∷ es) (v ∷ vs) → string_bytes e.0 ≡ v.0.now
@@ -155,7 +145,7 @@ module _ {A X : Type 0} where
   ascend (v ∷ vs) (e ∷ es) l o = (all_above v.0.now vs es (ap (drop 1) l) (subst (λ n. AllByRecursion (λ y. slice_cmp nat_cmp n (string_bytes y) ≡ Less) (keys_of es)) (first_name v vs e es l) o.0), ascend vs es (ap (drop 1) l) o.1)
 
   -- no entry has the name
-  none_there : (vs : List (Bor (List ℕ) × Bor X)) (es : List (String A × X)) (x : List ℕ) → AreEntries es vs → ((k : ℕ) (d : Bor (List ℕ) × Bor X) → k < length vs → is_eq (slice_cmp nat_cmp x (name_at vs k d)) ≡ false) → (place_in es x ≡ None) × (lookup (λ k. is_eq (slice_cmp nat_cmp x (string_bytes k))) es ≡ None)
+  none_there : (vs : List (Bor (List ℕ) × Bor X)) (es : List (String A × X)) (x : List ℕ) → AreEntries es vs → ((k : ℕ) (d : Bor (List ℕ) × Bor X) → k < length vs → is_eq (slice_cmp nat_cmp x (get_or vs k d).0.now) ≡ false) → (place_in es x ≡ None) × (lookup (λ k. is_eq (slice_cmp nat_cmp x (string_bytes k))) es ≡ None)
   none_there vs [] x l f = (refl, refl)
   none_there [] (e ∷ es) x l f = cc
   none_there (v ∷ vs) (e ∷ es) x l f =
@@ -164,7 +154,7 @@ module _ {A X : Type 0} where
       (cond_is _ false _ _ h (ap (λ o. option_map (λ i. suc i) o) t.0), cond_is _ false _ _ h t.1)
 
   -- the first entry of the name is the i-th
-  there : (vs : List (Bor (List ℕ) × Bor X)) (es : List (String A × X)) (x : List ℕ) (i : ℕ) (d : Bor (List ℕ) × Bor X) → AreEntries es vs → i < length vs → is_eq (slice_cmp nat_cmp x (name_at vs i d)) ≡ true → ((k : ℕ) → k < i → is_eq (slice_cmp nat_cmp x (name_at vs k d)) ≡ false) → (place_in es x ≡ Some i) × (lookup (λ k. is_eq (slice_cmp nat_cmp x (string_bytes k))) es ≡ Some (get_or vs i d).1.now)
+  there : (vs : List (Bor (List ℕ) × Bor X)) (es : List (String A × X)) (x : List ℕ) (i : ℕ) (d : Bor (List ℕ) × Bor X) → AreEntries es vs → i < length vs → is_eq (slice_cmp nat_cmp x (get_or vs i d).0.now) ≡ true → ((k : ℕ) → k < i → is_eq (slice_cmp nat_cmp x (get_or vs k d).0.now) ≡ false) → (place_in es x ≡ Some i) × (lookup (λ k. is_eq (slice_cmp nat_cmp x (string_bytes k))) es ≡ Some (get_or vs i d).1.now)
   there [] es x i d l low h f = absurd (omega arith)
   there (v ∷ vs) [] x i d l low h f = cc
   there (v ∷ vs) (e ∷ es) x zero d l low h f =
@@ -175,22 +165,17 @@ module _ {A X : Type 0} where
       let t = there vs es x i d (ap (drop 1) l) (omega arith) h (λ k l. f (suc k) (omega arith)) in
       (cond_is _ false _ _ g (ap (λ o. option_map (λ i. suc i) o) t.0), cond_is _ false _ _ g t.1)
 
-  pub search_hit : (vs : List (Bor (List ℕ) × Bor X)) (es : List (String A × X)) (x : List ℕ) (i : ℕ) (d : Bor (List ℕ) × Bor X) → AreEntries es vs → AreInOrder vs → i < length vs → slice_cmp nat_cmp (name_at vs i d) x ≡ Equal → (place_in es x ≡ Some i) × (lookup (λ k. is_eq (slice_cmp nat_cmp x (string_bytes k))) es ≡ Some (get_or vs i d).1.now)
+  pub search_hit : (vs : List (Bor (List ℕ) × Bor X)) (es : List (String A × X)) (x : List ℕ) (i : ℕ) (d : Bor (List ℕ) × Bor X) → AreEntries es vs → AreInOrder vs → i < length vs → slice_cmp nat_cmp (get_or vs i d).0.now x ≡ Equal → (place_in es x ≡ Some i) × (lookup (λ k. is_eq (slice_cmp nat_cmp x (string_bytes k))) es ≡ Some (get_or vs i d).1.now)
   search_hit vs es x i d l o low e =
-      there vs es x i d l low (ap is_eq (total.antisymm x (name_at vs i d) ∙ ap ordering_reverse e))
-      (λ k h. ap is_eq (sym (total.congr (name_at vs i d) x (name_at vs k d) e) ∙ less_greater (name_at vs k d) (name_at vs i d) (ascends vs k i d o h low)))
+      there vs es x i d l low (ap is_eq (total.antisymm x (get_or vs i d).0.now ∙ ap ordering_reverse e))
+      (λ k h. ap is_eq (sym (total.congr (get_or vs i d).0.now x (get_or vs k d).0.now e) ∙ less_greater (get_or vs k d).0.now (get_or vs i d).0.now (Less-from_sorted _ vs k i d o h low)))
 
   pub search_miss : (vs : List (Bor (List ℕ) × Bor X)) (es : List (String A × X)) (x : List ℕ) (i : ℕ) → AreEntries es vs → AllWithin (λ y. slice_cmp nat_cmp y.0.now x ≡ Less) vs 0 i → AllWithin (λ y. slice_cmp nat_cmp y.0.now x ≡ Greater) vs i (length vs) → (place_in es x ≡ None) × (lookup (λ k. is_eq (slice_cmp nat_cmp x (string_bytes k))) es ≡ None)
   search_miss vs es x i l below above =
-      none_there vs es x l (λ k d low. elim (lt_cases k i) [
-        | inl h ↦ ap is_eq (less_greater (name_at vs k d) x (below k d (omega arith) h))
-        | inr h ↦ ap is_eq (total.antisymm x (name_at vs k d) ∙ ap ordering_reverse (above k d h low))
+      none_there vs es x l (λ k d low. elim (cases_lt k i) [
+        | inl h ↦ ap is_eq (less_greater (get_or vs k d).0.now x (below k d (omega arith) h))
+        | inr h ↦ ap is_eq (total.antisymm x (get_or vs k d).0.now ∙ ap ordering_reverse (above k d h low))
       ])
-    where
-      lt_cases : (k i : ℕ) → (k < i) ⊎ (i ≤ k)
-      lt_cases k zero = inr (omega arith)
-      lt_cases zero (suc i) = inl (omega arith)
-      lt_cases (suc k) (suc i) = elim (lt_cases k i) [ inl h ↦ inl (omega arith) | inr h ↦ inr (omega arith) ]
 
 pub at_replicate : {Y : Type 0} (a : Y) (n i : ℕ) → i < n → slice_get (replicate n a) i ≡ Some a
 at_replicate a zero i low = absurd (omega arith)

@@ -22,8 +22,10 @@ impl<'a> Places<'a> {
     ) -> Result<Places<'a>, AllocError>
         ensures { IfOk result (λ p. (p.map ≡ map.entry) × AreListed p) }
     {
-        let entries: Vec<(&'a str, &'a Definition)> =
-            map.iter().map(|(name, definition)| (name.as_str(), definition)).collect(alloc)?;
+        let entries = map
+            .iter()
+            .map(|(name, definition)| (name.as_str(), definition))
+            .collect(alloc)?;
         Ok(Places { map, entries })
     }
 
