@@ -1,17 +1,17 @@
 -- The places of names among the entries of a map, and marks by place.
-use Rattle.std.proofs.Common.{◌≡◌, ◌⊎◌, ℕ, suc, zero, ◌<◌, ◌≤◌, List, [], ◌∷◌, length, refl, sym, ◌∙◌, ap, subst, arith, Some, None, true, false, Bool, inl, inr, Less, Equal, Greater, Ordering}
-use Rattle.std.specs.Prelude.{Option, String, cond, get_or, map, option_map, replicate, slice_get, slice_set, string_bytes}
+use Rattle.std.proofs.Common.{◌≡◌, ℕ, suc, zero, ◌<◌, ◌≤◌, List, [], ◌∷◌, length, refl, sym, ◌∙◌, ap, subst, arith, Some, None, true, false, Bool, inl, inr, Less, Equal, Greater, Ordering}
+use Rattle.std.specs.Prelude.{Option, String, cond, get_or, option_map, replicate, slice_get, slice_set, string_bytes, drop}
 use Rattle.std.specs.Borrow.{Bor}
 use Rattle.std.specs.Cmp.{IsTotalOrder}
-use Rattle.std.specs.List.{AllWithin}
-use Rattle.std.specs.List.Sorted.{IsNonDecreasingBy}
+use Rattle.std.specs.List.{AllByRecursion, AllWithin}
+use Rattle.std.specs.List.Sorted.{IsNonDecreasingBy, IsStrictlySortedBy}
 use Rattle.std.specs.Map.{keys_of, lookup}
 use Rattle.std.specs.Map.Iter.{deref_pair}
 use Rattle.std.specs.Cmp.Lexicographic.{nat_list_cmp_total, slice_cmp}
 use Rattle.std.specs.Ordering.{nat_cmp, is_eq, ordering_index, ordering_reverse}
-use Rattle.std.proofs.lemmas.Bool.{cases_eq}
+use Rattle.std.proofs.lemmas.Bool.{cases_lt}
 use Rattle.std.proofs.lemmas.Map.Keys.{Less-from_sorted}
-use Rattle.borsh_walks.specs.Places.{place_in, mark_by, filled, AreInOrder}
+use Rattle.borsh_walks.specs.Places.{place_in, mark_by, filled, AreEntries, AreInOrder}
 use Rattle.borsh_walks.proofs.Names.{same_name}
 use Rattle.borsh_walks.proofs.Tables.{Updated}
 
@@ -122,66 +122,60 @@ rises a b x e = by (slice_cmp nat_cmp a x) refl
     by Equal q = let g = less_greater x b (sym (total.congr a x b q) ∙ e) in subst (λ r. 1 ≤ ordering_index r) (sym g) (omega arith)
     by Greater q = let g = less_greater x b (total.trans x a b (total.antisymm x a ∙ ap ordering_reverse q) e) in subst (λ r. 2 ≤ ordering_index r) (sym g) (omega arith)
 
+pub ordered_by : {X : Type 0} (vs : List (Bor (List ℕ) × Bor X)) (x : List ℕ) → AreInOrder vs → IsNonDecreasingBy (λ y. ordering_index (slice_cmp nat_cmp y.0.now x)) vs
+ordered_by vs x o i j d low high = elim (cases_lt i j) [
+  | inl h ↦ rises (get_or vs i d).0.now (get_or vs j d).0.now x (Less-from_sorted _ vs i j d o h high)
+  | inr h ↦ let e : i ≡ j = omega (arith, low, h) in subst (λ k. ordering_index (slice_cmp nat_cmp (get_or vs i d).0.now x) ≤ ordering_index (slice_cmp nat_cmp (get_or vs k d).0.now x)) e (omega arith)
+]
+
 module _ {A X : Type 0} where
-  abbrev pub name_at : List (Bor (String A) × Bor X) → ℕ → Bor (String A) × Bor X → List ℕ
-  name_at vs k d = string_bytes (get_or vs k d).0.now
+  first_name : (v : Bor (List ℕ) × Bor X) (vs : List (Bor (List ℕ) × Bor X)) (e : String A × X) (es : List (String A × X)) → AreEntries (e ∷ es) (v ∷ vs) → string_bytes e.0 ≡ v.0.now
+  first_name v vs e es l = ap (λ t. (get_or t 0 (deref_pair v)).0) (sym l)
 
-  key_at : (vs : List (Bor (String A) × Bor X)) (k : ℕ) (d : Bor (String A) × Bor X) → get_or (keys_of (map deref_pair vs)) k d.0.now ≡ (get_or vs k d).0.now
-  key_at [] k d = refl
-  key_at (v ∷ vs) zero d = refl
-  key_at (v ∷ vs) (suc k) d = key_at vs k d
+  all_above : (n : List ℕ) (vs : List (Bor (List ℕ) × Bor X)) (es : List (String A × X)) → AreEntries es vs → AllByRecursion (λ y. slice_cmp nat_cmp n (string_bytes y) ≡ Less) (keys_of es) → AllByRecursion (λ v. slice_cmp nat_cmp n v.0.now ≡ Less) vs
+  all_above n [] es l a = tt
+  all_above n (v ∷ vs) [] l a = cc
+  all_above n (v ∷ vs) (e ∷ es) l a = (ap (λ m. slice_cmp nat_cmp n m) (sym (first_name v vs e es l)) ∙ a.0, all_above n vs es (ap (drop 1) l) a.1)
 
-  keys_length : (vs : List (Bor (String A) × Bor X)) → length (keys_of (map deref_pair vs)) ≡ length vs
-  keys_length [] = refl
-  keys_length (v ∷ vs) = ap (λ n. suc n) (keys_length vs)
-
-  ascends : (vs : List (Bor (String A) × Bor X)) (i j : ℕ) (d : Bor (String A) × Bor X) → AreInOrder (map deref_pair vs) → i < j → j < length vs → slice_cmp nat_cmp (name_at vs i d) (name_at vs j d) ≡ Less
-  ascends vs i j d o low high =
-      let e = Less-from_sorted (λ x y. slice_cmp nat_cmp (string_bytes x) (string_bytes y)) (keys_of (map deref_pair vs)) i j d.0.now o low (omega (arith, high, keys_length vs)) in
-      sym (ap (λ k. slice_cmp nat_cmp (string_bytes k) (name_at vs j d)) (key_at vs i d)) ∙ sym (ap (λ k. slice_cmp nat_cmp (string_bytes (get_or (keys_of (map deref_pair vs)) i d.0.now)) (string_bytes k)) (key_at vs j d)) ∙ e
-
-  pub ordered_by : (vs : List (Bor (String A) × Bor X)) (x : List ℕ) → AreInOrder (map deref_pair vs) → IsNonDecreasingBy (λ y. ordering_index (slice_cmp nat_cmp (string_bytes y.0.now) x)) vs
-  ordered_by vs x o i j d low high = elim (cases_eq i j) [
-    | inl e ↦ subst (λ k. ordering_index (slice_cmp nat_cmp (name_at vs i d) x) ≤ ordering_index (slice_cmp nat_cmp (name_at vs k d) x)) e (omega arith)
-    | inr f ↦ rises (name_at vs i d) (name_at vs j d) x (ascends vs i j d o (below i j low f) high)
-  ]
-    where
-      below : (i j : ℕ) → i ≤ j → (i ≡ j → ⊥) → i < j
-      below i j low f = omega (arith, low, f)
+  -- the names ascend as the keys of the map do
+  pub ascend : (vs : List (Bor (List ℕ) × Bor X)) (es : List (String A × X)) → AreEntries es vs → IsStrictlySortedBy (λ x y. slice_cmp nat_cmp (string_bytes x) (string_bytes y)) (keys_of es) → AreInOrder vs
+  unfolding IsStrictlySortedBy
+  ascend [] es l o = tt
+  ascend (v ∷ vs) [] l o = cc
+  ascend (v ∷ vs) (e ∷ es) l o = (all_above v.0.now vs es (ap (drop 1) l) (subst (λ n. AllByRecursion (λ y. slice_cmp nat_cmp n (string_bytes y) ≡ Less) (keys_of es)) (first_name v vs e es l) o.0), ascend vs es (ap (drop 1) l) o.1)
 
   -- no entry has the name
-  pub none_there : (vs : List (Bor (String A) × Bor X)) (x : List ℕ) → ((k : ℕ) (d : Bor (String A) × Bor X) → k < length vs → is_eq (slice_cmp nat_cmp x (name_at vs k d)) ≡ false) → (place_in (map deref_pair vs) x ≡ None) × (lookup (λ k. is_eq (slice_cmp nat_cmp x (string_bytes k))) (map deref_pair vs) ≡ None)
-  none_there [] x f = (refl, refl)
-  none_there (v ∷ vs) x f =
-      let h = f 0 v (omega arith) in
-      let t = none_there vs x (λ k d l. f (suc k) d (omega arith)) in
-      (ap (λ b. cond b (Some 0) (option_map (λ i. suc i) (place_in (map deref_pair vs) x))) h ∙ ap (λ o. option_map (λ i. suc i) o) t.0, ap (λ b. cond b (Some v.1.now) (lookup (λ k. is_eq (slice_cmp nat_cmp x (string_bytes k))) (map deref_pair vs))) h ∙ t.1)
+  none_there : (vs : List (Bor (List ℕ) × Bor X)) (es : List (String A × X)) (x : List ℕ) → AreEntries es vs → ((k : ℕ) (d : Bor (List ℕ) × Bor X) → k < length vs → is_eq (slice_cmp nat_cmp x (get_or vs k d).0.now) ≡ false) → (place_in es x ≡ None) × (lookup (λ k. is_eq (slice_cmp nat_cmp x (string_bytes k))) es ≡ None)
+  none_there vs [] x l f = (refl, refl)
+  none_there [] (e ∷ es) x l f = cc
+  none_there (v ∷ vs) (e ∷ es) x l f =
+      let h = ap (λ n. is_eq (slice_cmp nat_cmp x n)) (first_name v vs e es l) ∙ f 0 v (omega arith) in
+      let t = none_there vs es x (ap (drop 1) l) (λ k d low. f (suc k) d (omega arith)) in
+      (cond_is _ false _ _ h (ap (λ o. option_map (λ i. suc i) o) t.0), cond_is _ false _ _ h t.1)
 
   -- the first entry of the name is the i-th
-  pub there : (vs : List (Bor (String A) × Bor X)) (x : List ℕ) (i : ℕ) (d : Bor (String A) × Bor X) → i < length vs → is_eq (slice_cmp nat_cmp x (name_at vs i d)) ≡ true → ((k : ℕ) → k < i → is_eq (slice_cmp nat_cmp x (name_at vs k d)) ≡ false) → (place_in (map deref_pair vs) x ≡ Some i) × (lookup (λ k. is_eq (slice_cmp nat_cmp x (string_bytes k))) (map deref_pair vs) ≡ Some (get_or vs i d).1.now)
-  there [] x i d low h f = absurd (omega arith)
-  there (v ∷ vs) x zero d low h f = (ap (λ b. cond b (Some 0) (option_map (λ i. suc i) (place_in (map deref_pair vs) x))) h, ap (λ b. cond b (Some v.1.now) (lookup (λ k. is_eq (slice_cmp nat_cmp x (string_bytes k))) (map deref_pair vs))) h)
-  there (v ∷ vs) x (suc i) d low h f =
-      let g = f 0 (omega arith) in
-      let t = there vs x i d (omega arith) h (λ k l. f (suc k) (omega arith)) in
-      (ap (λ b. cond b (Some 0) (option_map (λ i. suc i) (place_in (map deref_pair vs) x))) g ∙ ap (λ o. option_map (λ i. suc i) o) t.0, ap (λ b. cond b (Some v.1.now) (lookup (λ k. is_eq (slice_cmp nat_cmp x (string_bytes k))) (map deref_pair vs))) g ∙ t.1)
+  there : (vs : List (Bor (List ℕ) × Bor X)) (es : List (String A × X)) (x : List ℕ) (i : ℕ) (d : Bor (List ℕ) × Bor X) → AreEntries es vs → i < length vs → is_eq (slice_cmp nat_cmp x (get_or vs i d).0.now) ≡ true → ((k : ℕ) → k < i → is_eq (slice_cmp nat_cmp x (get_or vs k d).0.now) ≡ false) → (place_in es x ≡ Some i) × (lookup (λ k. is_eq (slice_cmp nat_cmp x (string_bytes k))) es ≡ Some (get_or vs i d).1.now)
+  there [] es x i d l low h f = absurd (omega arith)
+  there (v ∷ vs) [] x i d l low h f = cc
+  there (v ∷ vs) (e ∷ es) x zero d l low h f =
+      let g = ap (λ n. is_eq (slice_cmp nat_cmp x n)) (first_name v vs e es l) ∙ h in
+      (cond_is _ true _ _ g refl, cond_is _ true _ _ g (ap (λ t. Some (get_or t 0 (deref_pair v)).1) (sym l)))
+  there (v ∷ vs) (e ∷ es) x (suc i) d l low h f =
+      let g = ap (λ n. is_eq (slice_cmp nat_cmp x n)) (first_name v vs e es l) ∙ f 0 (omega arith) in
+      let t = there vs es x i d (ap (drop 1) l) (omega arith) h (λ k l. f (suc k) (omega arith)) in
+      (cond_is _ false _ _ g (ap (λ o. option_map (λ i. suc i) o) t.0), cond_is _ false _ _ g t.1)
 
-  pub search_hit : (vs : List (Bor (String A) × Bor X)) (x : List ℕ) (i : ℕ) (d : Bor (String A) × Bor X) → AreInOrder (map deref_pair vs) → i < length vs → slice_cmp nat_cmp (name_at vs i d) x ≡ Equal → (place_in (map deref_pair vs) x ≡ Some i) × (lookup (λ k. is_eq (slice_cmp nat_cmp x (string_bytes k))) (map deref_pair vs) ≡ Some (get_or vs i d).1.now)
-  search_hit vs x i d o low e =
-      there vs x i d low (ap is_eq (total.antisymm x (name_at vs i d) ∙ ap ordering_reverse e))
-      (λ k l. ap is_eq (sym (total.congr (name_at vs i d) x (name_at vs k d) e) ∙ less_greater (name_at vs k d) (name_at vs i d) (ascends vs k i d o l low)))
+  pub search_hit : (vs : List (Bor (List ℕ) × Bor X)) (es : List (String A × X)) (x : List ℕ) (i : ℕ) (d : Bor (List ℕ) × Bor X) → AreEntries es vs → AreInOrder vs → i < length vs → slice_cmp nat_cmp (get_or vs i d).0.now x ≡ Equal → (place_in es x ≡ Some i) × (lookup (λ k. is_eq (slice_cmp nat_cmp x (string_bytes k))) es ≡ Some (get_or vs i d).1.now)
+  search_hit vs es x i d l o low e =
+      there vs es x i d l low (ap is_eq (total.antisymm x (get_or vs i d).0.now ∙ ap ordering_reverse e))
+      (λ k h. ap is_eq (sym (total.congr (get_or vs i d).0.now x (get_or vs k d).0.now e) ∙ less_greater (get_or vs k d).0.now (get_or vs i d).0.now (Less-from_sorted _ vs k i d o h low)))
 
-  pub search_miss : (vs : List (Bor (String A) × Bor X)) (x : List ℕ) (i : ℕ) → AllWithin (λ y. slice_cmp nat_cmp (string_bytes y.0.now) x ≡ Less) vs 0 i → AllWithin (λ y. slice_cmp nat_cmp (string_bytes y.0.now) x ≡ Greater) vs i (length vs) → (place_in (map deref_pair vs) x ≡ None) × (lookup (λ k. is_eq (slice_cmp nat_cmp x (string_bytes k))) (map deref_pair vs) ≡ None)
-  search_miss vs x i below above =
-      none_there vs x (λ k d l. elim (lt_cases k i) [
-        | inl h ↦ ap is_eq (less_greater (name_at vs k d) x (below k d (omega arith) h))
-        | inr h ↦ ap is_eq (total.antisymm x (name_at vs k d) ∙ ap ordering_reverse (above k d h l))
+  pub search_miss : (vs : List (Bor (List ℕ) × Bor X)) (es : List (String A × X)) (x : List ℕ) (i : ℕ) → AreEntries es vs → AllWithin (λ y. slice_cmp nat_cmp y.0.now x ≡ Less) vs 0 i → AllWithin (λ y. slice_cmp nat_cmp y.0.now x ≡ Greater) vs i (length vs) → (place_in es x ≡ None) × (lookup (λ k. is_eq (slice_cmp nat_cmp x (string_bytes k))) es ≡ None)
+  search_miss vs es x i l below above =
+      none_there vs es x l (λ k d low. elim (cases_lt k i) [
+        | inl h ↦ ap is_eq (less_greater (get_or vs k d).0.now x (below k d (omega arith) h))
+        | inr h ↦ ap is_eq (total.antisymm x (get_or vs k d).0.now ∙ ap ordering_reverse (above k d h low))
       ])
-    where
-      lt_cases : (k i : ℕ) → (k < i) ⊎ (i ≤ k)
-      lt_cases k zero = inr (omega arith)
-      lt_cases zero (suc i) = inl (omega arith)
-      lt_cases (suc k) (suc i) = elim (lt_cases k i) [ inl h ↦ inl (omega arith) | inr h ↦ inr (omega arith) ]
 
 pub at_replicate : {Y : Type 0} (a : Y) (n i : ℕ) → i < n → slice_get (replicate n a) i ≡ Some a
 at_replicate a zero i low = absurd (omega arith)

@@ -1,6 +1,6 @@
 -- The places of names among the entries of a map, and marks by place.
 use Rattle.std.specs.Prelude.{◌≡◌, ℕ, suc, List, [], ◌∷◌, Option, Some, None, String, cond, map, option_map, string_bytes}
-use Rattle.std.specs.Map.{keys_of}
+use Rattle.std.specs.Borrow.{Bor}
 use Rattle.std.specs.Map.Iter.{deref_pair}
 use Rattle.std.specs.List.Sorted.{IsStrictlySortedBy}
 use Rattle.std.specs.Cmp.Lexicographic.{slice_cmp}
@@ -25,9 +25,13 @@ filled (None ∷ ms) = filled ms
 filled (Some m ∷ ms) = suc (filled ms)
 
 -- the names ascend
-abbrev pub AreInOrder : {A X : Type 0} → List (String A × X) → Type 0
-AreInOrder es = IsStrictlySortedBy (λ x y. slice_cmp nat_cmp (string_bytes x) (string_bytes y)) (keys_of es)
+abbrev pub AreInOrder : {X : Type 0} → List (Bor (List ℕ) × Bor X) → Type 0
+AreInOrder vs = IsStrictlySortedBy (λ v w. slice_cmp nat_cmp v.0.now w.0.now) vs
 
--- the entries are those of the map, whose names ascend
+-- vs refers to the bytes of each name in es, and to its definition
+abbrev pub AreEntries : {A X : Type 0} → List (String A × X) → List (Bor (List ℕ) × Bor X) → Type 0
+AreEntries es vs = map deref_pair vs ≡ map (λ e. (string_bytes e.0, e.1)) es
+
+-- the entries are those of the map, in order
 abbrev pub AreListed : Places → Type 0
-AreListed p = (map deref_pair p.entries.items ≡ p.map.now.entries) × AreInOrder p.map.now.entries
+AreListed p = AreEntries p.map.now.entries p.entries.items × AreInOrder p.entries.items

@@ -12,7 +12,7 @@ use std::collections::BTreeMap;
 #[derive(Drop)]
 pub struct Places<'a> {
     map: &'a BTreeMap<String, Definition>,
-    entries: Vec<(&'a String, &'a Definition)>,
+    entries: Vec<(&'a str, &'a Definition)>,
 }
 
 impl<'a> Places<'a> {
@@ -22,7 +22,10 @@ impl<'a> Places<'a> {
     ) -> Result<Places<'a>, AllocError>
         ensures { IfOk result (λ p. (p.map ≡ map.entry) × AreListed p) }
     {
-        let entries: Vec<(&'a String, &'a Definition)> = map.iter().collect(alloc)?;
+        let entries = map
+            .iter()
+            .map(|(name, definition)| (name.as_str(), definition))
+            .collect(alloc)?;
         Ok(Places { map, entries })
     }
 
@@ -33,7 +36,7 @@ impl<'a> Places<'a> {
         ensures definition { option_map (λ f. f.1.now) result ≡ get_by_text self.now.map.now name.now }
     {
         let entries = self.entries.as_slice();
-        match entries.binary_search_by(|entry| entry.0.as_str().cmp(name)) {
+        match entries.binary_search_by(|entry| entry.0.cmp(name)) {
             Ok(place) => Some((place, entries[place].1)),
             Err(_) => None,
         }
