@@ -41,7 +41,7 @@ fn elements_of<T, const N: usize>(arrays: &[[T; N]]) -> Option<&[T]>
     ensures lengths { IfSome result (λ items. All (λ x. length x ≡ N) arrays.now) }
 {
     arrays.len().checked_mul(N)?;
-    // It is so, and LLVM knows.
+    // For the prover: LLVM knows that each array has N elements, and takes the loop away.
     for array in arrays {
         if count(array) != N {
             return None;
