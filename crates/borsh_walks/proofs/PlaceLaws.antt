@@ -37,6 +37,12 @@ both_none : {Y : Type 0} (b : Bool) {r : Option Y} → r ≡ None → cond b Non
 both_none true h = refl
 both_none false h = h
 
+-- there is no mark where no place is
+none_of_none : {X : Type 0} (b : Bool) (q : Option ℕ) (m r : Option X) → cond b (Some 0) (option_map (λ i. suc i) q) ≡ None → (q ≡ None → r ≡ None) → cond b m r ≡ None
+none_of_none true q m r p f = cc
+none_of_none false None m r p f = f refl
+none_of_none false (Some j) m r p f = cc
+
 -- ---- how many marks there are
 pub none_filled : (M : Type 0) (n : ℕ) → filled {M = M} (replicate n None) ≡ 0
 none_filled M zero = refl
@@ -101,6 +107,11 @@ module _ {A X : Type 0} where
       here = set_at es ms x i (Some m) p low;
       others = λ y f. set_beside es ms y i (Some m) (λ q. f (same_place es y x i q p));
     }
+
+    pub unplaced : (es : List (String A × X)) (ms : List (Option M)) (x : List ℕ) → place_in es x ≡ None → mark_by es ms x ≡ None
+    unplaced [] ms x p = refl
+    unplaced (e ∷ es) [] x p = refl
+    unplaced (e ∷ es) (m ∷ ms) x p = none_of_none (is_eq (slice_cmp nat_cmp x (string_bytes e.0))) (place_in es x) m (mark_by es ms x) p (λ q. unplaced es ms x q)
 
     pub none_marked : (es : List (String A × X)) (n : ℕ) (x : List ℕ) → mark_by {M = M} es (replicate n None) x ≡ None
     none_marked [] n x = refl

@@ -1,21 +1,21 @@
 -- The steps of the walk over the reached names.
-use Rattle.std.proofs.Common.{◌≡◌, ℕ, suc, ◌+◌, ◌<◌, List, [], ◌∷◌, length, drop, sym, ◌∙◌, ap, subst, arith, Some, None, true, Bool, ◌⊎◌, inl, inr}
+use Rattle.std.proofs.Common.{◌≡◌, ℕ, suc, ◌+◌, ◌<◌, List, [], ◌∷◌, length, drop, sym, ◌∙◌, ap, subst, arith, Some, None, Bool, ◌⊎◌, inl, inr}
 use Rattle.std.specs.Prelude.{Option, slice_get}
 use Rattle.std.specs.Borrow.{Bor}
-use Rattle.std.specs.BTreeMap.{BTreeMap, btree_map_len}
+use Rattle.std.specs.BTreeMap.{BTreeMap}
 use Rattle.borsh_walks.specs.Container.{Shape, IsIn, IsDefined, first, later, Rule, Breaks, Reached, references, stays, onward}
 use Rattle.borsh_walks.specs.Definitions.{spot_shape}
 use Rattle.borsh_walks.specs.Counts.{add_to}
 use Rattle.borsh_walks.specs.ZeroAnswer.{ZeroTable}
-use Rattle.borsh_walks.specs.Tables.{mark_of, IsMarked, NameTable, mark_at}
+use Rattle.borsh_walks.specs.Tables.{mark_of, IsMarked}
 use Rattle.borsh_walks.specs.RulesAnswer.{checked_element, ElementMarked, ElementReaches, ZeroSizeReaches}
-use Rattle.borsh_walks.specs.RulesState.{RulesState, AllSpots, SeesSame, pending}
+use Rattle.borsh_walks.specs.RulesState.{RulesState, AllSpots, pending}
 use Rattle.borsh_walks.specs.declared.counted.Question.TheVariants.{Zero as ZeroQuestion, Rules}
 use Rattle.borsh_walks.specs.declared.counted.Expansions.{Expansions}
 use Rattle.borsh_walks.specs.declared.stack.Spot.{Spot}
 use Rattle.borsh_walks.proofs.Laws.{one_definition}
 use Rattle.borsh_walks.proofs.Names.{drop_end, drop_next, next_below, among_get, among_append, among_left, among_right, among_one}
-use Rattle.borsh_walks.proofs.Tables.{Updated, marks_none, marks_none_at, marks_start, marks_more, marks_same, has_mark}
+use Rattle.borsh_walks.proofs.Tables.{Updated, marks_none, marks_start, marks_more, has_mark}
 use Rattle.borsh_walks.proofs.Spots.{moved}
 use Rattle.borsh_walks.proofs.Counting.{raised-more}
 
@@ -30,10 +30,10 @@ zeros_known C root u y d r e before known x a = let k = known x a in (from k.1, 
     from (inl m) = before x m
     from (inr l) = (y, d, r, e, l)
 
-module _ (C : List ℕ → Option Shape) (root : List ℕ) where
+module _ (C : List ℕ → Option Shape) (root : List ℕ) {M : Type 0} where
   -- a name is seen: it is reached, has a definition and keeps its rules
-  pub rules_visit : {seen sn : NameTable Bool} {stack wn : List Spot} {zeros zn : BTreeMap (Bor (List ℕ)) Bool} (g : Spot) → RulesState C root (g.name.now ∷ []) seen stack zeros → Reached C root g.name.now → mark_at seen g.name.now ≡ None → C g.name.now ≡ Some (spot_shape g) → ((r : Rule) → Breaks C r g.name.now → ⊥) → ZeroTable C zn → ((x : List ℕ) → IsMarked zn x → ZeroSizeReaches C root x) → ElementMarked C (spot_shape g) zeros zn → Updated (mark_at seen) (mark_at sn) g.name.now true → btree_map_len sn ≡ suc (btree_map_len seen) → g.next ≡ 0 → wn ≡ g ∷ stack → RulesState C root [] sn wn zn
-  rules_visit {seen} {sn} {stack} {wn} {zeros} {zn} g s reached none c keeps table leads marks u len next pushed =
+  pub rules_visit : {seen sn : List ℕ → Option M} {m : M} {j k : ℕ} {stack wn : List Spot} {zeros zn : BTreeMap (Bor (List ℕ)) Bool} (g : Spot) → RulesState C root (g.name.now ∷ []) seen j stack zeros → Reached C root g.name.now → seen g.name.now ≡ None → C g.name.now ≡ Some (spot_shape g) → ((r : Rule) → Breaks C r g.name.now → ⊥) → ZeroTable C zn → ((x : List ℕ) → IsMarked zn x → ZeroSizeReaches C root x) → ElementMarked C (spot_shape g) zeros zn → Updated seen sn g.name.now m → k ≡ suc j → g.next ≡ 0 → wn ≡ g ∷ stack → RulesState C root [] sn k wn zn
+  rules_visit {stack = stack} {zeros = zeros} {zn = zn} g s reached none c keeps table leads marks u len next pushed =
       record {
         names = g.name.now ∷ s.names;
         marks = marks_more s.marks u none (reached, keeps, (spot_shape g, c));
@@ -73,13 +73,13 @@ or_first : {x p : List ℕ} {xs : List (List ℕ)} → IsIn x (p ∷ xs) → IsI
 or_first first = inl first
 or_first (later a) = inr a
 
-module _ (C : List ℕ → Option Shape) (root : List ℕ) where
-  pub rules_reached : {seen : NameTable Bool} {zeros : BTreeMap (Bor (List ℕ)) Bool} (fs : List Spot) (f : Spot) (p : List ℕ) {extra : List (List ℕ)} → RulesState C root extra seen (f ∷ fs) zeros → slice_get (references (spot_shape f)) f.next ≡ Some p → Reached C root p
+module _ (C : List ℕ → Option Shape) (root : List ℕ) {M : Type 0} {seen : List ℕ → Option M} {n : ℕ} where
+  pub rules_reached : {zeros : BTreeMap (Bor (List ℕ)) Bool} (fs : List Spot) (f : Spot) (p : List ℕ) {extra : List (List ℕ)} → RulesState C root extra seen n (f ∷ fs) zeros → slice_get (references (spot_shape f)) f.next ≡ Some p → Reached C root p
   rules_reached fs f p s e = onward (spot_shape f) s.spots.0.1 s.spots.0.0 (among_get (references (spot_shape f)) f.next e)
 
   -- a name whose references are all seen leaves the stack
-  pub rules_pop : {seen : NameTable Bool} {zeros : BTreeMap (Bor (List ℕ)) Bool} (fs : List Spot) (f : Spot) → RulesState C root [] seen (f ∷ fs) zeros → slice_get (references (spot_shape f)) f.next ≡ None → RulesState C root [] seen fs zeros
-  rules_pop {seen} {zeros} fs f s e = record {
+  pub rules_pop : {zeros : BTreeMap (Bor (List ℕ)) Bool} (fs : List Spot) (f : Spot) → RulesState C root [] seen n (f ∷ fs) zeros → slice_get (references (spot_shape f)) f.next ≡ None → RulesState C root [] seen n fs zeros
+  rules_pop fs f s e = record {
     names = s.names;
     marks = s.marks;
     len = s.len;
@@ -94,8 +94,8 @@ module _ (C : List ℕ → Option Shape) (root : List ℕ) where
       at_last y c = elim (among_append (drop f.next (references (spot_shape f))) (pending fs) c) [ inl b ↦ inr (inl (subst (λ l. IsIn y l) (drop_end (references (spot_shape f)) f.next e) b)) | inr b ↦ inr (inr b) ]
 
   -- its next reference is taken off the stack
-  pub rules_take : {seen : NameTable Bool} {zeros : BTreeMap (Bor (List ℕ)) Bool} (fs wn : List Spot) (f : Spot) (p : List ℕ) → RulesState C root [] seen (f ∷ fs) zeros → slice_get (references (spot_shape f)) f.next ≡ Some p → wn ≡ moved f ∷ fs → RulesState C root (p ∷ []) seen wn zeros
-  rules_take {seen} {zeros} fs wn f p s e pushed = record {
+  pub rules_take : {zeros : BTreeMap (Bor (List ℕ)) Bool} (fs wn : List Spot) (f : Spot) (p : List ℕ) → RulesState C root [] seen n (f ∷ fs) zeros → slice_get (references (spot_shape f)) f.next ≡ Some p → wn ≡ moved f ∷ fs → RulesState C root (p ∷ []) seen n wn zeros
+  rules_take fs wn f p s e pushed = record {
     names = s.names;
     marks = s.marks;
     len = s.len;
@@ -122,39 +122,24 @@ module _ (C : List ℕ → Option Shape) (root : List ℕ) where
       ]
 
   -- a reference that was seen before
-  pub rules_seen : {seen : NameTable Bool} {zeros : BTreeMap (Bor (List ℕ)) Bool} {stack : List Spot} (p : List ℕ) → RulesState C root (p ∷ []) seen stack zeros → (mark_at seen p ≡ None → ⊥) → RulesState C root [] seen stack zeros
-  rules_seen {seen} {zeros} {stack} p s f = record {
+  pub rules_seen : {zeros : BTreeMap (Bor (List ℕ)) Bool} {stack : List Spot} (p : List ℕ) → RulesState C root (p ∷ []) seen n stack zeros → (seen p ≡ None → ⊥) → RulesState C root [] seen n stack zeros
+  rules_seen p s f = record {
     names = s.names;
     marks = s.marks;
     len = s.len;
     spots = s.spots;
-    closed = λ x d y a q m. elim (s.closed x d y a q m) [ inl b ↦ inl b | inr b ↦ (elim b [ inl c ↦ inl (subst (λ z. IsIn z s.names) (sym (among_one c)) (s.marks.marked p (has_mark (mark_at seen p) f).0 (has_mark (mark_at seen p) f).1)) | inr c ↦ inr (inr c) ]) ];
+    closed = λ x d y a q m. elim (s.closed x d y a q m) [ inl b ↦ inl b | inr b ↦ (elim b [ inl c ↦ inl (subst (λ z. IsIn z s.names) (sym (among_one c)) (s.marks.marked p (has_mark (seen p) f).0 (has_mark (seen p) f).1)) | inr c ↦ inr (inr c) ]) ];
     zero = s.zero;
     zeros_reached = s.zeros_reached;
     elements = s.elements;
   }
 
-  -- and its mark was written again
-  pub rules_again : {seen sn : NameTable Bool} {zeros : BTreeMap (Bor (List ℕ)) Bool} {stack : List Spot} (p : List ℕ) → RulesState C root (p ∷ []) seen stack zeros → (mark_at seen p ≡ None → ⊥) → SeesSame seen sn → RulesState C root [] sn stack zeros
-  rules_again {seen} {sn} {zeros} {stack} p s f same =
-      let t = rules_seen p s f in
-      record {
-        names = t.names;
-        marks = marks_same t.marks same.kept same.known;
-        len = same.len ∙ t.len;
-        spots = t.spots;
-        closed = t.closed;
-        zero = t.zero;
-        zeros_reached = t.zeros_reached;
-        elements = t.elements;
-      }
-
   -- nothing is seen yet
-  pub rules_start : (seen : NameTable Bool) (zeros : BTreeMap (Bor (List ℕ)) Bool) (stack : List Spot) → seen.entries ≡ [] → zeros.entries ≡ [] → stack ≡ [] → RulesState C root (root ∷ []) seen stack zeros
-  rules_start seen zeros stack e z w = record {
+  pub rules_start : (zeros : BTreeMap (Bor (List ℕ)) Bool) (stack : List Spot) → ((x : List ℕ) → seen x ≡ None) → n ≡ 0 → zeros.entries ≡ [] → stack ≡ [] → RulesState C root (root ∷ []) seen n stack zeros
+  rules_start zeros stack e few z w = record {
     names = [];
-    marks = marks_start (marks_none_at seen e);
-    len = ap length e;
+    marks = marks_start e;
+    len = few;
     spots = subst (λ l. AllSpots C root l) (sym w) tt;
     closed = λ x d y a. elim a [ ];
     zero = empty_table C zeros z;
@@ -162,8 +147,8 @@ module _ (C : List ℕ → Option Shape) (root : List ℕ) where
     elements = λ x d k a. elim a [ ];
   }
 
-  pub rules_all : {seen : NameTable Bool} {zeros : BTreeMap (Bor (List ℕ)) Bool} (stack : List Spot) (s : RulesState C root [] seen stack zeros) → stack ≡ [] → (mark_at seen root ≡ None → ⊥) → {x : List ℕ} → Reached C root x → IsIn x s.names
-  rules_all {seen} stack s w f stays = s.marks.marked root (has_mark (mark_at seen root) f).0 (has_mark (mark_at seen root) f).1
+  pub rules_all : {zeros : BTreeMap (Bor (List ℕ)) Bool} (stack : List Spot) (s : RulesState C root [] seen n stack zeros) → stack ≡ [] → (seen root ≡ None → ⊥) → {x : List ℕ} → Reached C root x → IsIn x s.names
+  rules_all stack s w f stays = s.marks.marked root (has_mark (seen root) f).0 (has_mark (seen root) f).1
   rules_all stack s w f (onward {y = y} {z = z} d l q a) =
       let go : IsIn z s.names ⊎ IsIn z [] ⊎ IsIn z (pending stack) → IsIn z s.names =
       elim [ inl b ↦ b | inr b ↦ (elim b [ inl c ↦ absurd (no_one c) | inr c ↦ absurd (no_one (subst (λ l. IsIn z (pending l)) w c)) ]) ] in

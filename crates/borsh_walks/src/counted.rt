@@ -1,10 +1,8 @@
 // How many definitions a walk visits. Left open of each call: none.
 ghost use Rattle.borsh_walks.specs.Counts.{CountsLook, add_to, counts_of, definition_at, IsCounting, LooksOn};
-ghost use Rattle.borsh_walks.specs.Places.{AreListed};
 ghost use Rattle.std.specs.Prelude.{◌≡◌, option_map};
 
 use crate::definition::Definition;
-use crate::places::Places;
 use std::collections::BTreeMap;
 
 /// How many definitions were visited, for each kind of question. A count at its greatest value
@@ -71,23 +69,6 @@ impl<'a, 'b> Counted<'a, 'b> {
             self.visit(question);
         }
         found
-    }
-
-    // The definition of the name, as `look` finds it, by the places of all names.
-    pub(crate) fn look_by(
-        &mut self,
-        places: &Places<'a>,
-        question: Question,
-        name: &str,
-    ) -> Option<&'a Definition>
-        requires { (places.now.map ≡ self.old.map) × AreListed places.now }
-        ensures same { LooksOn self.old self.new }
-        ensures found { option_map (λ d. d.now) result ≡ definition_at self.old name.now }
-        ensures counts { CountsLook question self.old self.new result }
-    {
-        let (_, definition) = places.find(name)?;
-        self.visit(question);
-        Some(definition)
     }
 
     // The count of the question is raised by one.

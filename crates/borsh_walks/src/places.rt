@@ -1,7 +1,7 @@
-// The names of definitions by their places.
+// The names of definitions by their places, and what is marked there.
 ghost use Rattle.borsh_walks.specs.Places.{AreListed, place_in};
 ghost use Rattle.std.specs.BTreeMap.{get_by_text};
-ghost use Rattle.std.specs.Prelude.{◌≡◌, IfOk, option_map};
+ghost use Rattle.std.specs.Prelude.{◌<◌, ◌≡◌, IfOk, None, Some, length, option_map, replicate, slice_get, slice_set};
 
 use crate::definition::Definition;
 use std::alloc::{AllocError, Global};
@@ -41,4 +41,27 @@ impl<'a> Places<'a> {
             Err(_) => None,
         }
     }
+}
+
+// No name of so many has a mark.
+pub fn no_marks<M: Copy>(alloc: Global, count: usize) -> Result<Vec<Option<M>>, AllocError>
+    ensures { IfOk result (λ v. v.items ≡ replicate count None) }
+{
+    vec![in alloc; None; count]
+}
+
+// The mark at a place.
+pub fn mark_at<M: Copy>(marks: &Vec<Option<M>>, place: usize) -> Option<M>
+    requires { place < length marks.now.items }
+    ensures { slice_get marks.now.items place ≡ Some result }
+{
+    marks.as_slice()[place]
+}
+
+// Marks the name at a place.
+pub fn set_mark<M: Copy>(marks: &mut Vec<Option<M>>, place: usize, mark: M)
+    requires { place < length marks.old.items }
+    ensures { marks.new.items ≡ slice_set marks.old.items place (Some mark) }
+{
+    marks.as_mut_slice()[place] = Some(mark);
 }

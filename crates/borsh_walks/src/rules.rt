@@ -5,14 +5,14 @@ ghost use Rattle.borsh_walks.specs.Definitions.{shape_of};
 ghost use Rattle.borsh_walks.specs.Places.{AreListed};
 ghost use Rattle.borsh_walks.specs.ZeroAnswer.{ZeroCounted, ZeroTable};
 ghost use Rattle.borsh_walks.specs.RulesState.{CountsVisit, JudgedCounts, RulesWork, StaysIfSeen, Visits};
-ghost use Rattle.std.specs.Prelude.{◌≡◌, IfOk, MatchOption, OnOk, option_map, reverse};
+ghost use Rattle.std.specs.Prelude.{◌≡◌, IfOk, MatchOption, OnOk, length, option_map, reverse};
 
 use crate::counted::{Counted, Question};
 use crate::definition::Definition;
 use crate::error::SchemaContainerValidateError;
 use crate::parts::referenced_part;
-use crate::places::Places;
-use crate::stack::{Spot, key_of};
+use crate::places::{Places, mark_at, no_marks, set_mark};
+use crate::stack::Spot;
 use crate::zero::is_zero;
 use std::alloc::{AllocError, Global};
 use std::collections::BTreeMap;
@@ -121,32 +121,40 @@ fn error_of(alloc: Global, broken: Broken, name: &str) -> SchemaContainerValidat
     }
 }
 
+// That a name was visited.
+#[derive(Clone, Copy)]
+pub struct Seen;
+
 // The visit of a reached name. The first one checks its rules, and the names that it refers to wait on the stack.
 fn visit<'a, 'm: 'a>(
     alloc: Global,
     name: &'a str,
     places: &Places<'m>,
-    seen: &mut BTreeMap<(u64, &'a str), bool>,
+    seen: &mut Vec<Option<Seen>>,
     stack: &mut Vec<Spot<'a>>,
     table: &mut BTreeMap<&'a str, bool>,
     counted: &mut Counted<'m, '_>,
 ) -> Result<(), SchemaContainerValidateError>
     requires table { ZeroTable (definitions_of counted.old) table.old }
     requires places { (places.now.map ≡ counted.old.map) × AreListed places.now }
+    requires seen { length seen.old.items ≡ definition_count counted.old }
     ensures same { LooksOn counted.old counted.new }
-    ensures visited { Visits counted.old counted.new name.now seen.old seen.new
+    ensures seen { length seen.new.items ≡ length seen.old.items }
+    ensures visited { Visits counted.old name.now seen.old.items seen.new.items
         (reverse stack.old.items) (reverse stack.new.items) table.old table.new result }
-    ensures counts { CountsVisit counted.old counted.new name.now seen.old seen.new
+    ensures counts { CountsVisit counted.old counted.new name.now seen.old.items seen.new.items
         (reverse stack.old.items) table.old table.new result }
-    ensures again { StaysIfSeen counted.old counted.new name.now seen.old seen.new
+    ensures again { StaysIfSeen counted.old counted.new name.now seen.old.items seen.new.items
         (reverse stack.old.items) (reverse stack.new.items) table.old table.new result }
 {
-    if seen.insert(key_of(name), true)?.is_some() {
-        return Ok(());
-    }
-    let Some(definition) = counted.look_by(places, Question::Rules, name) else {
+    let Some((place, definition)) = places.find(name) else {
         return Err(error_of(alloc, Broken::Missing, name));
     };
+    if mark_at(seen, place).is_some() {
+        return Ok(());
+    }
+    set_mark(seen, place, Seen);
+    counted.visit(Question::Rules);
     if let Some(broken) = broken_rule(alloc, definition, table, counted)? {
         return Err(error_of(alloc, broken, name));
     }
@@ -200,7 +208,7 @@ fn walk_rules<'a, 'm: 'a>(
 {
     let places = Places::new(alloc, counted.map)?;
     let mut table: BTreeMap<&'a str, bool> = BTreeMap::new(alloc);
-    let mut seen: BTreeMap<(u64, &'a str), bool> = BTreeMap::new(alloc);
+    let mut seen = no_marks(alloc, counted.map.len())?;
     let mut stack: Vec<Spot<'a>> = Vec::new(alloc);
     visit(
         alloc, root, &places, &mut seen, &mut stack, &mut table, counted,

@@ -4,15 +4,15 @@ ghost use Rattle.borsh_walks.specs.Definitions.{shape_of};
 ghost use Rattle.borsh_walks.specs.SizeAnswer.{CountsNeeded, IsMissing, IsSizeAnswer};
 ghost use Rattle.borsh_walks.specs.SizeOutcome.{AnswersSize};
 ghost use Rattle.borsh_walks.specs.SizeParts.{IsIfFits, add_part, size_of_parts};
-ghost use Rattle.std.specs.Prelude.{◌^◌, ◌<◌, ◌≡◌, IfOk, None, Some, length, replicate, slice_get, slice_set};
+ghost use Rattle.std.specs.Prelude.{◌^◌, ◌<◌, IfOk};
 
 use crate::counted::{Counted, Question};
 use crate::definition::Definition;
 use crate::error::SchemaMaxSerializedSizeError;
 use crate::parts::needed_part;
-use crate::places::Places;
+use crate::places::{Places, mark_at, no_marks, set_mark};
 use crate::stack::Spot;
-use std::alloc::{AllocError, Global};
+use std::alloc::Global;
 
 // How far a name's size has come.
 #[derive(Clone, Copy)]
@@ -89,29 +89,6 @@ pub fn root_size(
         (counts_of counted.old) (counts_of counted.new) }
 {
     walk_sizes(alloc, root, counted)
-}
-
-// No name of so many has a mark.
-fn no_marks(alloc: Global, count: usize) -> Result<Vec<Option<Mark>>, AllocError>
-    ensures { IfOk result (λ v. v.items ≡ replicate count None) }
-{
-    vec![in alloc; None; count]
-}
-
-// The mark at a place.
-fn mark_at(marks: &Vec<Option<Mark>>, place: usize) -> Option<Mark>
-    requires { place < length marks.now.items }
-    ensures { slice_get marks.now.items place ≡ Some result }
-{
-    marks.as_slice()[place]
-}
-
-// Marks the name at a place.
-fn set_mark(marks: &mut Vec<Option<Mark>>, place: usize, mark: Mark)
-    requires { place < length marks.old.items }
-    ensures { marks.new.items ≡ slice_set marks.old.items place (Some mark) }
-{
-    marks.as_mut_slice()[place] = Some(mark);
 }
 
 // The walk for the size of the root. A name on the stack is `Open`, and one with a size is `Finished`.
