@@ -1,7 +1,7 @@
 // Elements that share a room, a buffer on the stack, which is written at once: one write for many elements. The room is cleared
 // first, so many elements share a large one, and a few a small one. No more share a large one than take it where each has 32 bytes:
-// LLVM then knows that elements of up to 32 bytes fit, and tests no room for them. Once an empty room doesn't take an element, as a
-// long one or one of a type without `put`, no later one is asked.
+// LLVM then knows that elements of up to 32 bytes fit, and tests no room for them. Once an empty room doesn't take two elements, as
+// long ones or those of a type without `put`, no later one is asked: to put an element that doesn't fit is in vain.
 ghost use Rattle.std.specs.Iterator.{AlwaysYields, IsFinite};
 ghost use Rattle.std.specs.Prelude.{List, Option, Some, false, ℕ};
 ghost use Rattle.borsh_codec.specs.Shapes.{concat_encodings};
@@ -14,20 +14,17 @@ use super::serialize::BorshSerialize;
 use borsh_io::{Result, Write};
 use std::alloc::Global;
 
-/// How many elements share a room at all: to clear one takes as long as to write a few.
-pub(crate) const FEW: usize = 8;
-
 /// How many elements share a large room; fewer share a small one.
 pub(crate) const SHARED: usize = 32;
 
 /// How many bytes a large room has.
 pub(crate) const LARGE: usize = 1024;
 
-/// How many bytes a small room has.
-pub(crate) const SMALL: usize = 256;
+/// How many bytes a small room has. To clear it takes as long as to write an element or two.
+pub(crate) const SMALL: usize = 128;
 
-/// Writes the elements one after another: through the room as long as `put` returns `Some`, and from
-/// the first one on that an empty room doesn't take with `serialize`. The errors are those of `write_elements`.
+/// Writes the elements one after another: through the room as long as it takes two of them or more, and then with
+/// `serialize`. The errors are those of `write_elements`.
 #[inline(always)]
 pub(crate) fn write_by_room<T: BorshSerialize, W: Write>(
     items: &[T],
@@ -42,16 +39,17 @@ pub(crate) fn write_by_room<T: BorshSerialize, W: Write>(
     while next < items.len() {
         let end = next + (items.len() - next).min(SHARED);
         let (count, filled) = put_front(&items[next..end], room);
-        if count == 0 {
+        write_held(&room[..filled], writer)?;
+        next += count;
+        if count < 2 {
             return write_one_by_one(&items[next..], alloc, writer);
         }
-        write_bytes(&room[..filled], writer)?;
-        next += count;
     }
     Ok(())
 }
 
-/// Writes the items that the iterator gives, one after another, with no count, as [`write_by_room`] does.
+/// Writes the items that the iterator gives, one after another, with no count: through a room until an empty one doesn't
+/// take an item, and then with `serialize`.
 ///
 /// Returns the writer's error, or that of the item that could not be written. Then a beginning
 /// of the items' encodings was written.
