@@ -1,6 +1,7 @@
 // A value that is walked part by part.
 ghost use Rattle.borsh_plan.specs.Plan.{definitions_of};
-ghost use Rattle.borsh_values.specs.Tags.{AreTagTables, tables_prop};
+ghost use Rattle.borsh_values.proofs.TableProps.{tables_prop};
+ghost use Rattle.borsh_values.specs.Tags.{AreTagTables};
 ghost use Rattle.std.specs.Prelude.{IfOk, IfSome, ◌+◌, ◌<◌, ◌^◌, ◌≡◌, length};
 
 use crate::cursor::{after, front};

@@ -24,6 +24,4 @@ returns-clause-cursor c =
     }
 
 pub returns-clause-begins : goal.returns-clause-begins
-returns-clause-begins c =
-    let l = c.args.plan.now in
-    ap (λ q. name_at (names_of l) 0 ∷ pending (names_of l) (reverse q)) c.new-2.ensures.items ∙ ap (λ x. x ∷ []) (root_there l).1
+returns-clause-begins c = ap (λ q. record { at = 0; start = length c.args.bytes.now + 1; rest = Copies 0 1 } ∷ reverse q) c.new-2.ensures.items
