@@ -1,12 +1,12 @@
 -- Answers of a walk.
-use Rattle.std.proofs.Common.{◌≡◌, ℕ, suc, zero, Some, ◌+◌, ◌-◌, ◌<◌, ◌≤◌, List, [], ◌∷◌, ◌++◌, length, take, drop, Ok, Err, refl, sym, ◌∙◌, ap, subst, arith, append_assoc, append-nil, length-append, length-drop, drop-drop, take-add, take-append-drop, length-take-le, inl, inr, ◌^◌, ◌⊎◌}
+use Rattle.std.proofs.Common.{Bor, ◌≡◌, ℕ, suc, zero, Some, ◌+◌, ◌-◌, ◌<◌, ◌≤◌, List, [], ◌∷◌, ◌++◌, length, take, drop, Ok, Err, refl, sym, ◌∙◌, ap, subst, arith, append_assoc, append-nil, length-append, length-drop, drop-drop, take-add, take-append-drop, length-take-le, inl, inr, ◌^◌, ◌⊎◌}
 use Rattle.std.specs.Prelude.{Option, Result, IfOk}
 use Rattle.std.proofs.lemmas.Bool.{cases_lt}
 use Rattle.borsh_walks.specs.Container.{Shape, primitive, sequence, product, choice, Member, Reached, stays, Rule, tag_too_wide, tag_too_narrow, tag_not_power_of_two, empty_length_range, Breaks, is_empty, is_not_power, is_too_wide, is_too_narrow, is_wide_choice, IsValid}
 use Rattle.borsh_walks.specs.RulesAnswer.{KeepsWidths, IsWidth}
 use Rattle.borsh_values.specs.declared.faults.Reason.TheVariants.{BytesLeft, TooShort as IsShort, Count, Tag, MissingDefinition, Recursive}
 use Rattle.borsh_values.specs.declared.fronts.Front.TheVariants.{Value, TooShort, NoMember, Ambiguous}
-use Rattle.borsh_values.specs.declared.members.Membership.TheVariants.{Member as IsMember, NoMember as IsNoMember, Ambiguous as IsAmbiguous}
+use Rattle.borsh_values.specs.declared.members.Membership.TheVariants.{Ambiguous as IsAmbiguous}
 use Rattle.borsh_values.specs.declared.{faults.Fault.Fault, faults.Reason.Reason, fronts.Front.Front, members.Membership.Membership}
 use Rattle.borsh_values.specs.Membership.{BeginsWith, Refuses, other_count, other_tag, Why, IsWhy, Stops, IsFault, IsFaultAt, StopsAt, IsFront, HasNoFront, IsFrontAnswer, AnswersFront, IsUndecided, IsAnswer, AnswersMembership}
 use Rattle.borsh_values.specs.Nodes.{Reads}

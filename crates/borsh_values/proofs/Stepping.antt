@@ -1,6 +1,6 @@
 -- The steps of a cursor, and its folds.
-use Rattle.std.proofs.Common.{◌≡◌, ℕ, suc, ◌+◌, ◌-◌, ◌<◌, ◌≤◌, List, [], ◌∷◌, ◌++◌, length, take, drop, reverse, replicate, set, get_or, Some, None, refl, sym, ◌∙◌, ap, subst, take-append-drop, append-nil, append_assoc, Ok, zero, arith, length-append, ◌⊎◌, inl, inr}
-use Rattle.std.specs.Prelude.{Option, Vec, Result, leb, false, map, option_to_list, slice_get}
+use Rattle.std.proofs.Common.{◌≡◌, ℕ, suc, ◌+◌, ◌-◌, ◌<◌, ◌≤◌, List, [], ◌∷◌, ◌++◌, length, take, drop, reverse, replicate, set, get_or, Some, None, refl, sym, ◌∙◌, ap, subst, take-append-drop, append-nil, Ok, zero, arith, length-append, ◌⊎◌, inl, inr}
+use Rattle.std.specs.Prelude.{Err, IfOk, Option, Vec, Result, leb, false, map, option_to_list, slice_get}
 use Rattle.std.proofs.lemmas.List.{length-map, length-reverse}
 use Rattle.std.proofs.lemmas.Bool.{le-leb, lt-leb}
 use Rattle.std.proofs.Math.Logic.{∥∥₁_elim, ∥∥₁_map}
@@ -27,7 +27,7 @@ use Rattle.borsh_values.proofs.Answers.{before_whole, suffix_on, answers_no, is_
 use Rattle.borsh_values.proofs.Walk.{going_skip, known_empty, less_skip, going_reached, going_next, going_denied, room, going_new, going_on, going_past, going_pass, going_up, going_up_empty, going_back, going_leads, less_new, less_on, less_past, less_pass, next_names, left, passes, with_rest}
 use Rattle.borsh_values.proofs.MemberLaws.{members_head, no_more}
 use Rattle.borsh_values.specs.Membership.{IsFrontAnswer, StopsAt, IsUndecided, Why}
-use Rattle.borsh_values.specs.Preorder.{GivesNode, Level, PassesTo, here, ended, passed, level_of}
+use Rattle.borsh_values.specs.Preorder.{GivesNode, Level, PassesTo, here, past_end, passed, level_of}
 
 -- ---- each step of a cursor
 fits_prop : (ns : List Named) (r : Rest) → IsProp (Fits ns r)
@@ -190,6 +190,19 @@ module _ (c : Cursor) (i : IsCursor c) (s : Step) (g : StepsOn (names_of c.plan.
             subst (λ b. left (map_of c.plan.now) (names_of c.plan.now) (length b) 0 (with_rest c.frame s.others ∷ reverse c.stack.items) < left (map_of c.plan.now) (names_of c.plan.now) (length c.left.now) c.idle (c.frame ∷ reverse c.stack.items)) (sym ea) (less_past c.plan.now i.going s g (shape_of d) o.shape n r o.opens more),
           )
 
+-- tables have no part in what happens
+pub other_tables_happen : {E : Type 0} (c new : Cursor) (ts : Tables) (r : Result Event E) → IfOk r (λ e. Happens (record c { tables = ts }) new e) → IfOk r (λ e. Happens c new e)
+other_tables_happen c new ts (Err e) h = tt
+other_tables_happen c new ts (Ok e) h = same e h
+  where
+    same : (e : Event) → Happens (record c { tables = ts }) new e → Happens c new e
+    same (AtOpen at d own) h = (record { within = h.0.within; bytes = h.0.bytes; defined = h.0.defined; parts = h.0.parts; others = h.0.others; opened = h.0.opened; before = h.0.before; after = h.0.after }, h.1)
+    same (AtPass at) h = record { left = h.left; count = h.count; others = h.others; names = h.names; after = h.after; moves = h.moves }
+    same AtClose h = h
+    same AtEnd h = h
+    same (AtFault at r) h = h
+    same (AtUndecided at) h = h
+
 -- a value begins only where a name comes next, and is that name's
 module _ (old new : Cursor) where
   pub none_full : (e : Event) → remaining (names_of old.plan.now) old.frame.rest ≡ [] → Happens old new e → OpensFull old e
@@ -219,7 +232,7 @@ module _ (c : Cursor) (i : IsCursor c) (none : remaining (names_of c.plan.now) c
 pub moves_on : (old new : Cursor) (e : Event) → IsAnswerOf new e None → Happens old new e → Moves old new
 moves_on old new (AtOpen at d own) a h = h.1
 moves_on old new (AtPass at) a h = h.moves
-moves_on old new AtClose a h = h.2.2
+moves_on old new AtClose a h = h.3
 moves_on old new AtEnd a h = cc
 moves_on old new (AtFault at r) a h = absurd a
 moves_on old new (AtUndecided at) a h = (let e = a.1 in cc)
@@ -309,7 +322,7 @@ module _ (old now : Cursor) (h : NoneYet old now) (i : ∥ IsInValue now ∥₁)
     goes_on (inl p) =
         let zero = ∥∥₁_elim i (zero_prop (definitions_of now.plan.now)) λ v. (subst (λ e. Shows now e) p.1 (w v)).1 in
         passed_on old now h new s (name_in now p.0) zero (subst (λ e. Happens now new e) p.1 k)
-    goes_on (inr p) = let q = subst (λ e. Happens now new e) p k in onward old now h new s q.0 (reverse now.stack.items) q.2.0 (ended (at_frame old now h new s [] q.1))
+    goes_on (inr p) = let q = subst (λ e. Happens now new e) p k in onward old now h new s q.0 (reverse now.stack.items) q.2 (past_end (at_frame old now h new s [] q.1))
 
     pub undecided : (at : ℕ) → ((r : Reason) × (e ≡ AtFault at r)) ⊎ (e ≡ AtUndecided at) → (x : List ℕ) → x ≡ name_in now at → IsUndecided (definitions_of old.plan.now) (root_of old.plan.now) x
     undecided at (inl p) x n = absurd (not_stopped (name_in now at) p.0 λ v. subst (λ e. Shows now e) p.1 (w v))
@@ -331,16 +344,16 @@ module _ (old new : Preorder) (now : Cursor) (h : NoneYet old.cursor now) (i : �
   LeadsOn step = let l = level_of now.plan.now now.bytes.now now.frame in IsStep l.0 l.1 (length l.2) step
 
   module _ (n : Node) (b : IsBegun now new.cursor n.at n.definition.now n.bytes.now) (name : n.name.now ≡ name_in now n.at) where
-    within : length now.left.now ≤ length now.bytes.now
-    within = ∥∥₁_elim i le_prop λ v. v.cursor.within
+    low : length now.left.now ≤ length now.bytes.now
+    low = ∥∥₁_elim i le_prop λ v. v.cursor.within
 
-    parts : List (List ℕ)
+    abbrev parts : List (List ℕ)
     parts = remaining (names_of now.plan.now) b.parts
 
-    around : Level
-    around = level_of now.plan.now now.bytes.now (with_rest now.frame b.others)
+    abbrev beside : Level
+    beside = level_of now.plan.now now.bytes.now (with_rest now.frame b.others)
 
-    outer : List Level
+    abbrev outer : List Level
     outer = levels now (reverse now.stack.items)
 
     -- the level of its parts
@@ -348,17 +361,17 @@ module _ (old new : Preorder) (now : Cursor) (h : NoneYet old.cursor now) (i : �
     begins =
         let there : found_definition (slice_get (names_of now.plan.now) n.at) ≡ Some n.definition.now = sym (looked_up now.plan.now (name_in now n.at) n.at (name_there (names_of now.plan.now) n.at b.within)) ∙ b.defined in
         let rest : drop (length now.bytes.now - length now.left.now) now.bytes.now ≡ old.cursor.left.now = ∥∥₁_elim i (Coded-set coded_name _ _) (λ v. sym v.cursor.suffix) ∙ ap (λ b. b.now) h.left in
-        rw (le-leb (length now.left.now) (length now.bytes.now) within, there, rest) refl
+        rw (le-leb (length now.left.now) (length now.bytes.now) low, there, rest) refl
 
-    after : PassesTo (definitions_of old.cursor.plan.now) ((Some n.definition.now, old.cursor.left.now, parts) ∷ around ∷ outer) (levels now (frames new.cursor))
+    after : PassesTo (definitions_of old.cursor.plan.now) ((Some n.definition.now, old.cursor.left.now, parts) ∷ beside ∷ outer) (levels now (frames new.cursor))
     after =
         let C = definitions_of old.cursor.plan.now in
         let first : Level = (Some n.definition.now, old.cursor.left.now, parts) in
         elim b.after [
-          | inl e ↦ subst (λ ls. PassesTo C (first ∷ around ∷ outer) ls) (sym (ap (λ fs. levels now fs) e ∙ ap (λ l. l ∷ around ∷ outer) begins)) here
+          | inl e ↦ subst (λ ls. PassesTo C (first ∷ beside ∷ outer) ls) (sym (ap (λ fs. levels now fs) e ∙ ap (λ l. l ∷ beside ∷ outer) begins)) here
           | inr e ↦
-              let left : PassesTo C (first ∷ around ∷ outer) (around ∷ outer) = ended (subst (λ (xs : List (List ℕ)). PassesTo C (first ∷ around ∷ outer) ((Some n.definition.now, old.cursor.left.now, xs) ∷ around ∷ outer)) e.0 here) in
-              subst (λ ls. PassesTo C (first ∷ around ∷ outer) ls) (sym (ap (λ fs. levels now fs) e.1)) left
+              let left : PassesTo C (first ∷ beside ∷ outer) (beside ∷ outer) = past_end (subst (λ (xs : List (List ℕ)). PassesTo C (first ∷ beside ∷ outer) ((Some n.definition.now, old.cursor.left.now, xs) ∷ beside ∷ outer)) e.0 here) in
+              subst (λ ls. PassesTo C (first ∷ beside ∷ outer) ls) (sym (ap (λ fs. levels now fs) e.1)) left
         ]
 
     pub given : n.offset ≡ length now.bytes.now - length now.left.now → (IsZeroSize (definitions_of now.plan.now) (name_in now n.at) → ⊥) → n.depth ≡ length now.stack.items → (step : Option PathStep) → LeadsOn step → new.path.steps.items ≡ take (n.depth - 1) old.path.steps.items ++ option_to_list step → GivesNode old new n
@@ -366,14 +379,13 @@ module _ (old new : Preorder) (now : Cursor) (h : NoneYet old.cursor now) (i : �
         let ns = names_of now.plan.now in
         let own = n.bytes.now in
         let C = definitions_of old.cursor.plan.now in
-        let next : remaining ns now.frame.rest ≡ n.name.now ∷ around.2 = b.before ∙ ap (λ x. x ∷ around.2) (sym name) in
+        let next : remaining ns now.frame.rest ≡ n.name.now ∷ beside.2 = b.before ∙ ap (λ x. x ∷ beside.2) (sym name) in
         let back : IsZeroSize (definitions_of old.cursor.plan.now) n.name.now → IsZeroSize (definitions_of now.plan.now) (name_in now n.at) = λ z. subst (λ x. IsZeroSize (definitions_of now.plan.now) x) name (subst (λ (l : Bor Plan). IsZeroSize (definitions_of l.now) n.name.now) (sym h.plan) z) in
         let all = ap (λ b. length b.now) h.bytes in
         let left = ap (λ b. length b.now) h.left in
         let all_new = ap (λ b. length b.now) s.1 in
         let split = ap length b.bytes ∙ length-append own new.cursor.left.now in
         let there = name_there ns n.at b.within in
-        let low = within in
         record {
           place = ap (λ (l : Bor Plan). name_of (names_of l.now) n.at) (sym h.plan) ∙ there ∙ ap (λ x. Some x) (sym name);
           defined = subst (λ (l : Bor Plan). get_by_text (map_of l.now) n.name.now ≡ Some n.definition.now) h.plan (ap (λ x. get_by_text (map_of now.plan.now) x) name ∙ b.defined);
@@ -381,15 +393,15 @@ module _ (old new : Preorder) (now : Cursor) (h : NoneYet old.cursor now) (i : �
           offset = omega (arith, offset, all, left);
           next = omega (arith, all, left, all_new, split, low);
           some = λ z. some (back z);
-          around = around;
+          around = beside;
           outer = outer;
-          before = at_frame old.cursor now h new.cursor s (n.name.now ∷ around.2) next;
+          before = at_frame old.cursor now h new.cursor s (n.name.now ∷ beside.2) next;
           parts = parts;
           opens = subst (λ (l : Bor Plan). Opens (definitions_of l.now) (shape_of n.definition.now) own parts) h.plan b.opened;
-          after = subst (λ (l : Bor Plan). PassesTo C ((Some n.definition.now, old.cursor.left.now, parts) ∷ around ∷ outer) (map (level_of l.now new.cursor.bytes.now) (frames new.cursor))) (sym s.0)
-              (subst (λ (bytes : Bor (List ℕ)). PassesTo C ((Some n.definition.now, old.cursor.left.now, parts) ∷ around ∷ outer) (map (level_of now.plan.now bytes.now) (frames new.cursor))) (sym s.1) after);
+          after = subst (λ (l : Bor Plan). PassesTo C ((Some n.definition.now, old.cursor.left.now, parts) ∷ beside ∷ outer) (map (level_of l.now new.cursor.bytes.now) (frames new.cursor))) (sym s.0)
+              (subst (λ (bytes : Bor (List ℕ)). PassesTo C ((Some n.definition.now, old.cursor.left.now, parts) ∷ beside ∷ outer) (map (level_of now.plan.now bytes.now) (frames new.cursor))) (sym s.1) after);
           depth = depth ∙ sym (length-map (reverse now.stack.items) (level_of now.plan.now now.bytes.now) ∙ length-reverse now.stack.items);
           step = step;
-          leads = subst (λ (xs : List (List ℕ)). IsStep around.0 around.1 (length xs) step) next leads;
+          leads = subst (λ (xs : List (List ℕ)). IsStep beside.0 beside.1 (length xs) step) next leads;
           path = path;
         }

@@ -1,12 +1,12 @@
 -- There is at most one proof that tables are those of enums.
-use Rattle.std.specs.Prelude.{◌≡◌, ℕ, ◌<◌, ℤ, List, Option, Some, slice_get}
+use Rattle.std.specs.Prelude.{◌≡◌, ℕ, ℤ, List, Option, Some, slice_get}
 use Rattle.std.specs.Coded.{Π_prop, le_prop, Coded-set, coded×, coded_ℕ, coded_ℤ, coded_option}
 use mathlib.Core.Path.{path_j}
 use Rattle.borsh_walks.specs.Container.{Shape}
 use Rattle.borsh_walks.proofs.Propositions.{coded_name, same_some}
 use Rattle.borsh_values.specs.declared.tags.Found.TheVariants.{Nothing, One, Several}
 use Rattle.borsh_values.specs.declared.tags.Found.{Found}
-use Rattle.borsh_values.specs.Tags.{AreTagTables, FoundBy, IsTagTable, Tables, at_key, key_of, magnitude_of}
+use Rattle.borsh_values.specs.Tags.{AreTagTables, FoundBy, IsTagTable, Tables, at_key, key_of}
 use Rattle.borsh_walks.specs.Container.{tag}
 
 module _ (width : ℕ) (P : ℤ → Type 0) (h : (k : ℤ) → IsProp (P k)) (vs : List (ℤ × List ℕ)) where

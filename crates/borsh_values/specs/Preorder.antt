@@ -34,7 +34,7 @@ levels_left p = map (level_of p.cursor.plan.now p.cursor.bytes.now) (frames p.cu
 -- values that have ended are left, and those without bytes are passed
 pub data PassesTo (C : List ℕ → Option Shape) (old : List Level) : List Level → Type 0 where
   here : PassesTo C old old
-  ended : {d : Option Definition} {bytes : List ℕ} {ls : List Level} → PassesTo C old ((d, bytes, []) ∷ ls) → PassesTo C old ls
+  past_end : {d : Option Definition} {bytes : List ℕ} {ls : List Level} → PassesTo C old ((d, bytes, []) ∷ ls) → PassesTo C old ls
   passed : {d : Option Definition} {bytes x : List ℕ} {xs : List (List ℕ)} {ls : List Level} → IsZeroSize C x → PassesTo C old ((d, bytes, x ∷ xs) ∷ ls) → PassesTo C old ((d, bytes, xs) ∷ ls)
 
 -- the node is that of the next name that isn't of zero size, and has the first of the bytes; then its parts come, if it has some

@@ -3,8 +3,7 @@ use Rattle.std.specs.Prelude.{◌≡◌, ℕ, suc, zero, ◌+◌, ◌-◌, ◌*�
 use Rattle.std.specs.{Borrow.Bor, BTreeMap.BTreeMap, BTreeMap.get, Ordering.nat_cmp}
 use Rattle.borsh_walks.specs.Container.{Shape, choice, IsListedVariant, tag}
 use Rattle.borsh_walks.specs.Tables.{mark_of}
-use Rattle.borsh_values.specs.declared.tags.Found.TheVariants.{Nothing, One, Several}
-use Rattle.borsh_values.specs.declared.tags.Found.{Found}
+use Rattle.borsh_values.specs.declared.tags.{Found.Found, Found.TheVariants.Nothing, Found.TheVariants.One, Found.TheVariants.Several}
 use Rattle.borsh_values.specs.Unambiguous.{DistinctTags}
 
 -- the number that the bytes encode, little-endian

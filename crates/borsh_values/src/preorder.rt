@@ -47,7 +47,7 @@ pub struct Preorder<'a, 'p, 'b> {
     path: Path<'a>,
     // The bytes are a member of the root, some of which are read; also after an error.
     ghost inside: { ∥ IsInValue cursor ∥₁ },
-    ghost rooted: { ∥ path.root.now ≡ root_of cursor.plan.now ∥₁ },
+    ghost rooted: { path.root.now ≡ root_of cursor.plan.now },
 }
 
 impl<'a, 'p, 'b> Preorder<'a, 'p, 'b> {
@@ -128,8 +128,8 @@ fn lead_on<'a>(
     step: Option<PathStep<'a>>,
 ) -> Result<(), AllocError>
     ensures root { path.new.root ≡ path.old.root }
-    ensures steps { let last = option_to_list step in
-        OnOk result (path.new.steps.items ≡ take (depth - 1) path.old.steps.items ++ last) }
+    ensures steps { OnOk result (path.new.steps.items ≡
+        take (depth - 1) path.old.steps.items ++ option_to_list step.entry) }
 {
     path.steps.truncate(depth.saturating_sub(1));
     if let Some(step) = step {

@@ -14,9 +14,9 @@ returns-clause-levels c =
     let first : Frame = record { at = 0; start = length bytes + 1; rest = Copies 0 1 } in
     let e = c.in_ok-cursor.ensures in
     ap (λ fs. map (level_of c.in_ok-cursor.cursor.plan.now c.in_ok-cursor.cursor.bytes.now) fs) e.begins
-        ∙ ap (λ (l : Bor Plan). level_of l.now c.in_ok-cursor.cursor.bytes.now first ∷ []) e.plan
-        ∙ ap (λ (b : Bor (List ℕ)). level_of l b.now first ∷ []) e.bytes
-        ∙ ap (λ l. l ∷ []) (root_level l bytes)
+    ∙ ap (λ (l : Bor Plan). level_of l.now c.in_ok-cursor.cursor.bytes.now first ∷ []) e.plan
+    ∙ ap (λ (b : Bor (List ℕ)). level_of l b.now first ∷ []) e.bytes
+    ∙ ap (λ l. l ∷ []) (root_level l bytes)
 
 pub returns-clause-offset : goal.returns-clause-offset
 returns-clause-offset c =

@@ -1,10 +1,19 @@
-use Rattle.std.proofs.Common.{◌≡◌, ◌∙◌, ◌-◌, ◌++◌, ap, subst, take}
-use Rattle.std.specs.Prelude.{option_to_list}
+use Rattle.std.proofs.Common.{◌≡◌, ◌∙◌, ◌-◌, ◌++◌, ℕ, List, Bor, ap, length, refl, subst, take}
+use Rattle.std.proofs.Math.Logic.{∥∥₁_elim}
+use Rattle.std.specs.Coded.{le_prop}
+use Rattle.std.specs.Prelude.{Option, option_to_list}
+use Rattle.borsh_plan.specs.declared.plan.Plan.{Plan}
 use Rattle.borsh_values.specs.Cursor.{Happens, name_in}
-use Rattle.borsh_values.specs.declared.{faults.Path.Path}
-use Rattle.borsh_values.proofs.Stepping.{given, goes_on, none_left, undecided}
+use Rattle.borsh_values.specs.Nodes.{IsStep}
+use Rattle.borsh_values.specs.Preorder.{level_of}
+use Rattle.borsh_values.specs.declared.{faults.Path.Path, faults.PathStep.PathStep, frames.Frame.Frame}
+use Rattle.borsh_values.proofs.Stepping.{given, goes_on, none_left, none_yet, undecided}
 use Rattle.borsh_values.proofs.preorder.Preorder.next.Goals as goal
 use Rattle.borsh_values.proofs.preorder.Preorder.next.Goals.{in-Fault, in-Fault-2}
+
+-- the step from a frame's value
+abbrev LeadsBy : Plan → List ℕ → Frame → Option PathStep → Type 0
+LeadsBy l bytes f step = let k = level_of l bytes f in IsStep k.0 k.1 (length k.2) step
 
 pub returns-in-Open-clause-gives : goal.returns-in-Open-clause-gives
 returns-in-Open-clause-gives c =
@@ -16,8 +25,8 @@ returns-in-Open-clause-gives c =
     let full = e.full _ _ _ c.in-Open.is in
     let old = c.args.self.now in
     let step = c.next_step-step.result in
-    let leads : LeadsOn old new_nodes now c.loop-at.invariant.none c.loop-at.self.inside e.stays step = ? in
-    let path = subst (λ (p : Path). c.lead_on.new.path.steps.items ≡ take (c.depth-depth.result - 1) p.steps.items ++ option_to_list step) c.loop-at.invariant.path c.in_ok-lead_on.ensures.steps in
+    let leads = subst (λ (f : Frame). LeadsBy now.plan.now now.bytes.now f step) c.around-around.ensures (subst (λ (b : Bor (List ℕ)). LeadsBy now.plan.now b.now c.around-around.result step) e.stays.1 c.next_step-step.ensures) in
+    let path = subst (λ (p : Path). c.lead_on.new.path.steps.items ≡ take (c.depth-depth.result - 1) p.steps.items ++ option_to_list step) c.loop-at.invariant.path c.in_ok-lead_on-in-Open.ensures.steps in
     given old _ now c.loop-at.invariant.none c.loop-at.self.inside e.stays _ b.0 c.name.ensures c.offset-offset.ensures full c.depth-depth.ensures step leads path
 
 pub loop-at-preserved : goal.loop-at-preserved
@@ -41,3 +50,9 @@ returns-in-Fault-clause-reason c =
       | in-Fault w ↦ go w.in-Fault.at w.in-Fault.is c.name-in-Fault.result.now (c.name-in-Fault.ensures ∙ ap (λ at. name_in now at) w.at-is)
       | in-Fault-2 w ↦ go w.in-Fault.at w.in-Fault.is c.name-in-Fault.result.now (c.name-in-Fault.ensures ∙ ap (λ at. name_in now at) w.at-is)
     ]
+
+pub loop-at-init : goal.loop-at-init
+loop-at-init c = record { none = none_yet c.args.self.now.cursor; path = refl }
+
+pub offset-offset-requires : goal.offset-offset-requires
+offset-offset-requires c = ∥∥₁_elim c.loop-at.self.inside le_prop λ v. v.cursor.within
