@@ -6,7 +6,7 @@ use Rattle.std.specs.Fmt.{decimal}
 use Rattle.borsh_walks.specs.Container.{Member, sequence as counted_sequence}
 use Rattle.borsh_plan.specs.Plan.{definitions_of, map_of, root_of}
 use Rattle.borsh_values.specs.Nodes.{IsCountOf}
-use Rattle.borsh_values.specs.Preorder.{GivesNode, bytes_left, levels_left, plan_of, next_offset, steps_of_last}
+use Rattle.borsh_values.specs.Preorder.{GivesNode, bytes_left, levels_left, plan_of, next_offset}
 use Rattle.borsh_values.specs.declared.{faults.Path.Path, preorder.Preorder.Preorder}
 use Rattle.json.specs.Json.{max_depth}
 use Rattle.borsh_json.specs.declared.error.JsonError.TheVariants.{Refused}
@@ -31,7 +31,7 @@ pub record BeginsRows (l : Bor Plan) (all : List ℕ) (r : Rows) : Type 0 where
   pub bytes : bytes_left r.nodes ≡ all
   pub offset : next_offset r.nodes ≡ 0
   pub levels : map (λ l. l.2) (levels_left r.nodes) ≡ (root_of l.now ∷ []) ∷ []
-  pub path : steps_of_last r.nodes ≡ []
+  pub path : r.nodes.path.steps.items ≡ []
 
 -- nodes without bytes are given
 pub data GivesEmpty (old : Preorder) : Preorder → Type 0 where
@@ -66,7 +66,7 @@ pub record IsDeepNode (old : Preorder) (path : Path) : Type 0 where
   pub gives : GivesNode now new node
   pub deep : max_depth < node.depth
   pub root : path.root.now ≡ root_of (plan_of old).now
-  pub steps : path.steps.items ≡ steps_of_last new
+  pub steps : path.steps.items ≡ new.path.steps.items
 
 -- a refusal has the path of such a node
 abbrev pub NestsTooDeep : Preorder → JsonError → Type 0

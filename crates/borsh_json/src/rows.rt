@@ -1,7 +1,6 @@
 // What each of the bytes of a value is.
 ghost use Rattle.borsh_json.specs.Words.{IsNoMemberReason, IsNoRowsReason, IsPrimitiveKind, IsWhole, Member, definitions_of, float, float_size, form_of, forms_in, primitive_kind, root_of};
 ghost use Rattle.borsh_json.specs.Rows.{BeginsRows, GivesRow, IsNoRow, IsPrimitiveText, IsQuoted, IsTextOf, IsValueText, NestsTooDeep, counted, rows_plan};
-ghost use Rattle.borsh_values.specs.Preorder.{steps_of_last};
 ghost use Rattle.std.specs.Float.{Format};
 ghost use Rattle.std.specs.Prelude.{◌≡◌, ◌≤◌, [], false, ℕ, Decides, IfErr, IfOk, List, MatchOption, OnOk, string_bytes};
 
@@ -97,7 +96,7 @@ impl<'a, 'l, 'b> Rows<'a, 'l, 'b> {
     /// The path of the row that was given last, or of the root. Left open: none.
     pub fn path(&self) -> &Path<'a>
         ensures root { result.now.root.now ≡ root_of (rows_plan self.now).now }
-        ensures steps { result.now.steps.items ≡ steps_of_last self.now.nodes }
+        ensures path { result.now ≡ self.now.nodes.path }
     {
         self.nodes.path()
     }
