@@ -181,6 +181,10 @@ pub record IsInValue (c : Cursor) : Type 0 where
   pub cursor : IsCursor c
   pub member : Member (definitions_of c.plan.now) (root_of c.plan.now) c.bytes.now
 
+-- the innermost value that is read, and those around it
+abbrev pub frames : Cursor → List Frame
+frames c = c.frame ∷ reverse c.stack.items
+
 -- ---- at most so many steps are left
 abbrev pub steps_of : List Named → List Frame → ℕ
 steps_of ns fs = sum_by (λ f. step_count ns f.rest) fs
@@ -190,7 +194,7 @@ abbrev pub opens : ℕ → ℕ → ℕ → ℕ
 opens D len idle = len * suc D + (D - idle)
 
 abbrev pub steps_left : Cursor → ℕ
-steps_left c = (3 + work references (map_of c.plan.now).entries) * opens (btree_map_len (map_of c.plan.now)) (length c.left.now) c.idle + steps_of (names_of c.plan.now) (c.frame ∷ reverse c.stack.items)
+steps_left c = (3 + work references (map_of c.plan.now).entries) * opens (btree_map_len (map_of c.plan.now)) (length c.left.now) c.idle + steps_of (names_of c.plan.now) (frames c)
 
 -- ---- steps
 abbrev pub name_in : Cursor → ℕ → List ℕ
@@ -198,7 +202,7 @@ name_in c at = name_at (names_of c.plan.now) at
 
 -- the names that are still to be read
 abbrev pub pending_names : Cursor → List (List ℕ)
-pending_names c = pending (names_of c.plan.now) (c.frame ∷ reverse c.stack.items)
+pending_names c = pending (names_of c.plan.now) (frames c)
 
 -- the plan and all bytes stay
 abbrev pub Stays : Cursor → Cursor → Type 0
@@ -227,24 +231,28 @@ pub record IsBegun (old new : Cursor) (at : ℕ) (d : Definition) (own : List �
   pub within : at < length (names_of old.plan.now)
   pub bytes : old.left.now ≡ own ++ new.left.now
   pub defined : get_by_text (map_of old.plan.now) (name_in old at) ≡ Some d
-  pub parts : List (List ℕ)
-  pub others : List (List ℕ)
-  pub opened : Opens (definitions_of old.plan.now) (shape_of d) own parts
-  pub before : remaining (names_of old.plan.now) old.frame.rest ≡ name_in old at ∷ others
-  pub behind : pending (names_of old.plan.now) (new.frame ∷ reverse new.stack.items) ≡ parts ++ (others ++ pending (names_of old.plan.now) (reverse old.stack.items))
+  pub parts : Rest
+  pub others : Rest
+  pub opened : Opens (definitions_of old.plan.now) (shape_of d) own (remaining (names_of old.plan.now) parts)
+  pub before : remaining (names_of old.plan.now) old.frame.rest ≡ name_in old at ∷ remaining (names_of old.plan.now) others
+  -- it is the innermost, but may be left out where it has no parts
+  pub after : let around = record old.frame { rest = others } ∷ reverse old.stack.items in
+      (frames new ≡ record { at = at; start = length old.left.now; rest = parts } ∷ around) ⊎ ((remaining (names_of old.plan.now) parts ≡ []) × (frames new ≡ around))
 
 -- copies of the name at the place are passed, without a byte
 pub record PassesCopies (old new : Cursor) (x : List ℕ) : Type 0 where
   pub left : new.left ≡ old.left
-  pub others : ℕ
-  pub names : pending_names old ≡ replicate (suc others) x ++ pending (names_of old.plan.now) (new.frame ∷ reverse new.stack.items)
+  pub count : ℕ
+  pub others : Rest
+  pub names : remaining (names_of old.plan.now) old.frame.rest ≡ replicate (suc count) x ++ remaining (names_of old.plan.now) others
+  pub after : frames new ≡ record old.frame { rest = others } ∷ reverse old.stack.items
   pub moves : Moves old new
 
 -- what a step finds, and where it leads
 abbrev pub Happens : Cursor → Cursor → Event → Type 0
 Happens old new (Open at d own) = IsBegun old new at d.now own.now × Moves old new
 Happens old new (Pass at) = PassesCopies old new (name_in old at)
-Happens old new Close = (new.left ≡ old.left) × (pending (names_of old.plan.now) (new.frame ∷ reverse new.stack.items) ≡ pending_names old) × Moves old new
+Happens old new Close = (new.left ≡ old.left) × (remaining (names_of old.plan.now) old.frame.rest ≡ []) × (frames new ≡ reverse old.stack.items) × Moves old new
 Happens old new End = (new.left ≡ old.left) × (pending_names old ≡ [])
 Happens old new (Fault at r) = new.left ≡ old.left
 Happens old new (Undecided at) = (new.left ≡ old.left) × IsUndecided (definitions_of old.plan.now) (root_of old.plan.now) (name_in old at)
