@@ -11,7 +11,7 @@ use Rattle.borsh_plan.specs.Names.{name_of}
 use Rattle.borsh_plan.specs.Plan.{map_of, names_of as plan_names, root_of}
 use Rattle.borsh_values.specs.Membership.{IsUndecided}
 use Rattle.borsh_values.specs.Nodes.{Opens}
-use Rattle.borsh_values.specs.Cursor.{OpensOnce}
+use Rattle.borsh_values.specs.Cursor.{HasOneTag, OpensOnce}
 use Rattle.borsh_values.specs.Walks.{IsReadTo, IsCounted, IsNodeOf, FindsNode, FindsAt}
 use Rattle.borsh_plan.specs.declared.plan.Plan.{Plan}
 use Rattle.borsh_plan.specs.declared.named.Named.{Named}
@@ -278,7 +278,7 @@ module _ (d : Definitions) (w : Writing) (walk : Walker) (at : ℕ) (x : List �
   node_opened = opened_as (map_of d.plan.now) x w.walk walk n node_is
 
   pub node_only : IsOnly (forms_of d) x n.bytes.now node_is.parts
-  node_only = (form_of n.definition.now, node_opened.0, subst (λ C. OpensOnce C (shape_of_form (form_of n.definition.now)) n.bytes.now node_is.parts) (sym (shapes_are (map_of d.plan.now))) (subst (λ s. OpensOnce (definitions_in (map_of d.plan.now)) s n.bytes.now node_is.parts) (sym (shape_is n.definition.now)) node_is.once))
+  node_only = (form_of n.definition.now, node_opened.0, subst (λ C. OpensOnce C (shape_of_form (form_of n.definition.now)) n.bytes.now node_is.parts) (sym (shapes_are (map_of d.plan.now))) (subst (λ s. OpensOnce (definitions_in (map_of d.plan.now)) s n.bytes.now node_is.parts) (sym (shape_is n.definition.now)) node_is.once), subst (λ s. HasOneTag s n.bytes.now) (sym (shape_is n.definition.now)) node_is.alone)
 
   pub node_form : (f : Form) → forms_of d x ≡ Some f → f ≡ form_of n.definition.now
   node_form f e = some_form f (form_of n.definition.now) (sym e ∙ node_opened.0)

@@ -11,7 +11,7 @@ use Rattle.borsh_json.specs.declared.error.JsonError.TheVariants.{OutOfMemory, N
 use Rattle.borsh_json.specs.declared.error.PartError.{PartError}
 use Rattle.borsh_json.specs.declared.error.PartError.TheVariants.{OutOfMemory as NoMemory, Refused as RefusedPart}
 use Rattle.borsh_json.specs.declared.error.ReadError.{ReadError}
-use Rattle.borsh_json.specs.declared.error.ReadError.TheVariants.{OutOfMemory as NoRoom, Refused as RefusedRead, Descends as DescendsAt}
+use Rattle.borsh_json.specs.declared.error.ReadError.TheVariants.{OutOfMemory as NoRoom, Refused as RefusedRead}
 use Rattle.borsh_json.specs.declared.error.Refusal.{Refusal}
 use Rattle.borsh_json.specs.declared.error.Refusal.TheVariants.{TooDeep, RepeatedName, EmptyElements, NotBool, NotUtf8, Zero, NotNumber, Descends, Expected, MissingField, UnknownName, RepeatedKey, Undefined}
 
@@ -56,7 +56,6 @@ IsPartError May (RefusedPart path refusal) = May refusal
 abbrev pub IsReadRefusal : ReadError → Type 0
 IsReadRefusal NoRoom = ⊤
 IsReadRefusal (RefusedRead refusal) = IsUnreadable refusal
-IsReadRefusal (DescendsAt index) = ⊤
 
 -- the error of a part, as that of the whole value
 abbrev pub error_of : PartError → JsonError

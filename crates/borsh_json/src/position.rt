@@ -1,5 +1,5 @@
 // Where in a value the reader or writer is.
-ghost use Rattle.borsh_json.specs.Words.{AscendsFrom, GivesPart, HasPath, IsElementFall, IsFull, IsOf, IsOfRead, IsOfWrite, IsPartError, IsPath, IsReadRefusal, IsUnreadable, NoneFalls, Root, Step, TooDeep, element_step, error_steps, first_steps, found_step, place_step, step_of, steps_at, steps_through, write_steps};
+ghost use Rattle.borsh_json.specs.Words.{AscendsFrom, GivesPart, HasPath, IsElementFall, IsFull, IsOf, IsOfRead, IsOfWrite, IsPartError, IsPath, IsReadRefusal, IsUnreadable, NoneFalls, Root, Step, TooDeep, element_step, first_steps, found_step, place_step, step_of, steps_at, steps_through, write_steps};
 ghost use Rattle.borsh_json.specs.declared.error.Refusal.TheVariants.{Descends};
 ghost use Rattle.std.specs.Prelude.{◌≡◌, ◌+◌, ◌^◌, ◌<◌, ◌≤◌, ◌∷◌, ◌++◌, [], true, false, ℕ, List, None, length, map, IfErr, IfOk, IfSome, MatchOption, OnOk};
 
@@ -272,17 +272,16 @@ impl<'a, 'k> Position<'a, 'k> {
         refused_at(self.path(), refusal)
     }
 
-    /// The error of the part that was begun last, or of an element of it.
+    /// The error of the part that was begun last and not read.
     pub fn refused_part(&self, error: ReadError) -> PartError<'a>
         ensures same { IsOfRead error result }
         ensures path { HasPath self.now.root.now
-            (error_steps (steps_through self.now.outer.items ++ steps_at self.now.place) error) result }
+            (steps_through self.now.outer.items ++ steps_at self.now.place) result }
         ensures reading { IsReadRefusal error → IsPartError IsUnreadable result }
     {
         match error {
             ReadError::OutOfMemory => PartError::OutOfMemory,
             ReadError::Refused(refusal) => self.refused(refusal),
-            ReadError::Descends(index) => refused_at(self.path_to(index), Refusal::Descends),
         }
     }
 
@@ -295,7 +294,6 @@ impl<'a, 'k> Position<'a, 'k> {
         match error {
             ReadError::OutOfMemory => PartError::OutOfMemory,
             ReadError::Refused(refusal) => refused_at(self.path_of_key(), refusal),
-            ReadError::Descends(_) => refused_at(self.path_of_key(), Refusal::Descends),
         }
     }
 
