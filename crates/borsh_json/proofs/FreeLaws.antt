@@ -80,10 +80,10 @@ module _ (F : List ℕ → Option Form) (root : List ℕ) where
           | inr t ↦ elim (subst (λ xs. IsIn y xs) t.1 i) [ ]
         ]
       ])
-  parts_led {qs = qs} (inner p) h r s = let f = form_found F (inner p) h (λ z. cc) in each_led (p ∷ []) qs (ap part_names s.1) (λ y i. led r (f.1 ∙ ap (λ d. Some d) f.2) i)
+  parts_led {qs = qs} (inner p) h r s = let f = form_found F (inner p) h (λ z. cc) in each_led (p ∷ []) qs (ap (λ (l : List Part). part_names l) s.1) (λ y i. led r (f.1 ∙ ap (λ d. Some d) f.2) i)
   parts_led {qs = qs} (fields fs) h r s = let f = form_found F (fields fs) h (λ z. cc) in each_led (map (λ (f : List ℕ × List ℕ). f.1) fs) qs (field_names fs s.2 qs s.5) (λ y i. led r (f.1 ∙ ap (λ d. Some d) f.2) i)
   parts_led {qs = qs} (optional p) h r (inl s) = none_led qs s.2
-  parts_led {qs = qs} (optional p) h r (inr s) = let f = form_found F (optional p) h (λ z. cc) in each_led (p ∷ []) qs (ap part_names s.2) (λ y i. subst (λ y. Reached (shapes F) root y) (only y i) (led r f.2.0.1 (later first)))
+  parts_led {qs = qs} (optional p) h r (inr s) = let f = form_found F (optional p) h (λ z. cc) in each_led (p ∷ []) qs (ap (λ (l : List Part). part_names l) s.2) (λ y i. subst (λ y. Reached (shapes F) root y) (only y i) (led r f.2.0.1 (later first)))
     where
       only : (y : List ℕ) → IsIn y (p ∷ []) → p ≡ y
       only y first = refl
@@ -104,13 +104,13 @@ module _ (F : List ℕ → Option Form) (root : List ℕ) where
   each_joined [] ps a b = b
   each_joined (q ∷ qs) ps a b = (a.0, each_joined qs ps a.1 b)
 
-  module _ (none : {x own : List ℕ} {j : Json} {qs : List Part} → Reached (shapes F) root x → SaysFirst F x j own qs → (index : ℕ) → Falls F x j index → ⊥) where
+  module _ (none : (x own : List ℕ) (j : Json) (qs : List Part) → Reached (shapes F) root x → SaysFirst F x j own qs → (index : ℕ) → Falls F x j index → ⊥) where
     all_in_order : {ps : List Part} {bytes : List ℕ} → HaveBytes F ps bytes → AllByRecursion IsLed ps → AreInOrder F ps
     all_in_order none_left a = tt
     all_in_order (next_part {x = x} {j = j} {ps = ps} kind own qs h s r) a =
         let t = all_in_order r (each_joined qs ps (parts_led kind h a.0 s) a.1) in
         let d = divided F (λ x i. (index : ℕ) → Falls F x i index → ⊥) qs ps t in
-        (whole_in_order F x j own qs (kind, h, s) d.0 (none a.0 (kind, h, s)), d.1)
+        (whole_in_order F x j own qs (kind, h, s) d.0 (none x own j qs a.0 (kind, h, s)), d.1)
 
     needs_no_check : NeedsNoCheck F root
     needs_no_check j bytes h = (all_in_order h (stays, tt)).0
@@ -143,8 +143,8 @@ module _ (d : Definitions) (kinds : List (Option (Bor Definition × Found))) (wh
   abbrev F : List ℕ → Option Form
   F = forms_of d
 
-  none_there : {x own : List ℕ} {j : Json} {qs : List Part} → Reached (shapes F) (root_of d.plan.now) x → SaysFirst F x j own qs → (index : ℕ) → Falls F x j index → ⊥
-  none_there {x = x} {own = own} {j = j} {qs = qs} r says index f = by (slice_get kinds at.0) refl
+  none_there : (x own : List ℕ) (j : Json) (qs : List Part) → Reached (shapes F) (root_of d.plan.now) x → SaysFirst F x j own qs → (index : ℕ) → Falls F x j index → ⊥
+  none_there x own j qs r says index f = by (slice_get kinds at.0) refl
     where
       at : (i : ℕ) × IsAt (names_of d) i x
       at = has_place d.plan.now (subst (λ C. Reached C (root_of d.plan.now) x) (shapes_are (map_of d.plan.now)) r)

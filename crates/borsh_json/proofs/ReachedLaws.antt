@@ -29,13 +29,13 @@ named_all e [] h = refl
 named_all e (q ∷ qs) h = ap (λ x. x ∷ part_names qs) h.0 ∙ ap (λ l. e ∷ l) (named_all e qs h.1)
 
 pub row_names : (xs : List (List ℕ)) (js : Items) (qs : List Part) → row_parts xs js ≡ Some qs → part_names qs ≡ xs
-row_names [] no_items qs e = let q : [] ≡ qs = cc in ap part_names (sym q)
+row_names [] no_items qs e = let q : [] ≡ qs = cc in ap (λ (l : List Part). part_names l) (sym q)
 row_names [] (item j js) qs e = cc
-row_names (x ∷ xs) js qs e = let f = row_front x xs js qs e in ap part_names f.4 ∙ ap (λ l. x ∷ l) (row_names xs f.1 f.2 f.3)
+row_names (x ∷ xs) js qs e = let f = row_front x xs js qs e in ap (λ (l : List Part). part_names l) f.4 ∙ ap (λ l. x ∷ l) (row_names xs f.1 f.2 f.3)
 
 pub field_names : (fs : List (List ℕ × List ℕ)) (ms : Members) (qs : List Part) → field_parts fs ms ≡ Some qs → part_names qs ≡ map (λ (f : List ℕ × List ℕ). f.1) fs
-field_names [] ms qs e = let q : [] ≡ qs = cc in ap part_names (sym q)
-field_names (f ∷ fs) ms qs e = let t = field_front f fs ms qs e in ap part_names t.4 ∙ ap (λ l. f.1 ∷ l) (field_names fs ms t.1 t.3)
+field_names [] ms qs e = let q : [] ≡ qs = cc in ap (λ (l : List Part). part_names l) (sym q)
+field_names (f ∷ fs) ms qs e = let t = field_front f fs ms qs e in ap (λ (l : List Part). part_names l) t.4 ∙ ap (λ l. f.1 ∷ l) (field_names fs ms t.1 t.3)
 
 renamed : (p : Part) (y : List ℕ) → p.0 ≡ y → p ≡ (y, p.1)
 renamed (z, j) y e = ap (λ z. (z, j)) e
@@ -154,7 +154,7 @@ module _ (F : List ℕ → Option Form) where
             }
 
       -- an object's entry has two
-      module _ (d : Shape) (once : OpensOnce (shapes F) d all (front ++ y ∷ after)) (l : Lengths) (keys : Keys) (k v e : List ℕ) (h : HasKind F x (entries l keys k v)) (s : Says F (entries l keys k v) i own qs) where
+      module _ (d : Shape) (once : OpensOnce (shapes F) d all (front ++ y ∷ after)) (lens : Lengths) (keys : Keys) (k v e : List ℕ) (h : HasKind F x (entries lens keys k v)) (s : Says F (entries lens keys k v) i own qs) where
         for_entry : F e ≡ Some (tuple (k ∷ v ∷ [])) → (HasNoBytes F k → ⊥) → Opens (shapes F) d own (replicate (length s.1) e) → steps ≡ element (length front) ∷ [] → There
         for_entry c full opens t =
             let u = once own (replicate (length s.1) e) bs (mid ++ rest) opens is in
@@ -170,15 +170,15 @@ module _ (F : List ℕ → Option Form) where
             let m = match_entries F keys e k v full c f.0 no_names in
             let named = subst (λ (l : List Part). Match F l front) (append-nil fq) (subst (λ l. Match F (fq ++ []) l) (append-nil (replicate (length f.0) e) ∙ ap (λ n. replicate n e) f.4 ∙ sym w.0) m) in
             let z = exact F front mid fq g.0 g.1 rest a named g.2 small (sym g.4 ∙ u.1) in
-            let first_says = subst (λ (l : List Part). Says F (entries _ keys k v) i own l) (parts ∙ sym (append_assoc fq (p ∷ []) (q ∷ bq))) s in
+            let first_says = subst (λ (l : List Part). Says F (entries lens keys k v) i own l) (parts ∙ sym (append_assoc fq (p ∷ []) (q ∷ bq))) s in
             let last : fq ++ p ∷ q ∷ bq ≡ ((fq ++ p ∷ []) ++ q ∷ []) ++ bq = sym (append_assoc fq (p ∷ q ∷ []) bq) ∙ ap (λ (l : List Part). l ++ bq) (sym (append_assoc fq (p ∷ []) (q ∷ []))) in
-            let last_says = subst (λ (l : List Part). Says F (entries _ keys k v) i own l) (parts ∙ last) s in
+            let last_says = subst (λ (l : List Part). Says F (entries lens keys k v) i own l) (parts ∙ last) s in
             let long = entries_long keys k v f.0 in
             let there = f.4 in
             let count = length-append fq (p ∷ []) in
             let key_steps = element (length front) ∷ place 0 ∷ [] in
             let value_steps = element (length front) ∷ place 1 ∷ [] in
-            let key_at = part_of (entries _ keys k v) own key_steps r h (inl (q ∷ bq, first_says)) g.2 (length front, inl (omega (arith, long, there), refl)) in
+            let key_at = part_of (entries lens keys k v) own key_steps r h (inl (q ∷ bq, first_says)) g.2 (length front, inl (omega (arith, long, there), refl)) in
             let begins : own ++ g.0 ≡ all ++ mid = ap (λ o. o ++ g.0) u.0 ∙ ap (λ m. all ++ m) z.0 in
             let steps_are : (n : ℕ) → path ++ element (length front) ∷ place n ∷ [] ≡ (path ++ steps) ++ place n ∷ [] = λ n. sym (append_assoc path (element (length front) ∷ []) (place n ∷ [])) ∙ ap (λ (l : List Step). (path ++ l) ++ place n ∷ []) (sym t) in
             record {
@@ -188,7 +188,7 @@ module _ (F : List ℕ → Option Form) where
               (subst (λ (l : List Step). IsReached F root j (suc n) l (before ++ (all ++ mid)) p) (steps_are 0) (subst (λ b. IsReached F root j (suc n) (path ++ key_steps) (before ++ b) p) begins key_at))
               (λ key said. subst (λ (l : List Step). IsReached F root j (suc n) l ((before ++ (all ++ mid)) ++ key) q) (steps_are 1)
               (subst (λ b. IsReached F root j (suc n) (path ++ value_steps) b q) (ap (λ b. before ++ b) (sym (append_assoc own g.0 key) ∙ ap (λ b. b ++ key) begins) ∙ sym (append_assoc before (all ++ mid) key))
-              (part_of (entries _ keys k v) own value_steps r h (inl (bq, last_says)) (joined F g.2 said) (length front, inr (omega (arith, long, there, count), refl)))));
+              (part_of (entries lens keys k v) own value_steps r h (inl (bq, last_says)) (joined F g.2 said) (length front, inr (omega (arith, long, there, count), refl)))));
               said = subst (λ b. HaveBytes F (p ∷ q ∷ (bq ++ ps)) b) z.1 g.3;
             }
 
@@ -196,7 +196,7 @@ module _ (F : List ℕ → Option Form) where
       byte_none w lo hi e b o =
           let z = unpacked (packed_size (shapes F e)) e o.0 o.1 front after y o.5 in
           let q : 0 ≡ 1 = sym z ∙ ap (λ d. packed_size d) (shaped (F e) b.1) in
-          omega (arith, q)
+          absurd (omega (arith, q))
 
       row_there : (f : Form) (xs : List (List ℕ)) (kind : Kind) → shape_of_form f ≡ shape.product xs → kind ≡ row xs → HasKind F x kind → Says F kind i own qs → IsOpened F x f all (front ++ y ∷ after) → steps ≡ place (length front) ∷ [] → There
       row_there f xs kind d e h s o t =
@@ -218,7 +218,7 @@ module _ (F : List ℕ → Option Form) where
       value_there (unnamed []) kind h s o l d = row_there (unnamed []) [] kind refl d h s o l
       value_there (unnamed (p ∷ [])) kind h s o l d =
           let v = subst (λ (k : Kind). Says F k i own qs) d s in
-          for_each (shape.product (p ∷ [])) o.3 (inner p) (subst (λ (k : Kind). HasKind F x k) d h) v (p ∷ []) (v.0, refl) (ap part_names v.1) (λ m k. l ∙ ap (λ m. place m ∷ []) k)
+          for_each (shape.product (p ∷ [])) o.3 (inner p) (subst (λ (k : Kind). HasKind F x k) d h) v (p ∷ []) (v.0, refl) (ap (λ (l : List Part). part_names l) v.1) (λ m k. l ∙ ap (λ m. place m ∷ []) k)
       value_there (unnamed (p ∷ q ∷ xs)) kind h s o l d = row_there (unnamed (p ∷ q ∷ xs)) (p ∷ q ∷ xs) kind refl d h s o l
       value_there no_fields kind h s o l d = row_there no_fields [] kind refl d h s o l
       value_there (named fs) kind h s o l d =
@@ -234,13 +234,13 @@ module _ (F : List ℕ → Option Form) where
             | inl v ↦ for_none (shape_of_form (choice 1 us)) u.3 (optional p) h (inl v) c.0.0 (pos 0, c.0.0, first_variant, v.1, refl) c.0.2.1 v.2
             | inr v ↦ (let opens : Opens (shapes F) (shape_of_form (choice 1 us)) own (p ∷ []) = (pos 1, p, later_variant first_variant, v.1, refl) in
                 let e = u.3 own (p ∷ []) bs (mid ++ rest) opens is in
-                for_each (shape_of_form (choice 1 us)) u.3 (optional p) h (inr v) (p ∷ []) opens (ap part_names v.2) (λ m k. t.5 ∙ ap (λ v. variant v ∷ []) (some_variant t.3 (sym t.4 ∙ sym e.0 ∙ v.1))))
+                for_each (shape_of_form (choice 1 us)) u.3 (optional p) h (inr v) (p ∷ []) opens (ap (λ (l : List Part). part_names l) v.2) (λ m k. t.5 ∙ ap (λ v. variant v ∷ []) (some_variant t.3 (sym t.4 ∙ sym e.0 ∙ v.1))))
           ]
       value_there (choice w vs) kind h s o l (by_name c) = elim s.6 [
         | inl v ↦ for_none (shape_of_form (choice w vs)) o.3 _ h s s.3 (s.1, s.3, listed F s.4, s.5, refl) v.1 v.2
         | inr v ↦ (let opens : Opens (shapes F) (shape_of_form (choice w vs)) own (s.3 ∷ []) = (s.1, s.3, listed F s.4, s.5, refl) in
             let e = o.3 own (s.3 ∷ []) bs (mid ++ rest) opens is in
-            for_each (shape_of_form (choice w vs)) o.3 _ h s (s.3 ∷ []) opens (ap part_names v.3) (λ m k. (s.2, v.0, v.1, l.5 ∙ ap (λ v. variant v ∷ []) (variant_one vs o.5 l.3 s.4 (sym l.4) (sym s.5 ∙ e.0)))))
+            for_each (shape_of_form (choice w vs)) o.3 _ h s (s.3 ∷ []) opens (ap (λ (l : List Part). part_names l) v.3) (λ m k. (s.2, v.0, v.1, l.5 ∙ ap (λ v. variant v ∷ []) (variant_one vs o.5 l.3 s.4 (sym l.4) (sym s.5 ∙ e.0)))))
       ]
 
     -- the part of a value that is there
