@@ -54,30 +54,30 @@ module _ (F : List ℕ → Option Form) (root bytes : List ℕ) (j : Json) (smal
   value_there rest i e = inside_there F root j i rest (subst (λ l. AreBytes l) e small) (subst (λ l. HaveBytes F ((root, j) ∷ []) l) e says)
 
   -- but none that no JSON can say
-  not_said : {path : List Step} {before x : List ℕ} {qs ps : List Part} (own after : List ℕ) → IsNoJson F x own → ((ps : List (List ℕ)) → F x ≡ Some (tuple ps) → ⊥) → HasParts F root j path before x qs → HaveBytes F (qs ++ ps) (own ++ after) → ⊥
-  not_said {ps = ps} own after n p (nothing z) h = n null ps after (next_part no_bytes [] [] (inl (z, refl)) (refl, refl, refl) h)
-  not_said {ps = ps} own after n p (part {i = i} m r) h = n i ps after h
-  not_said own after n p (entry {k = k} {v = v} m c r g) h = p (k ∷ v ∷ []) c
+  not_said : {path : List Step} {before x : List ℕ} {qs : List Part} (ps : List Part) (own after : List ℕ) → IsNoJson F x own → ((ps : List (List ℕ)) → F x ≡ Some (tuple ps) → ⊥) → HasParts F root j path before x qs → HaveBytes F (qs ++ ps) (own ++ after) → ⊥
+  not_said ps own after n p (nothing z) h = n null ps after (next_part no_bytes [] [] (inl (z, refl)) (refl, refl, refl) h)
+  not_said ps own after n p (part {i = i} m r) h = n i ps after h
+  not_said ps own after n p (entry {k = k} {v = v} m c r g) h = p (k ∷ v ∷ []) c
 
   no_part : (path : List Step) (r : Refusal) → HasNoJsonPart F root bytes path r → ⊥
   no_part path r h =
       let s = value_there (h.3 ++ h.4) h.7 h.6 in
       elim h.8 [
-        | inl a ↦ not_said h.3 h.4 a.1.1 (λ ps c. no_tuple F r a.1.0 c) s.has s.said
-        | inr a ↦ not_said h.3 h.4 a.2.9 (λ ps c. elim (tuple_kind F c a.2.5) [ inl e ↦ cc | inr e ↦ cc ]) s.has s.said
+        | inl a ↦ not_said s.others h.3 h.4 a.1.1 (λ ps c. no_tuple F r a.1.0 c) s.has s.said
+        | inr a ↦ not_said s.others h.3 h.4 a.2.9 (λ ps c. elim (tuple_kind F c a.2.5) [ inl e ↦ cc | inr e ↦ cc ]) s.has s.said
       ]
 
   -- an element of it falls where it isn't above the one before it in the bytes
   pub descends : (path : List Step) → IsOutOfOrder F root bytes path → FailsAt F root j path Descends
   descends path h =
       let s = value_there h.4 h.8 h.7 in
-      let f = falls s.has s.said h.9 in
+      let f = falls s.others s.has s.said h.9 in
       (f.0, h.1, suc h.2, h.3, h.5, f.1, h.6, f.2, f.3)
     where
-      falls : {qs ps : List Part} → HasParts F root j h.1 h.3 h.5 qs → HaveBytes F (qs ++ ps) h.4 → HasDescent F h.5 h.4 h.2 → (n : ℕ) × (i : Json) × IsReached F root j n h.1 h.3 (h.5, i) × Falls F h.5 i (suc h.2)
-      falls (nothing z) b d = absurd (full_list F d.keys.0 z)
-      falls (entry n c r g) b d = absurd (clash (F h.5) c d.keys.0 (λ q. cc))
-      falls {ps = ps} (part {i = i} n r) b d =
+      falls : {qs : List Part} (ps : List Part) → HasParts F root j h.1 h.3 h.5 qs → HaveBytes F (qs ++ ps) h.4 → HasDescent F h.5 h.4 h.2 → (n : ℕ) × (i : Json) × IsReached F root j n h.1 h.3 (h.5, i) × Falls F h.5 i (suc h.2)
+      falls ps (nothing z) b d = absurd (full_list F d.keys.0 z)
+      falls ps (entry n c r g) b d = absurd (clash (F h.5) c d.keys.0 (λ q. cc))
+      falls ps (part {i = i} n r) b d =
           let u = uncons F b in
           (n, i, r, falls_there F h.5 i u.0 u.2 u.1 ps u.4.0 u.4.1 u.4.2 u.5 (subst (λ l. AreBytes l) u.3 (behind h.3 h.4 (subst (λ l. AreBytes l) h.7 small))) h.2 (subst (λ l. HasDescent F h.5 l h.2) u.3 d))
 

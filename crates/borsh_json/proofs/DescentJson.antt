@@ -213,9 +213,9 @@ module _ (F : List ℕ → Option Form) where
         let left = behind d.middle (d.first ++ d.after) all in
         let before = subst (λ (n : ℕ). Match F front (replicate n d.e)) k (subst (λ l. Match F front l) (append-nil (replicate m d.e)) (subst (λ (l : List Part). Match F l (replicate m d.e ++ [])) (append-nil front) f)) in
         let s = split F more front ((ones ++ rest) ++ ps) (ap (λ (l : List Part). l ++ ps) q ∙ append_assoc front (ones ++ rest) ps) in
-        let u = exact (replicate passed d.e) d.middle front s.0 s.1 (d.first ++ d.after) d.elements before s.2 all (sym s.4 ∙ is) in
+        let u = exact F (replicate passed d.e) d.middle front s.0 s.1 (d.first ++ d.after) d.elements before s.2 all (sym s.4 ∙ is) in
         let t = split F s.3 ones (rest ++ ps) (append_assoc ones rest ps) in
-        let v = exact (d.e ∷ []) d.first ones t.0 t.1 d.after d.element g t.2 left (sym t.4 ∙ u.1) in
+        let v = exact F (d.e ∷ []) d.first ones t.0 t.1 d.after d.element g t.2 left (sym t.4 ∙ u.1) in
         (subst (λ b. HaveBytes F ones b) v.0 t.2, subst (λ b. HaveBytes F (rest ++ ps) b) v.1 t.3, behind d.first d.after left)
 
     array_falls : (items : Items) → IsListKind kind → i ≡ array items → qs ≡ list_parts d.e items → Falls F x i (suc passed)

@@ -56,22 +56,22 @@ module _ (F : List ℕ → Option Form) (root : List ℕ) where
 
   entries_led : (keys : Keys) (k v : List ℕ) (es : List Entry) → Reached (shapes F) root k → Reached (shapes F) root v → AllByRecursion IsLed (entry_parts keys k v es)
   entries_led keys k v [] a b = tt
-  entries_led keys k v (e ∷ es) a b = (a, b, entries_led keys k v es a b)
+  entries_led keys k v (e ∷ es) a b = (a, (b, entries_led keys k v es a b))
 
   none_led : (qs : List Part) → qs ≡ [] → AllByRecursion IsLed qs
   none_led qs e = subst (λ (l : List Part). AllByRecursion IsLed l) (sym e) tt
 
-  parts_led : {x own : List ℕ} {j : Json} {qs : List Part} (kind : Kind) → HasKind F x kind → Reached (shapes F) root x → Says F kind j own qs → AllByRecursion IsLed qs
-  parts_led {qs = qs} no_bytes h r s = none_led qs s.2
-  parts_led {qs = qs} truth h r s = none_led qs s.3
-  parts_led {qs = qs} (whole n signed non_zero) h r s = none_led qs s.3
-  parts_led {qs = qs} (float f) h r s = none_led qs s.3
-  parts_led {qs = qs} (raw n) h r s = none_led qs s.2
-  parts_led {qs = qs} (utf8 l) h r s = none_led qs s.4
-  parts_led {qs = qs} (byte_list l e) h r (inl s) = none_led qs s.3
-  parts_led {qs = qs} (byte_list l e) h r (inr s) = let f = form_found F (byte_list l e) h (λ z. cc) in list_led e qs (subst (λ (l : List Part). AreNamed e l) (sym s.2) (list_named e s.0)) (led r (f.1 ∙ ap (λ d. Some d) f.2.0) first)
-  parts_led {qs = qs} (list l e) h r s = let f = form_found F (list l e) h (λ z. cc) in list_led e qs (subst (λ (l : List Part). AreNamed e l) (sym s.2) (list_named e s.0)) (led r (f.1 ∙ ap (λ d. Some d) f.2) first)
-  parts_led {qs = qs} (row xs) h r s =
+  parts_led : {x : List ℕ} (own : List ℕ) (j : Json) (qs : List Part) (kind : Kind) → HasKind F x kind → Reached (shapes F) root x → Says F kind j own qs → AllByRecursion IsLed qs
+  parts_led own j qs no_bytes h r s = none_led qs s.2
+  parts_led own j qs truth h r s = none_led qs s.3
+  parts_led own j qs (whole n signed non_zero) h r s = none_led qs s.3
+  parts_led own j qs (float f) h r s = none_led qs s.3
+  parts_led own j qs (raw n) h r s = none_led qs s.2
+  parts_led own j qs (utf8 l) h r s = none_led qs s.4
+  parts_led own j qs (byte_list l e) h r (inl s) = none_led qs s.3
+  parts_led own j qs (byte_list l e) h r (inr s) = let f = form_found F (byte_list l e) h (λ z. cc) in list_led e qs (subst (λ (l : List Part). AreNamed e l) (sym s.2) (list_named e s.0)) (led r (f.1 ∙ ap (λ d. Some d) f.2.0) first)
+  parts_led own j qs (list l e) h r s = let f = form_found F (list l e) h (λ z. cc) in list_led e qs (subst (λ (l : List Part). AreNamed e l) (sym s.2) (list_named e s.0)) (led r (f.1 ∙ ap (λ d. Some d) f.2) first)
+  parts_led own j qs (row xs) h r s =
       let f = form_found F (row xs) h (λ z. cc) in
       each_led xs qs (row_names xs s.1 qs s.3) (λ y i. elim f.2 [
         | inl t ↦ led r (f.1 ∙ ap (λ d. Some d) t) i
@@ -80,22 +80,22 @@ module _ (F : List ℕ → Option Form) (root : List ℕ) where
           | inr t ↦ elim (subst (λ xs. IsIn y xs) t.1 i) [ ]
         ]
       ])
-  parts_led {qs = qs} (inner p) h r s = let f = form_found F (inner p) h (λ z. cc) in each_led (p ∷ []) qs (ap (λ (l : List Part). part_names l) s.1) (λ y i. led r (f.1 ∙ ap (λ d. Some d) f.2) i)
-  parts_led {qs = qs} (fields fs) h r s = let f = form_found F (fields fs) h (λ z. cc) in each_led (map (λ (f : List ℕ × List ℕ). f.1) fs) qs (field_names fs s.2 qs s.5) (λ y i. led r (f.1 ∙ ap (λ d. Some d) f.2) i)
-  parts_led {qs = qs} (optional p) h r (inl s) = none_led qs s.2
-  parts_led {qs = qs} (optional p) h r (inr s) = let f = form_found F (optional p) h (λ z. cc) in each_led (p ∷ []) qs (ap (λ (l : List Part). part_names l) s.2) (λ y i. subst (λ y. Reached (shapes F) root y) (only y i) (led r f.2.0.1 (later first)))
+  parts_led own j qs (inner p) h r s = let f = form_found F (inner p) h (λ z. cc) in each_led (p ∷ []) qs (ap (λ (l : List Part). part_names l) s.1) (λ y i. led r (f.1 ∙ ap (λ d. Some d) f.2) i)
+  parts_led own j qs (fields fs) h r s = let f = form_found F (fields fs) h (λ z. cc) in each_led (map (λ (f : List ℕ × List ℕ). f.1) fs) qs (field_names fs s.2 qs s.5) (λ y i. led r (f.1 ∙ ap (λ d. Some d) f.2) i)
+  parts_led own j qs (optional p) h r (inl s) = none_led qs s.2
+  parts_led own j qs (optional p) h r (inr s) = let f = form_found F (optional p) h (λ z. cc) in each_led (p ∷ []) qs (ap (λ (l : List Part). part_names l) s.2) (λ y i. subst (λ y. Reached (shapes F) root y) (only y i) (led r f.2.0.1 (later first)))
     where
       only : (y : List ℕ) → IsIn y (p ∷ []) → p ≡ y
       only y first = refl
       only y (later i) = elim i [ ]
-  parts_led {qs = qs} (variants w vs) h r s =
+  parts_led own j qs (variants w vs) h r s =
       let f = form_found F (variants w vs) h (λ z. cc) in
       let there = led r (f.1 ∙ ap (λ d. Some d) f.2) (variant_in s.4) in
       elim s.6 [
         | inl a ↦ none_led qs a.2
         | inr a ↦ subst (λ (l : List Part). AllByRecursion IsLed l) (sym a.3) (there, tt)
       ]
-  parts_led {qs = qs} (entries l keys k v) h r s =
+  parts_led own j qs (entries l keys k v) h r s =
       let f = form_found F (entries l keys k v) h (λ z. cc) in
       let e = led r (f.1 ∙ ap (λ d. Some d) f.2.1) first in
       subst (λ (l : List Part). AllByRecursion IsLed l) (sym s.6) (entries_led keys k v s.1 (led e f.2.2 first) (led e f.2.2 (later first)))
@@ -108,7 +108,7 @@ module _ (F : List ℕ → Option Form) (root : List ℕ) where
     all_in_order : {ps : List Part} {bytes : List ℕ} → HaveBytes F ps bytes → AllByRecursion IsLed ps → AreInOrder F ps
     all_in_order none_left a = tt
     all_in_order (next_part {x = x} {j = j} {ps = ps} kind own qs h s r) a =
-        let t = all_in_order r (each_joined qs ps (parts_led kind h a.0 s) a.1) in
+        let t = all_in_order r (each_joined qs ps (parts_led own j qs kind h a.0 s) a.1) in
         let d = divided F (λ x i. (index : ℕ) → Falls F x i index → ⊥) qs ps t in
         (whole_in_order F x j own qs (kind, h, s) d.0 (none x own j qs a.0 (kind, h, s)), d.1)
 

@@ -1,5 +1,5 @@
 -- Names whose values go with bytes in one way: JSON that says them has these bytes.
-use Rattle.std.proofs.Common.{◌≡◌, ℕ, List, [], ◌∷◌, ◌++◌, length, Option, Some, sym, ◌∙◌, ap, subst, arith, append_assoc, append-nil, length-append}
+use Rattle.std.proofs.Common.{◌≡◌, inl, refl, ℕ, List, [], ◌∷◌, ◌++◌, length, Option, Some, sym, ◌∙◌, ap, subst, arith, append_assoc, append-nil, length-append}
 use Rattle.borsh_walks.specs.Container.{first}
 use Rattle.borsh_values.specs.Nodes.{Opens}
 use Rattle.borsh_values.proofs.MemberLaws.{same_front}

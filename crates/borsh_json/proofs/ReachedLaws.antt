@@ -17,6 +17,7 @@ use Rattle.borsh_json.proofs.FormKinds.{map_elements, shaped}
 use Rattle.borsh_json.proofs.Lockstep.{AreBytes, behind, AreNamed, list_named, row_front, defined, Match, no_names, named_so, match_entries, listed, elements_open}
 use Rattle.borsh_json.proofs.NameLaws.{keys_full}
 use Rattle.borsh_json.proofs.NoJsonLaws.{exact}
+use Rattle.borsh_json.proofs.OpeningLaws.{some_one}
 use Rattle.borsh_json.proofs.ReaderLaws.{field_front, uncons, split, joined}
 
 -- ---- names and parts
@@ -79,18 +80,19 @@ entries_long keys k v [] = refl
 entries_long keys k v (e ∷ es) = let l = entries_long keys k v es in omega (arith, l)
 
 -- ---- variants
-variant_at : {k : ℤ} {v p : List ℕ} {vs : List (ℤ × List ℕ × List ℕ)} → IsVariant k v p vs → (n : ℕ) × (slice_get vs n ≡ Some (k, v, p)) × (slice_get (map (λ (v : ℤ × List ℕ × List ℕ). (v.0, v.2)) vs) n ≡ Some (k, p))
+variant_at : {k : ℤ} {v p : List ℕ} {vs : List (ℤ × List ℕ × List ℕ)} → IsVariant k v p vs → (n : ℕ) × (slice_get vs n ≡ Some (k, v, p)) × (slice_get {X = ℤ × List ℕ} (map (λ (v : ℤ × List ℕ × List ℕ). (v.0, v.2)) vs) n ≡ Some (k, p))
 variant_at this = (0, refl, refl)
 variant_at (that i) = let t = variant_at i in (suc t.0, t.1, t.2)
 
 -- one variant has the tag
-variant_one : {w : ℕ} {own : List ℕ} {k l : ℤ} {v p u q : List ℕ} (vs : List (ℤ × List ℕ × List ℕ)) → HasOneTag (shape_of_form (choice w vs)) own → IsVariant k v p vs → IsVariant l u q vs → tag w k ≡ own → tag w l ≡ own → v ≡ u
-variant_one {k = k} {l = l} {v = v} {p = p} {u = u} {q = q} vs one a b s t =
+variant_one : (w : ℕ) {own : List ℕ} {k l : ℤ} {v p u q : List ℕ} (vs : List (ℤ × List ℕ × List ℕ)) → HasOneTag (shape_of_form (choice w vs)) own → IsVariant k v p vs → IsVariant l u q vs → tag w k ≡ own → tag w l ≡ own → v ≡ u
+variant_one w {k = k} {l = l} {v = v} {p = p} {u = u} {q = q} vs one a b s t =
     let m = variant_at a in
     let n = variant_at b in
     let same = one m.0 n.0 k l p q m.2 n.2 s t in
-    let e : Some (k, v, p) ≡ Some (l, u, q) = sym m.1 ∙ ap (λ n. slice_get vs n) same ∙ n.1 in
-    cc
+    let f : ℤ × List ℕ × List ℕ = (k, v, p) in
+    let g : ℤ × List ℕ × List ℕ = (l, u, q) in
+    ap (λ (v : ℤ × List ℕ × List ℕ). v.1) (some_one g f (sym n.1 ∙ ap (λ n. slice_get vs n) (sym same) ∙ m.1))
 
 some_variant : {k : ℤ} {v p a b c d : List ℕ} → IsVariant k v p ((pos 0, a, b) ∷ (pos 1, c, d) ∷ []) → tag 1 k ≡ 1 ∷ [] → v ≡ c
 some_variant this e = let q : 0 ∷ [] ≡ 1 ∷ [] = e in cc
@@ -120,8 +122,8 @@ module _ (F : List ℕ → Option Form) where
       pub has : HasParts path before y parts
       pub said : HaveBytes F (parts ++ others) rest
 
-    module _ {n : ℕ} {path : List Step} {before x : List ℕ} {i : Json} (r : IsReached F root j n path before (x, i)) {own bs : List ℕ} {qs ps : List Part} (more : HaveBytes F (qs ++ ps) bs)
-        {front after : List (List ℕ)} {y : List ℕ} {steps : List Step} (all mid rest : List ℕ) (a : AreOnly F front mid) (small : AreBytes (mid ++ rest)) (is : own ++ bs ≡ all ++ (mid ++ rest)) where
+    module _ (n : ℕ) (path : List Step) (before x : List ℕ) (i : Json) (r : IsReached F root j n path before (x, i)) (own bs : List ℕ) (qs ps : List Part) (more : HaveBytes F (qs ++ ps) bs)
+        (front after : List (List ℕ)) (y : List ℕ) (steps : List Step) (all mid rest : List ℕ) (a : AreOnly F front mid) (small : AreBytes (mid ++ rest)) (is : own ++ bs ≡ all ++ (mid ++ rest)) where
       abbrev There : Type 0
       There = IsThere (path ++ steps) (before ++ (all ++ mid)) y rest
 
@@ -240,16 +242,16 @@ module _ (F : List ℕ → Option Form) where
         | inl v ↦ for_none (shape_of_form (choice w vs)) o.3 _ h s s.3 (s.1, s.3, listed F s.4, s.5, refl) v.1 v.2
         | inr v ↦ (let opens : Opens (shapes F) (shape_of_form (choice w vs)) own (s.3 ∷ []) = (s.1, s.3, listed F s.4, s.5, refl) in
             let e = o.3 own (s.3 ∷ []) bs (mid ++ rest) opens is in
-            for_each (shape_of_form (choice w vs)) o.3 _ h s (s.3 ∷ []) opens (ap (λ (l : List Part). part_names l) v.3) (λ m k. (s.2, v.0, v.1, l.5 ∙ ap (λ v. variant v ∷ []) (variant_one vs o.5 l.3 s.4 (sym l.4) (sym s.5 ∙ e.0)))))
+            for_each (shape_of_form (choice w vs)) o.3 _ h s (s.3 ∷ []) opens (ap (λ (l : List Part). part_names l) v.3) (λ m k. (s.2, v.0, v.1, l.5 ∙ ap (λ v. variant v ∷ []) (variant_one w vs o.5 l.3 s.4 (sym l.4) (sym s.5 ∙ e.0)))))
       ]
 
     -- the part of a value that is there
-    onward : {qs ps : List Part} {path : List Step} {before x y own mid rest all : List ℕ} {front after : List (List ℕ)} {steps : List Step} (f : Form) → IsOpened F x f own (front ++ y ∷ after) → AreOnly F front mid → LeadTo f own (length front) steps → AreBytes (mid ++ rest) → HasParts path before x qs → HaveBytes F (qs ++ ps) all → all ≡ own ++ (mid ++ rest) → IsThere (path ++ steps) (before ++ (own ++ mid)) y rest
-    onward f o a l small (nothing z) h e = absurd (o.0 z)
-    onward {y = y} {own = own} {mid = mid} {rest = rest} f o a l small (part n r) h e =
+    onward : {qs : List Part} (ps : List Part) {path : List Step} {before x : List ℕ} (y own mid rest all : List ℕ) (front after : List (List ℕ)) (steps : List Step) (f : Form) → IsOpened F x f own (front ++ y ∷ after) → AreOnly F front mid → LeadTo f own (length front) steps → AreBytes (mid ++ rest) → HasParts path before x qs → HaveBytes F (qs ++ ps) all → all ≡ own ++ (mid ++ rest) → IsThere (path ++ steps) (before ++ (own ++ mid)) y rest
+    onward ps y own mid rest all front after steps f o a l small (nothing z) h e = absurd (o.0 z)
+    onward ps {path = path} {before = before} {x = x} y own mid rest all front after steps f o a l small (part {i = i} n r) h e =
         let u = uncons F h in
-        value_there r u.5 own mid rest a small (sym u.3 ∙ e) f u.4.0 u.4.1 u.4.2 o l (defined F f o.1 o.0 u.4.1)
-    onward {ps = ps} {path = path} {before = before} {y = y} {own = own} {mid = mid} {rest = rest} {all = all} {front = front} {after = after} {steps = steps} f o a l small (entry {k = k} {v = v} {a = i} {b = m} n c r g) h e =
+        value_there n path before x i r u.0 u.2 u.1 ps u.5 front after y steps own mid rest a small (sym u.3 ∙ e) f u.4.0 u.4.1 u.4.2 o l (defined F f o.1 o.0 u.4.1)
+    onward ps {path = path} {before = before} y own mid rest all front after steps f o a l small (entry {k = k} {v = v} {a = i} {b = m} n c r g) h e =
         let q : Some f ≡ Some (tuple (k ∷ v ∷ [])) = sym o.1 ∙ c in
         let s : f ≡ tuple (k ∷ v ∷ []) = cc in
         let u = subst (λ (f : Form). Opens (shapes F) (shape_of_form f) own (front ++ y ∷ after)) s o.2 in
@@ -287,8 +289,8 @@ module _ (F : List ℕ → Option Form) where
     -- the JSON says each value that begins inside
     pub inside_there : {n : ℕ} {path : List Step} {before x : List ℕ} → IsInside F root n path before x → (rest : List ℕ) → AreBytes (before ++ rest) → HaveBytes F ((root, j) ∷ []) (before ++ rest) → IsThere path before x rest
     inside_there outermost rest small h = record { parts = (root, j) ∷ []; others = []; has = part 0 whole_value; said = h }
-    inside_there (inside {before = before} {mid = mid} f own qs steps i o a l) rest small h =
+    inside_there (inside {before = before} {mid = mid} {y = y} {ps = ps} f own qs steps i o a l) rest small h =
         let e = append_assoc before (own ++ mid) rest ∙ ap (λ l. before ++ l) (append_assoc own mid rest) in
         let fine = subst (λ l. AreBytes l) e small in
         let t = inside_there i (own ++ (mid ++ rest)) fine (subst (λ l. HaveBytes F ((root, j) ∷ []) l) e h) in
-        onward f o a l (behind own (mid ++ rest) (behind before (own ++ (mid ++ rest)) fine)) t.has t.said refl
+        onward t.others y own mid rest (own ++ (mid ++ rest)) ps qs steps f o a l (behind own (mid ++ rest) (behind before (own ++ (mid ++ rest)) fine)) t.has t.said refl

@@ -1,6 +1,6 @@
 -- The words that contracts of this crate cite, from where they are defined.
 pub use Rattle.borsh_json.specs.Descents.{PrimitivesDescend}
-pub use Rattle.borsh_json.specs.Errors.{IsNoJsonReason, IsNoMemberReason, IsNoRowsReason, IsPartError, IsReadRefusal, IsTextReason, IsUnreadable}
+pub use Rattle.borsh_json.specs.Errors.{IsNoJsonReason, IsNoMemberReason, IsNoRowsReason, IsTextReason}
 pub use Rattle.borsh_json.specs.Forms.{Form, HasNoBytes, IsByte, IsMap, IsOption, IsUnit, choice, field_bytes, form_of, form_of_struct, forms_in, sequence, shape_of_form, shapes, tuple, unnamed, variant_bytes}
 pub use Rattle.borsh_json.specs.Found.{AreEntries, HasForm, IsCollection, IsMapName, IsNamed, IsPrimitiveKind, IsRepeated, IsSetName, SaysBy, TellsKind, forms_of, joined, names_of}
 pub use Rattle.borsh_json.specs.Frames.{AddsList, AreKeyed, AreSorted, DeniesKey, DeniesRead, FailsRead, GivesPart, HasBegun, HasEnded, HasEntries, HasFields, HasItems, HasNoNumber, HasPath, HasRead, HaveOneEach, IsArrayOf, IsDoing, IsElementFall, IsEntryKey, IsExpected, IsKeyReason, IsLeft, IsNext, IsNextEntry, IsOf, IsOfRead, IsOpened, IsPath, IsRank, IsUnexpected, IsText, IsUnread, IsVariantAt, NamesVariant, NoneFalls, NoneLeft, Opens, ReadsOn, SaysArray, ShowsRead, Wanted, first_steps, found_step, steps_at, steps_through}

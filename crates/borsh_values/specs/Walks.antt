@@ -30,7 +30,6 @@ module _ {A : Type 0} (m : BTreeMap (String A) Definition) where
     pub bytes : old.left.now ≡ n.bytes.now ++ new.left.now
     pub offset : n.offset ≡ old.offset
     pub next : new.offset ≡ old.offset + length n.bytes.now
-    -- the parts of the value
     pub parts : List (List ℕ)
     pub opens : Opens (definitions_in m) (shape_of n.definition.now) n.bytes.now parts
     pub once : OpensOnce (definitions_in m) (shape_of n.definition.now) n.bytes.now parts

@@ -44,22 +44,19 @@ returns-in-Ok-clause-in_order c j e =
 pub returns-in-Ok-clause-answers : goal.returns-in-Ok-clause-answers
 returns-in-Ok-clause-answers c bytes t = returns-in-Ok-clause-determined c bytes (t.0, t.1, t.2, t.3)
 
-pub returns-in-Err-clause-denies : goal.returns-in-Err-clause-denies
-returns-in-Err-clause-denies c =
-    let y = c.args.self.now.plan.now in
-    let r = c.in_ok-bytes.ensures.says in
-    fall_denies (forms_in (map_of y)) (root_of y) c.args.text.now r.0 r.1 c.in-Err.error (c.in-Err.ensures.falls r.0 (subst (λ b. HaveBytes (forms_in (map_of y)) ((root_of y, r.0) ∷ []) b) (sym c.as_slice-in-Member.ensures.value) r.2))
-
-pub returns-in-Err-clause-reason : goal.returns-in-Err-clause-reason
-returns-in-Err-clause-reason c =
+pub returns-in-Member-clause-reason : goal.returns-in-Member-clause-reason
+returns-in-Member-clause-reason c =
     let y = c.args.self.now.plan.now in
     let r = c.in_ok-bytes.ensures.says in
     fall_reason (map_of y) (root_of y) c.args.text.now r.0 r.1 c.in-Err.error (c.in-Err.ensures.falls r.0 (subst (λ b. HaveBytes (forms_in (map_of y)) ((root_of y, r.0) ∷ []) b) (sym c.as_slice-in-Member.ensures.value) r.2))
 
-pub returns-in-Err-clause-answers : goal.returns-in-Err-clause-answers
-returns-in-Err-clause-answers c bytes t =
+pub returns-in-Member-clause-answers : goal.returns-in-Member-clause-answers
+returns-in-Member-clause-answers c bytes t =
     let y = c.args.self.now.plan.now in
-    given_up (forms_in (map_of y)) (root_of y) c.args.text.now bytes c.in-Err.error t (returns-in-Err-clause-denies c)
+    let F = forms_in (map_of y) in
+    let root = root_of y in
+    let r = c.in_ok-bytes.ensures.says in
+    given_up F root c.args.text.now bytes c.in-Err.error t (fall_denies F root c.args.text.now r.0 r.1 c.in-Err.error (c.in-Err.ensures.falls r.0 (subst (λ b. HaveBytes F ((root, r.0) ∷ []) b) (sym c.as_slice-in-Member.ensures.value) r.2)))
 
 pub returns-in-NoMember-clause-denies : goal.returns-in-NoMember-clause-denies
 returns-in-NoMember-clause-denies c j e =
