@@ -187,10 +187,10 @@ module _ (F : List ℕ → Option Form) where
               parts = p ∷ q ∷ [];
               others = bq ++ ps;
               has = entry (suc n) (ap F same ∙ c)
-              (subst (λ (l : List Step). IsReached F root j (suc n) l (before ++ (all ++ mid)) p) (steps_are 0) (subst (λ b. IsReached F root j (suc n) (path ++ key_steps) (before ++ b) p) begins key_at))
-              (λ key said. subst (λ (l : List Step). IsReached F root j (suc n) l ((before ++ (all ++ mid)) ++ key) q) (steps_are 1)
-              (subst (λ b. IsReached F root j (suc n) (path ++ value_steps) b q) (ap (λ b. before ++ b) (sym (append_assoc own g.0 key) ∙ ap (λ b. b ++ key) begins) ∙ sym (append_assoc before (all ++ mid) key))
-              (part_of (entries lens keys k v) own value_steps r h (inl (bq, last_says)) (joined F g.2 said) (length front, inr (omega (arith, long, there, count), refl)))));
+                  (subst (λ (l : List Step). IsReached F root j (suc n) l (before ++ (all ++ mid)) p) (steps_are 0) (subst (λ b. IsReached F root j (suc n) (path ++ key_steps) (before ++ b) p) begins key_at))
+                  (λ key said. subst (λ (l : List Step). IsReached F root j (suc n) l ((before ++ (all ++ mid)) ++ key) q) (steps_are 1)
+                  (subst (λ b. IsReached F root j (suc n) (path ++ value_steps) b q) (ap (λ b. before ++ b) (sym (append_assoc own g.0 key) ∙ ap (λ b. b ++ key) begins) ∙ sym (append_assoc before (all ++ mid) key))
+                  (part_of (entries lens keys k v) own value_steps r h (inl (bq, last_says)) (joined F g.2 said) (length front, inr (omega (arith, long, there, count), refl)))));
               said = subst (λ b. HaveBytes F (p ∷ q ∷ (bq ++ ps)) b) z.1 g.3;
             }
 

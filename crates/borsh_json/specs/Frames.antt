@@ -189,10 +189,7 @@ module _ (F : List ℕ → Option Form) (ns : List Named) where
   IsWanted (Present at) i ws = IsOnlyPart at i ws
   IsWanted (Variant v at) i ws = IsOnlyPart at i ws
 
--- whether a place's parts are elements, fields, or entries
-abbrev pub IsListPlace : Parts → Type 0
-IsListPlace p = (at : ℕ) × (n : ℕ) × (p ≡ Elements at n)
-
+-- whether a place's parts are fields, or entries
 abbrev pub IsObject : Parts → Type 0
 IsObject (Object at fs) = ⊤
 IsObject parts = ⊥

@@ -18,5 +18,5 @@ loop-at-preserved c =
     let items = c.in_ok-push.ensures.items in (
       (let n = ap (λ xs. length xs) items in let k = length_push c.loop-at.kinds.items c.in_ok-kind.kind in let m = v.0 in omega arith),
       kinds_pushed (forms_of d) (names_of d) c.loop-at.kinds.items c.push.new.self.items c.loop-at.at c.in_ok-kind.kind v.1 items v.0 found.kind found.orders,
-      λ e. (let before = c.ascends_with.ensures e in none_pushed c.loop-at.kinds.items c.push.new.self.items c.in_ok-kind.kind (v.2 before.0) items before.1),
+      λ e. (let before = c.ascends_with-ascends.ensures e in none_pushed c.loop-at.kinds.items c.push.new.self.items c.in_ok-kind.kind (v.2 before.0) items before.1),
     )
