@@ -121,7 +121,7 @@ module _ (F : List ℕ → Option Form) where
   only_read none_only = nothing_read
   only_read (empty_only z a) = empty_read z.1 (only_read a)
   only_read (opened_only (primitive n) own ps o a) = node_read (primitive n) own ps o.0 o.1 o.2 (λ t. tt) (only_read a)
-  only_read (opened_only {x = x} {bs = bs} {xs = xs} (sequence w lo hi e) own ps (full, c, (k, cs, low, high, is, opens), once, counted) a) =
+  only_read (opened_only {x = x} {bs = bs} {xs = xs} (sequence w lo hi e) own ps (full, c, (k, cs, low, high, is, opens), once, counted, alone) a) =
       subst (λ l. IsRead true (x ∷ xs) l) (sym (ap (λ l. l ++ bs) is ∙ append_assoc (tag w (pos k)) cs bs))
       (node_read (sequence w lo hi e) (tag w (pos k)) (replicate k e) full c (k, [], low, high, sym (append-nil (tag w (pos k))), (refl, refl)) (λ t. counted) (elements_read xs ps (packed_size (shapes F e)) k e cs refl opens (only_read a)))
   only_read (opened_only (tuple xs) own ps o a) = node_read (tuple xs) own ps o.0 o.1 o.2 (λ t. tt) (only_read a)

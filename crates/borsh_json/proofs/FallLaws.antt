@@ -53,7 +53,7 @@ copied (suc n) e (x ∷ xs) h =
     let t = copied n e xs r in
     (ap (λ y. y ∷ xs) (sym q) ∙ ap (λ l. e ∷ l) t.0, ap suc t.1)
 
-parted : (n : ℕ) (e : List ℕ) (xs ys : List (List ℕ)) → replicate n e ≡ xs ++ ys → (xs ≡ replicate (length xs) e) × (ys ≡ replicate (length ys) e) × (n ≡ length xs + length ys)
+pub parted : (n : ℕ) (e : List ℕ) (xs ys : List (List ℕ)) → replicate n e ≡ xs ++ ys → (xs ≡ replicate (length xs) e) × (ys ≡ replicate (length ys) e) × (n ≡ length xs + length ys)
 parted n e [] ys h = let t = copied n e ys h in (refl, t.0, (let l = t.1 in omega (arith, l)))
 parted zero e (x ∷ xs) ys h = let g : [] ≡ x ∷ (xs ++ ys) = h in cc
 parted (suc n) e (x ∷ xs) ys h =

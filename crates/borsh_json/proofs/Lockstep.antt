@@ -5,7 +5,7 @@ use Rattle.std.specs.List.{AllByRecursion}
 use Rattle.std.proofs.Math.Nat.{suc-mul, zero-mul}
 use Rattle.std.proofs.lemmas.List.{length-replicate}
 use Rattle.json.specs.Json.{Json, array, string, Items, no_items, item, Members}
-use Rattle.borsh_walks.specs.Container.{Shape, first, later, zeroed, IsListedVariant, first_variant, later_variant, tag}
+use Rattle.borsh_walks.specs.Container.{Shape, first, later, IsListedVariant, first_variant, later_variant, tag}
 use Rattle.borsh_walks.specs.Container as shape
 use Rattle.borsh_values.specs.Nodes.{packed_size, OpensElements, Opens}
 use Rattle.borsh_values.specs.Cursor.{OpensOnce}
@@ -66,7 +66,7 @@ named_front e [] rs h = tt
 named_front e (q ∷ qs) rs h = (h.0, named_front e qs rs h.1)
 
 -- parts of a row, one after another
-row_front : (x : List ℕ) (xs : List (List ℕ)) (js : Items) (qs : List Part) → row_parts (x ∷ xs) js ≡ Some qs → (j : Json) × (is : Items) × (ps : List Part) × (row_parts xs is ≡ Some ps) × (qs ≡ (x, j) ∷ ps)
+pub row_front : (x : List ℕ) (xs : List (List ℕ)) (js : Items) (qs : List Part) → row_parts (x ∷ xs) js ≡ Some qs → (j : Json) × (is : Items) × (ps : List Part) × (row_parts xs is ≡ Some ps) × (qs ≡ (x, j) ∷ ps)
 row_front x xs no_items qs e = cc
 row_front x xs (item j js) qs e = let m = mapped (λ ps. (x, j) ∷ ps) (row_parts xs js) e in (j, js, m.0, m.1, sym m.2)
 
@@ -256,7 +256,7 @@ module _ (F : List ℕ → Option Form) where
         let s = behind (tag w (pos k)) cs (subst (λ b. AreBytes b) o small) in
         (k, cs, low, high, o, subst (λ m. OpensElements m e k cs []) (sym (ap (λ d. packed_size d) (shaped (F e) c))) (l, s, refl))
 
-    elements_open : (k : ℕ) (own : List ℕ) → packed_size (C e) ≡ 0 → lo ≤ k → k ≤ hi → own ≡ tag w (pos k) ++ [] → Opens C (shape.sequence w lo hi e) own (replicate k e)
+    pub elements_open : (k : ℕ) (own : List ℕ) → packed_size (C e) ≡ 0 → lo ≤ k → k ≤ hi → own ≡ tag w (pos k) ++ [] → Opens C (shape.sequence w lo hi e) own (replicate k e)
     elements_open k own z low high o = (k, [], low, high, o, subst (λ m. OpensElements m e k [] (replicate k e)) (sym z) (refl, refl))
 
     abbrev lengths : Lengths
@@ -418,7 +418,7 @@ module _ (F : List ℕ → Option Form) where
       ]
 
   -- ---- nothing falls
-  falls_list : {x : List ℕ} {j : Json} {index : ℕ} → Falls F x j index → (e : List ℕ) × IsList F x e
+  pub falls_list : {x : List ℕ} {j : Json} {index : ℕ} → Falls F x j index → (e : List ℕ) × IsList F x e
   falls_list (inl d) = (d.1, d.7.0)
   falls_list (inr f) = (f.e, f.keys.0)
 

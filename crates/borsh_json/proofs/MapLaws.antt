@@ -30,7 +30,7 @@ use Rattle.borsh_json.proofs.EachLaws.{sorted_each}
 use Rattle.borsh_json.proofs.KeyJson.{key_number, tells}
 use Rattle.borsh_json.proofs.MemberLaws.{keyed_length, sorted_keyed, text_cmp}
 use Rattle.borsh_json.proofs.NumberLaws.{ranks_compare}
-use Rattle.borsh_json.proofs.OpeningLaws.{key_why, no_ascent, framed, said, shows_or, refuses_plain}
+use Rattle.borsh_json.proofs.OpeningLaws.{key_why, framed, said, shows_read, refuses_plain}
 use Rattle.borsh_json.proofs.ReaderLaws.{split, uncons, object_one}
 use Rattle.borsh_json.proofs.RepresentsLaws.{IsAmong, moved, kind_one, number_one}
 use Rattle.borsh_json.specs.NoValue.{SaysOwn, FailsHere}
@@ -156,7 +156,7 @@ module _ (F : List ℕ → Option Form) (ns : List Named) (x : List ℕ) (j : Js
         (g.0, subst (λ (s : List ℕ). IsWhole n.size n.is_signed n.is_non_zero s g.0) (number_one n.size g.2.0 s (key_json keys s) g.2.1 a) g.2.2)
 
     pub numbers_fail : (e : ReadError) → ShowsRead (IsKeyReason j) e ((((ms : Members) × (j ≡ object ms) × HaveOneEach (entries_of ms)) → ⊥) ⊎ HasNoNumber n j) → FailsRead F x j e
-    numbers_fail e d = shows_or e (key_why F ns x j) fails (λ i z. z) d
+    numbers_fail e d = shows_read e (key_why F ns x j) fails d
       where
         fails : (((ms : Members) × (j ≡ object ms) × HaveOneEach (entries_of ms)) → ⊥) ⊎ HasNoNumber n j → FailsHere F x j
         fails (inl g) = inl (λ s. g (texts_said s))
@@ -164,8 +164,8 @@ module _ (F : List ℕ → Option Form) (ns : List Named) (x : List ℕ) (j : Js
 
   -- ---- its frame
   module _ (kind : KeyKind) (s : Source) (n : ℕ) (t : AreSorted keys kind j (s, n)) where
-    pub map_opened : (m : FoundEntries) (place : Place) (old new : List ℕ) → IsAt ns m.key k → IsAt ns m.value v → AreKeysOf F ns k (form_of m.key_definition.now) m.key_kind keys → m.key_kind ≡ kind → place.parts ≡ MapEntries m n → place.begun ≡ 0 → l.least ≤ n → n ≤ l.greatest → new ≡ old ++ tag l.width (pos n) → place.ascent ≡ None → IsOpened F ns x j old new (Ok (Some (record { place = place; source = s })))
-    map_opened m place old new a b c d p g low high o none =
+    pub map_opened : (m : FoundEntries) (place : Place) (old new : List ℕ) → IsAt ns m.key k → IsAt ns m.value v → AreKeysOf F ns k (form_of m.key_definition.now) m.key_kind keys → m.key_kind ≡ kind → place.parts ≡ MapEntries m n → place.begun ≡ 0 → l.least ≤ n → n ≤ l.greatest → new ≡ old ++ tag l.width (pos n) → IsOpened F ns x j old new (Ok (Some (record { place = place; source = s })))
+    map_opened m place old new a b c d p g low high o =
         let es = t.1 in
         let z = t.6 in
         let ps = entry_parts keys k v es in
@@ -175,7 +175,7 @@ module _ (F : List ℕ → Option Form) (ns : List Named) (x : List ℕ) (j : Js
         let w : Wanted = ([], v) in
         let there : HasLeft F ns (MapEntries m n) 0 s left = (replicate n w, (v, b, ap (λ (i : ℕ). replicate i w) least), copies_length n w ∙ z, (a, b, c, subst (λ (kind : KeyKind). HasEntries kind s es) (sym d) t.5)) in
         let q : own ≡ tag l.width (pos n) = append-nil (tag l.width (pos (length es))) ∙ ap (λ i. tag l.width (pos i)) (sym z) in
-        (own, o ∙ ap (λ y. old ++ y) (sym q), framed F ns x j place s (MapEntries m n) (entries l keys k v) own left p g h there (t.0, es, t.2, t.3, t.4, (omega (arith, z, low), omega (arith, z, high), refl), refl) (l, keys, k, v, refl, refl) (no_ascent F ns x j place (MapEntries m n) (λ z. absurd (let q = z.2 in cc)) none))
+        (own, o ∙ ap (λ y. old ++ y) (sym q), framed F ns x j place s (MapEntries m n) (entries l keys k v) own left p g h there (t.0, es, t.2, t.3, t.4, (omega (arith, z, low), omega (arith, z, high), refl), refl) (l, keys, k, v, refl, refl))
 
     pub map_range : (e : ReadError) → DeniesRead IsUnexpected e ((l.least ≤ n) × (n ≤ l.greatest)) → FailsRead F x j e
     map_range e d = refuses_plain F ns x j e (λ y.

@@ -27,4 +27,4 @@ module _ (F : List ℕ → Option Form) where
       let own = h.0 in
       let a = member_as (shapes F) (shape.primitive (suc n)) (shaped (F e) c) h.2 in
       let o : Opens (shapes F) (shape.primitive (suc n)) own [] = (a.0, a.1, refl) in
-      subst (λ b. AreOnly F (e ∷ replicate k e) b) (sym h.4) (opened_only (primitive (suc n)) own [] (full_primitive F c, c, o, opens_once (shapes F) (shape.primitive (suc n)) own [] tt o, tt) (copies_only n k c h.3))
+      subst (λ b. AreOnly F (e ∷ replicate k e) b) (sym h.4) (opened_only (primitive (suc n)) own [] (full_primitive F c, c, o, opens_once (shapes F) (shape.primitive (suc n)) own [] tt o, tt, tt) (copies_only n k c h.3))

@@ -11,7 +11,7 @@ use Rattle.borsh_plan.specs.Names.{name_of}
 use Rattle.borsh_plan.specs.Plan.{map_of, names_of as plan_names, root_of}
 use Rattle.borsh_values.specs.Membership.{IsUndecided}
 use Rattle.borsh_values.specs.Nodes.{Opens}
-use Rattle.borsh_values.specs.Cursor.{OpensOnce}
+use Rattle.borsh_values.specs.Cursor.{HasOneTag, OpensOnce}
 use Rattle.borsh_values.specs.Walks.{IsReadTo, IsCounted, IsNodeOf, FindsNode, FindsAt}
 use Rattle.borsh_plan.specs.declared.plan.Plan.{Plan}
 use Rattle.borsh_plan.specs.declared.named.Named.{Named}
@@ -278,7 +278,7 @@ module _ (d : Definitions) (w : Writing) (walk : Walker) (at : ℕ) (x : List �
   node_opened = opened_as (map_of d.plan.now) x w.walk walk n node_is
 
   pub node_only : IsOnly (forms_of d) x n.bytes.now node_is.parts
-  node_only = (form_of n.definition.now, node_opened.0, subst (λ C. OpensOnce C (shape_of_form (form_of n.definition.now)) n.bytes.now node_is.parts) (sym (shapes_are (map_of d.plan.now))) (subst (λ s. OpensOnce (definitions_in (map_of d.plan.now)) s n.bytes.now node_is.parts) (sym (shape_is n.definition.now)) node_is.once))
+  node_only = (form_of n.definition.now, node_opened.0, subst (λ C. OpensOnce C (shape_of_form (form_of n.definition.now)) n.bytes.now node_is.parts) (sym (shapes_are (map_of d.plan.now))) (subst (λ s. OpensOnce (definitions_in (map_of d.plan.now)) s n.bytes.now node_is.parts) (sym (shape_is n.definition.now)) node_is.once), subst (λ s. HasOneTag s n.bytes.now) (sym (shape_is n.definition.now)) node_is.alone)
 
   pub node_form : (f : Form) → forms_of d x ≡ Some f → f ≡ form_of n.definition.now
   node_form f e = some_form f (form_of n.definition.now) (sym e ∙ node_opened.0)
@@ -573,7 +573,7 @@ module _ (d : Definitions) (w new : Writing) (p : Place) (part : FoundPart) (es 
         let own = subst (λ l. IsOpened F t.key (form_of n.definition.now) n.bytes.now l) none (same_opened F (form_of n.definition.now) names full entry_opened.0 opens entry_opened.2 (node_only d w new.walk es.key t.key a.writer.plan t.key_named found n is g)) in
         let h = halved_on F ns root w.bytes.now t.key (shape_of_form (form_of n.definition.now)) v.done w.walk.left.now n.bytes.now new.walk.left.now [] rest node.bytes (λ r. node_on d w new.walk es.key t.key a.writer.plan t.key_named found n is g v.done [] rest own.2 r) entry_next in
         let k2 : Mark = (a.mark.0, one_more a.mark.1 (length v.done), a.mark.2) in
-        let first : IsDueAs F t.key n.bytes.now [] None = λ ds after c. plain n.bytes.now [] full (key_free F ns t.key (form_of n.definition.now) es.key_kind t.keys entry_keys) (form_of n.definition.now, own.1, own.3) c in
+        let first : IsDueAs F t.key n.bytes.now [] None = λ ds after c. plain n.bytes.now [] full (key_free F ns t.key (form_of n.definition.now) es.key_kind t.keys entry_keys) (form_of n.definition.now, own.1, own.3, own.5) c in
         let keyed : IsKeyed d w.bytes.now new.position.place.parts new.position.place.last k2 = λ fs c e.
         (let q : EntryOf es ≡ EntryOf fs = sym entry ∙ its_entries d w.walk.offset p w.position.place part b v.inner fs c v.here (sym parts ∙ e) in
         let same : es ≡ fs = cc in

@@ -37,7 +37,7 @@ json_read text j e n d =
 module _ {A : Type 0} (m : BTreeMap (String A) Definition) (root bytes : List ℕ) (out : Output) (w : WritesJson (forms_in m) root bytes out) (is : Member (definitions_in m) root bytes) where
   -- the text that was written
   pub text_represents : (text : List ℕ) → tokens text ≡ json_tokens w.0 → TextRepresents (forms_in m) root text bytes
-  text_represents text e = (w.0, json_read text w.0 e w.2 w.3, w.4.0, subst (λ C. Member C root bytes) (sym (shapes_are m)) is, w.5)
+  text_represents text e = (w.0, json_read text w.0 e w.2 w.3, w.4.0, subst (λ C. Member C root bytes) (sym (shapes_are m)) is, w.5 w.0 w.4.0)
 
   -- where numbers of 64 bits are strings, so are those of any text of the same JSON
   pub quoted_numbers : (long : LongNumbers) (text : List ℕ) → long_of out ≡ long → long ≡ Quoted → document text ≡ Some w.0 → HasQuotedNumbers (forms_in m) root text

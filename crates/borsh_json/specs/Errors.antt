@@ -10,8 +10,6 @@ use Rattle.borsh_json.specs.declared.error.JsonError.{JsonError}
 use Rattle.borsh_json.specs.declared.error.JsonError.TheVariants.{OutOfMemory, NoMember, NoValue, Ambiguous, NotJson, Refused}
 use Rattle.borsh_json.specs.declared.error.PartError.{PartError}
 use Rattle.borsh_json.specs.declared.error.PartError.TheVariants.{OutOfMemory as NoMemory, Refused as RefusedPart}
-use Rattle.borsh_json.specs.declared.error.ReadError.{ReadError}
-use Rattle.borsh_json.specs.declared.error.ReadError.TheVariants.{OutOfMemory as NoRoom, Refused as RefusedRead, Descends as DescendsAt}
 use Rattle.borsh_json.specs.declared.error.Refusal.{Refusal}
 use Rattle.borsh_json.specs.declared.error.Refusal.TheVariants.{TooDeep, RepeatedName, EmptyElements, NotBool, NotUtf8, Zero, NotNumber, Descends, Expected, MissingField, UnknownName, RepeatedKey, Undefined}
 
@@ -46,17 +44,6 @@ IsUnreadable (UnknownName name) = ⊤
 IsUnreadable (RepeatedKey name) = ⊤
 IsUnreadable (Undefined name) = ⊤
 IsUnreadable refusal = ⊥
-
--- an allocation failed, or a part is refused in one of these ways
-abbrev pub IsPartError : (Refusal → Type 0) → PartError → Type 0
-IsPartError May NoMemory = ⊤
-IsPartError May (RefusedPart path refusal) = May refusal
-
--- an allocation failed, or a part can't be read
-abbrev pub IsReadRefusal : ReadError → Type 0
-IsReadRefusal NoRoom = ⊤
-IsReadRefusal (RefusedRead refusal) = IsUnreadable refusal
-IsReadRefusal (DescendsAt index) = ⊤
 
 -- the error of a part, as that of the whole value
 abbrev pub error_of : PartError → JsonError

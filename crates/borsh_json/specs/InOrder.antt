@@ -81,6 +81,10 @@ module _ (F : List ℕ → Option Form) where
   abbrev pub InOrder : List ℕ → Json → Type 0
   InOrder = IsEach (λ x i. (index : ℕ) → Falls x i index → ⊥)
 
+  -- so is all JSON of the root that says bytes
+  abbrev pub NeedsNoCheck : List ℕ → Type 0
+  NeedsNoCheck root = (j : Json) (bytes : List ℕ) → HaveBytes F ((root, j) ∷ []) bytes → InOrder root j
+
   -- the text is JSON that says the bytes, these are a member of the root, and what has to ascend does
   abbrev pub TextRepresents : List ℕ → List ℕ → List ℕ → Type 0
   TextRepresents root text bytes = (j : Json) × (document text ≡ Some j) × HaveBytes F ((root, j) ∷ []) bytes × Member (shapes F) root bytes × InOrder root j

@@ -5,6 +5,7 @@ use Rattle.std.specs.Str.{bytes_eq}
 use Rattle.json.specs.Json.{Json, string, object, Members, no_members, member, document}
 use Rattle.json.specs.Find.{get_member}
 use Rattle.borsh_walks.specs.Container.{Member}
+use Rattle.borsh_values.specs.Membership.{IsUndecided}
 use Rattle.borsh_values.specs.declared.faults.Path.{Path}
 use Rattle.borsh_values.specs.declared.faults.PathStep.{PathStep}
 use Rattle.borsh_values.specs.declared.faults.PathStep.TheVariants.{Field, Place, Element, Variant}
@@ -90,6 +91,13 @@ module _ (F : List ℕ → Option Form) (root : List ℕ) where
     SaysNothing TooDeep = ⊤
     SaysNothing Descends = ⊤
     SaysNothing refusal = SaysSome F root j → ⊥
+
+  -- the error of a check of bytes that the JSON says: an element falls that the path leads to, or a definition is ambiguous
+  abbrev pub ShowsFall : Json → JsonError → Type 0
+  ShowsFall j OutOfMemory = ⊤
+  ShowsFall j (Ambiguous x) = IsUndecided (shapes F) root x.now
+  ShowsFall j (Refused path refusal) = (refusal ≡ Descends) × (path.root.now ≡ root) × FailsAt j (path_steps path) Descends
+  ShowsFall j e = ⊥
 
   -- the error of a call is a true reason why the text has no answer: it isn't JSON; or it is, and says bytes that are no member of the root, or a part of it fails
   abbrev pub ShowsNoValue : List ℕ → JsonError → Type 0

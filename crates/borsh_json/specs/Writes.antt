@@ -42,7 +42,7 @@ use Rattle.borsh_json.specs.Frames.{Wanted, IsWanted, IsEntryKey, IsOf, IsPath, 
 use Rattle.borsh_json.specs.Found.{forms_of, names_of}
 use Rattle.borsh_json.specs.Places.{IsAt, AreKeysOf, IsKindOf}
 use Rattle.borsh_json.specs.Orders.{HasKeyOrder, KindHasOrder, IsNotBelow, OrderedBy}
-use Rattle.borsh_json.specs.Represents.{SaysFirst}
+use Rattle.borsh_json.specs.Represents.{HaveBytes, SaysFirst}
 use Rattle.borsh_json.specs.InOrder.{Step, place, element, InOrder}
 use Rattle.borsh_json.specs.Inside.{LeadTo}
 use Rattle.borsh_json.specs.Leaves.{Holds, Adds, IsOpenedAs, RefusesValue, WritesLeaf, long_of, AreWritten}
@@ -420,9 +420,9 @@ module _ (d : Definitions) (w : Writing) where
   IsWrittenOn true = IsWritingAt w.position.place
   IsWrittenOn false = HasWritten
 
--- JSON of the root was written that can be printed and read, says the bytes, and in which what has to ascend does
+-- JSON of the root was written that can be printed and read, and says the bytes; in any that says them what has to ascend does
 abbrev pub WritesJson : (List ℕ → Option Form) → List ℕ → List ℕ → Output → Type 0
-WritesJson F root bytes out = (j : Json) × Holds out (json_tokens j) × HasNumbers j × (depth j ≤ 128) × AreWritten F (long_of out) ((root, j) ∷ []) bytes × InOrder F root j
+WritesJson F root bytes out = (j : Json) × Holds out (json_tokens j) × HasNumbers j × (depth j ≤ 128) × AreWritten F (long_of out) ((root, j) ∷ []) bytes × ((i : Json) → HaveBytes F ((root, i) ∷ []) bytes → InOrder F root i)
 
 -- an error of the writer of these definitions
 abbrev pub StopsBy : Definitions → List ℕ → JsonError → Type 0

@@ -1,7 +1,7 @@
 -- Where a walk over the bytes of a value is, and what its steps find.
-use Rattle.std.specs.Prelude.{◌≡◌, ◌≢◌, AllPairs, ℕ, Bool, true, false, suc, zero, ◌+◌, ◌*◌, ◌≤◌, ◌<◌, ◌^◌, List, [], ◌∷◌, ◌++◌, length, take, drop, replicate, sum_by, Option, Some, None, MatchOption, get_or, ⊤, ◌⊎◌, ◌-◌, reverse}
+use Rattle.std.specs.Prelude.{◌≡◌, ◌≢◌, AllPairs, ℕ, ℤ, slice_get, Bool, true, false, suc, zero, ◌+◌, ◌*◌, ◌≤◌, ◌<◌, ◌^◌, List, [], ◌∷◌, ◌++◌, length, take, drop, replicate, sum_by, Option, Some, None, MatchOption, get_or, ⊤, ◌⊎◌, ◌-◌, reverse}
 use Rattle.std.specs.{Borrow.Bor, BTreeMap.btree_map_len, BTreeMap.get_by_text}
-use Rattle.borsh_walks.specs.Container.{Shape, sequence, product, choice, IsIn, Member, references, IsZeroSize, IsDefined, Members, Reached}
+use Rattle.borsh_walks.specs.Container.{Shape, sequence, product, choice, tag, IsIn, Member, references, IsZeroSize, IsDefined, Members, Reached}
 use Rattle.borsh_walks.specs.{RulesAnswer.KeepsWidths, RulesAnswer.IsWidth, Definitions.shape_of, declared.definition.Definition.Definition}
 use Rattle.borsh_walks.proofs.Measure.{work}
 use Rattle.borsh_plan.specs.Names.{name_at, shape_at, parts_in}
@@ -77,19 +77,24 @@ AllOnlyEmpty C ps = (p : List ℕ) → IsIn p ps → OnlyEmpty C p
 abbrev pub OpensOnce : (List ℕ → Option Shape) → Shape → List ℕ → List (List ℕ) → Type 0
 OpensOnce C d own ns = (b : List ℕ) (ms : List (List ℕ)) (r s : List ℕ) → Opens C d b ms → b ++ r ≡ own ++ s → (b ≡ own) × (r ≡ s) × (ms ≡ ns)
 
+-- no two variants of an enum have the tag that these own bytes are
+abbrev pub HasOneTag : Shape → List ℕ → Type 0
+HasOneTag (choice w vs) own = (m n : ℕ) (j k : ℤ) (p q : List ℕ) → slice_get vs m ≡ Some (j, p) → slice_get vs n ≡ Some (k, q) → tag w j ≡ own → tag w k ≡ own → m ≡ n
+HasOneTag d own = ⊤
+
 -- no member of the name begins with the bytes, nor with these and more, unless the reason is that they are too few
 abbrev pub NoneBegins : (List ℕ → Option Shape) → Reason → List ℕ → List ℕ → Type 0
 NoneBegins C r x bytes = (more : List ℕ) → (r ≡ TooShort → more ≡ []) → BeginsWith C x (bytes ++ more) → ⊥
 
 -- a name with the definition d is read from bytes as n bytes and then the names ns
 pub record Takes (C : List ℕ → Option Shape) (d : Shape) (bytes : List ℕ) (n : ℕ) (ns : List (List ℕ)) : Type 0 where
-  -- there are n bytes
   pub within : n ≤ length bytes
   -- where no byte is taken and none is in ns, the name has the empty member alone
   pub only_empty : n ≡ 0 → (x : List ℕ) → C x ≡ Some d → AllOnlyEmpty C ns → OnlyEmpty C x
   -- the n bytes are those that the definition encodes before its parts ns, and no other bytes are
   pub opens : Opens C d (take n bytes) ns
   pub once : OpensOnce C d (take n bytes) ns
+  pub alone : HasOneTag d (take n bytes)
   -- the names are written in the definition
   pub mentioned : (p : List ℕ) → IsIn p ns → IsIn p (references d)
   -- where no byte is taken, they are required

@@ -13,7 +13,7 @@ pub returns-in_ok-put_number-in-Some-bytes : goal.returns-in_ok-put_number-in-So
 returns-in_ok-put_number-in-Some-bytes c F ns x j h b =
     let n = c.args.number in
     let small = kind_small F h n.size n.is_signed n.is_non_zero refl in
-    opened_leaf F ns x j (whole n.size n.is_signed n.is_non_zero) (λ l e q. cc) c.args.out.now.items c.put_number.new.out.items (take n.size c.in-Some-bytes.bytes) h (c.in_ok-put_number-in-Some-bytes.ensures small) (c.in-Some.text.now, c.in-Some.ensures j b, c.in-Some-bytes.ensures small, refl)
+    opened_leaf F ns x j (whole n.size n.is_signed n.is_non_zero) c.args.out.now.items c.put_number.new.out.items (take n.size c.in-Some-bytes.bytes) h (c.in_ok-put_number-in-Some-bytes.ensures small) (c.in-Some.text.now, c.in-Some.ensures j b, c.in-Some-bytes.ensures small, refl)
 
 pub returns-in-None : goal.returns-in-None
 returns-in-None c F ns x j h b =

@@ -13,7 +13,7 @@ returns-in-Ok c F ns x j h b =
     let d = c.in-Ok.ensures in
     let s = string_is j c.in-Some.text.now (sym (c.in-Some.ensures j b)) in
     let e = c.as_bytes.ensures.value in
-    opened_leaf F ns x j (utf8 l) (λ l e q. cc) c.args.out.now.items c.put_list.new.out.items d.0 h d.1 (c.as_bytes.result.now, s ∙ ap (λ t. string t) (sym e), c.as_bytes.ensures.utf8, d.2, refl)
+    opened_leaf F ns x j (utf8 l) c.args.out.now.items c.put_list.new.out.items d.0 h d.1 (c.as_bytes.result.now, s ∙ ap (λ t. string t) (sym e), c.as_bytes.ensures.utf8, d.2, refl)
 
 pub returns-in-Err : goal.returns-in-Err
 returns-in-Err c F ns x j h b =

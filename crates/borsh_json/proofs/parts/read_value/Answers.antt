@@ -11,7 +11,7 @@ loop-init c j b =
     let y = c.args.json.now.plan.now in
     let p = c.new-position in
     let at = p.ensures.place in
-    (ap (λ (r : Bor (List ℕ)). r.now) p.ensures.root ∙ c.root.ensures ∙ ap (λ (p : Bor Plan). root_of p.now) c.plan.ensures, reading_start (forms_in (map_of y)) (plan_names y) (root_of y) j p.result.place c.args.element p.result.outer.items c.new-outer.result.items c.new-out.result.items (planned y).first b at.0 at.1 at.2 p.ensures.outer c.new-outer.ensures.items c.new-out.ensures.items)
+    (ap (λ (r : Bor (List ℕ)). r.now) p.ensures.root ∙ c.root.ensures ∙ ap (λ (p : Bor Plan). root_of p.now) c.plan.ensures, reading_start (forms_in (map_of y)) (plan_names y) (root_of y) j p.result.place c.args.element p.result.outer.items c.new-outer.result.items c.new-out.result.items (planned y).first b at.0 at.1 p.ensures.outer c.new-outer.ensures.items c.new-out.ensures.items)
 
 pub loop-preserved : goal.loop-preserved
 loop-preserved c j b =

@@ -54,4 +54,4 @@ returns-then-not-more-clause-written c =
     let b = ap (λ b. b.now) c.in_ok-more.ensures.bytes ∙ c.loop.invariant.1 in
     let w = subst (λ (b : List ℕ). IsWhole F (long_of new.out) root h.tokens b) b h.whole in
     let a = subst (λ (b : List ℕ). AreChecked F (one root ∷ []) b) b h.rises in
-    (w.0, subst (λ ts. Holds new.out ts) w.1 h.holds, w.2, w.3, w.4, in_order F root w.0 c.args.bytes.now (small_bytes c.args.bytes.now (λ k. let b = c.type_inv.bytes k in omega (arith, b))) w.4.0 a)
+    (w.0, subst (λ ts. Holds new.out ts) w.1 h.holds, w.2, w.3, w.4, λ j says. in_order F root j c.args.bytes.now (small_bytes c.args.bytes.now (λ k. let b = c.type_inv.bytes k in omega (arith, b))) says a)

@@ -33,5 +33,4 @@ returns-in-Ok-clause-says c =
     let t = there (document c.args.text.now) c.in-Ok.ensures.ok.1 in
     let q : c.root.result ≡ c.in-Ok.tape = cc in
     let b = subst (λ ts. BeginsWith ts t.0) (sym q) (c.in-Ok.ensures.value t.0 t.1) in
-    let r = c.in_ok-read_value-in-Ok.ensures t.0 b in
-    (t.0, t.1, r.0, r.1)
+    (t.0, t.1, c.in_ok-read_value-in-Ok.ensures t.0 b)

@@ -4,7 +4,7 @@ use Rattle.borsh_plan.specs.Plan.{definitions_of, names_of}
 use Rattle.borsh_plan.proofs.Laws.{defined, looked_up, reached}
 use Rattle.borsh_plan.proofs.Places.{name_is}
 use Rattle.borsh_values.specs.Nodes.{Opens}
-use Rattle.borsh_values.specs.Cursor.{OpensAs, OpensOnce, remaining}
+use Rattle.borsh_values.specs.Cursor.{HasOneTag, OpensAs, OpensOnce, remaining}
 use Rattle.borsh_values.specs.Walks.{CountsIfTaken}
 use Rattle.borsh_values.proofs.MemberLaws.{members_head}
 use Rattle.std.proofs.Math.Logic.{∥∥₁_elim}
@@ -36,6 +36,7 @@ returns-in-Taken-clause-finds c =
       parts = parts;
       opens = opens;
       once = once;
+      alone = subst (λ b. HasOneTag d b) (sym c.front.ensures) o.0.alone;
       counted = subst (λ o. CountsIfTaken d o) c.in-Taken.is c.in_ok-taken.ensures.counted;
       onward = λ root done ns ps h r. read_on C d ns there once joins h r;
     }
