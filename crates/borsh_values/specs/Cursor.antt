@@ -88,6 +88,7 @@ NoneBegins C r x bytes = (more : List ℕ) → (r ≡ TooShort → more ≡ []) 
 
 -- a name with the definition d is read from bytes as n bytes and then the names ns
 pub record Takes (C : List ℕ → Option Shape) (d : Shape) (bytes : List ℕ) (n : ℕ) (ns : List (List ℕ)) : Type 0 where
+  -- there are n bytes
   pub within : n ≤ length bytes
   -- where no byte is taken and none is in ns, the name has the empty member alone
   pub only_empty : n ≡ 0 → (x : List ℕ) → C x ≡ Some d → AllOnlyEmpty C ns → OnlyEmpty C x

@@ -1,14 +1,7 @@
 -- What is answered of bytes: whether they are a value, how they begin, and where and why they stop being one.
-use Rattle.std.specs.Prelude.{◌≡◌, ℕ, ◌+◌, ◌*◌, ◌≤◌, ◌<◌, ℤ, pos, List, [], ◌∷◌, ◌++◌, length, take, drop, Option, Some, None, Result, IfOk, ◌-◌}
-use Rattle.std.specs.Borrow.{Bor}
-use Rattle.borsh_walks.specs.Container.{Shape, primitive, sequence, choice, IsListedVariant, tag, Member, Reached, IsValid}
-use Rattle.borsh_walks.specs.RulesAnswer.{KeepsWidths}
-use Rattle.borsh_values.specs.declared.faults.Reason.TheVariants.{BytesLeft, TooShort, Count, Tag, MissingDefinition, Recursive}
-use Rattle.borsh_values.specs.declared.members.Membership.TheVariants.{Member as IsMember, NoMember, Ambiguous}
-use Rattle.borsh_values.specs.declared.fronts.Front.TheVariants.{Value, TooShort as ShortFront, NoMember as NoFront, Ambiguous as Unclear}
-use Rattle.borsh_values.specs.Nodes.{packed_size, Opens, Reads}
-use Rattle.borsh_values.specs.declared.{faults.Fault.Fault, faults.Reason.Reason, members.Membership.Membership, fronts.Front.Front}
-use Rattle.borsh_values.specs.Unambiguous.{UnambiguousShape, IsUnambiguous}
+use Rattle.std.specs.{Prelude.{◌≡◌, ℕ, ◌+◌, ◌*◌, ◌≤◌, ◌<◌, ℤ, pos, List, [], ◌∷◌, ◌++◌, length, take, drop, Option, Some, None, Result, IfOk, ◌-◌}, Borrow.{Bor}}
+use Rattle.borsh_walks.specs.{Container.{Shape, primitive, sequence, choice, IsListedVariant, tag, Member, Reached, IsValid}, RulesAnswer.{KeepsWidths}}
+use Rattle.borsh_values.specs.{declared.faults.Reason.TheVariants.{BytesLeft, TooShort, Count, Tag, MissingDefinition, Recursive}, declared.members.Membership.TheVariants.{Member as IsMember, NoMember, Ambiguous}, declared.fronts.Front.TheVariants.{Value, TooShort as ShortFront, NoMember as NoFront, Ambiguous as Unclear}, Nodes.{packed_size, Opens, Reads}, declared.{faults.Fault.Fault, faults.Reason.Reason, members.Membership.Membership, fronts.Front.Front}, Unambiguous.{UnambiguousShape, IsUnambiguous}}
 
 module _ (C : List ℕ → Option Shape) where
   -- some of the first bytes, or all, are a member of the name

@@ -1,13 +1,8 @@
 -- Values whose nodes are given one after another.
-use Rattle.std.specs.Prelude.{◌≡◌, ⊤, ℕ, suc, ◌+◌, ◌-◌, cond, leb, List, [], ◌∷◌, ◌++◌, length, map, take, drop, slice_get, Option, Some, None, MatchOption, option_to_list}
-use Rattle.std.specs.{Borrow.Bor, BTreeMap.get_by_text}
-use Rattle.borsh_walks.specs.Container.{Shape, IsZeroSize}
-use Rattle.borsh_walks.specs.{Definitions.shape_of, declared.definition.Definition.Definition}
+use Rattle.std.specs.{Prelude.{◌≡◌, ⊤, ℕ, suc, ◌+◌, ◌-◌, cond, leb, List, [], ◌∷◌, ◌++◌, length, map, take, drop, slice_get, Option, Some, None, MatchOption, option_to_list}, Borrow.Bor, BTreeMap.get_by_text}
+use Rattle.borsh_walks.specs.{Container.{Shape, IsZeroSize}, Definitions.shape_of, declared.definition.Definition.Definition}
 use Rattle.borsh_plan.specs.{declared.plan.Plan.Plan, Names.found_definition, Names.name_of, Plan.definitions_of, Plan.map_of, Plan.names_of}
-use Rattle.borsh_values.specs.declared.{faults.PathStep.PathStep, frames.Frame.Frame, nodes.Node.Node, preorder.Preorder.Preorder, preorder.PreorderError.TheVariants.OutOfMemory, preorder.PreorderError.TheVariants.Ambiguous, preorder.PreorderError.PreorderError}
-use Rattle.borsh_values.specs.Cursor.{frames, remaining}
-use Rattle.borsh_values.specs.Membership.{IsUndecided}
-use Rattle.borsh_values.specs.Nodes.{IsStep, Opens}
+use Rattle.borsh_values.specs.{declared.{faults.PathStep.PathStep, frames.Frame.Frame, nodes.Node.Node, preorder.Preorder.Preorder, preorder.PreorderError.TheVariants.OutOfMemory, preorder.PreorderError.TheVariants.Ambiguous, preorder.PreorderError.PreorderError}, Cursor.{frames, remaining}, Membership.{IsUndecided}, Nodes.{IsStep, Opens}}
 
 abbrev pub plan_of : Preorder → Bor Plan
 plan_of p = p.cursor.plan
