@@ -1,19 +1,10 @@
 -- Bytes of which two neighbours don't ascend, as primitives and as digits.
-use Rattle.std.proofs.Common.{◌≡◌, inl, inr, ℕ, suc, ◌≤◌, ◌%◌, ◌^◌, List, [], ◌∷◌, ◌++◌, length, append-nil, false, Option, refl, sym, ◌∙◌, ap, subst, arith, ℤ, ◌<ℤ◌, pos, negsuc, ◌<◌, All, Less, Equal, Greater}
-use Rattle.std.specs.Cmp.{int_cmp_is, int_ranks}
-use Rattle.std.specs.Ordering.{int_cmp, MatchOrdering}
-use Rattle.std.proofs.lemmas.Bool.{cases_lt}
-use Rattle.std.proofs.lemmas.Int.{ints}
+use Rattle.std.proofs.{Common.{◌≡◌, inl, inr, ℕ, suc, ◌≤◌, ◌%◌, ◌^◌, List, [], ◌∷◌, ◌++◌, length, append-nil, false, Option, refl, sym, ◌∙◌, ap, subst, arith, ℤ, ◌<ℤ◌, pos, negsuc, ◌<◌, All, Less, Equal, Greater}, lemmas.Bool.{cases_lt}, lemmas.Int.{ints}}
+use Rattle.std.specs.{Cmp.{int_cmp_is, int_ranks}, Ordering.{int_cmp, MatchOrdering}}
 use Rattle.borsh_walks.specs.Container.{tag}
 use Rattle.borsh_values.proofs.MemberLaws.{same_front}
-use Rattle.borsh_json.specs.Descents.{PrimitivesDescend}
-use Rattle.borsh_json.specs.Forms.{Form, IsByte}
-use Rattle.borsh_json.specs.Ordered.{numbers, HasOrder, a_value, IsAtLeast}
-use Rattle.borsh_json.specs.Table.{primitive_kind, InRange}
-use Rattle.borsh_json.proofs.DescentLaws.{all_right, numbers_at_least}
-use Rattle.borsh_json.proofs.FoundLaws.{byte_full}
-use Rattle.borsh_json.proofs.OrderLaws.{front, value_fronts}
-use Rattle.borsh_json.proofs.OrderNumbers.{long_tag}
+use Rattle.borsh_json.specs.{Descents.{PrimitivesDescend}, Forms.{Form, IsByte}, Ordered.{numbers, HasOrder, a_value, IsAtLeast}, Table.{primitive_kind, InRange}}
+use Rattle.borsh_json.proofs.{DescentLaws.{all_right, numbers_at_least}, FoundLaws.{byte_full}, OrderLaws.{front, value_fronts}, OrderNumbers.{long_tag}}
 
 -- a byte is ordered as a number without a sign
 pub byte_order : (F : List ℕ → Option Form) (e : List ℕ) → IsByte F e → HasOrder F e (numbers 1 false)

@@ -3,32 +3,9 @@ use Rattle.std.proofs.Common.{◌≡◌, inl, inr, ℕ, suc, zero, List, [], ◌
 use Rattle.std.specs.Prelude.{IfSome, MatchOption, option_map}
 use Rattle.borsh_walks.specs.Container.{sequence as sequence_shape, product, IsIn, first, later}
 use Rattle.borsh_plan.specs.declared.named.Named.{Named}
-use Rattle.borsh_values.specs.Nodes.{packed_size, Opens, OpensElements}
-use Rattle.borsh_values.specs.Cursor.{HasOneTag, OpensOnce}
-use Rattle.borsh_values.specs.Walks.{IsCounted}
-use Rattle.borsh_json.specs.declared.definitions.Definitions.{Definitions}
-use Rattle.borsh_json.specs.declared.kinds.Elements.{Elements as FoundElements}
-use Rattle.borsh_json.specs.declared.kinds.Kind.{Kind as Found}
-use Rattle.borsh_json.specs.declared.kinds.Kind.TheVariants.{Number, Bool as Truth, Text, Bytes, Float, ByteList, Numbers, List as ListKind, Map, Row as RowKind, Newtype as NewtypeKind, Object as ObjectKind, Optional, Choice, Refused}
-use Rattle.borsh_json.specs.declared.order.Ordered.{Ordered}
-use Rattle.borsh_json.specs.declared.position.Parts.{Parts}
-use Rattle.borsh_json.specs.declared.position.Parts.TheVariants.{Root}
-use Rattle.borsh_json.specs.Checked.{Due, one, ascending, NeedsNoOrder, IsOnly, AreChecked, empty, plain, collection, packed, elements_end, next_element}
-use Rattle.borsh_json.specs.Forms.{Form, primitive as primitive_form, sequence as sequence_form, tuple as tuple_form, shape_of_form, shapes, HasNoBytes}
-use Rattle.borsh_json.specs.Found.{forms_of, names_of}
-use Rattle.borsh_json.specs.Frames.{IsListKind}
-use Rattle.borsh_json.specs.Only.{IsOpened}
-use Rattle.borsh_json.specs.Ordered.{a_value, IsAtLeast}
-use Rattle.borsh_json.specs.Orders.{ArePrimitives, HasKeyOrder, KindHasOrder, KindTellsOrder, OrderedBy}
-use Rattle.borsh_json.specs.Descents.{HasKeys, PrimitivesDescend}
-use Rattle.borsh_json.specs.Places.{IsKindOf, lengths_of}
-use Rattle.borsh_json.specs.Table.{Lengths, Kind, truth, whole, float, raw, utf8, byte_list, list, optional, variants, entries, HasKind}
-use Rattle.borsh_json.specs.Writes.{HasNode, Mark, Rest, value_rest, names_of_rest, one_more, AreOwed, none_owed, names_owed, elements_owed, IsCheckedTo, NoneFallsIn}
-use Rattle.borsh_json.proofs.FallLaws.{byte_there, positive}
-use Rattle.borsh_json.proofs.FormKinds.{form_known}
-use Rattle.borsh_json.proofs.FoundLaws.{list_element, zero_part}
-use Rattle.borsh_json.proofs.PackedDescent.{packed_rises}
-use Rattle.borsh_json.proofs.RepresentsLaws.{kind_one}
+use Rattle.borsh_values.specs.{Nodes.{packed_size, Opens, OpensElements}, Cursor.{HasOneTag, OpensOnce}, Walks.{IsCounted}}
+use Rattle.borsh_json.specs.{declared.definitions.Definitions.{Definitions}, declared.kinds.Elements.{Elements as FoundElements}, declared.kinds.Kind.{Kind as Found}, declared.kinds.Kind.TheVariants.{Number, Bool as Truth, Text, Bytes, Float, ByteList, Numbers, List as ListKind, Map, Row as RowKind, Newtype as NewtypeKind, Object as ObjectKind, Optional, Choice, Refused}, declared.order.Ordered.{Ordered}, declared.position.Parts.{Parts}, declared.position.Parts.TheVariants.{Root}, Checked.{Due, one, ascending, NeedsNoOrder, IsOnly, AreChecked, empty, plain, collection, packed, elements_end, next_element}, Forms.{Form, primitive as primitive_form, sequence as sequence_form, tuple as tuple_form, shape_of_form, shapes, HasNoBytes}, Found.{forms_of, names_of}, Frames.{IsListKind}, Only.{IsOpened}, Ordered.{a_value, IsAtLeast}, Orders.{ArePrimitives, HasKeyOrder, KindHasOrder, KindTellsOrder, OrderedBy}, Descents.{HasKeys, PrimitivesDescend}, Places.{IsKindOf, lengths_of}, Table.{Lengths, Kind, truth, whole, float, raw, utf8, byte_list, list, optional, variants, entries, HasKind}, Writes.{HasNode, Mark, Rest, value_rest, names_of_rest, one_more, AreOwed, none_owed, names_owed, elements_owed, IsCheckedTo, NoneFallsIn}}
+use Rattle.borsh_json.proofs.{FallLaws.{byte_there, positive}, FormKinds.{form_known}, FoundLaws.{list_element, zero_part}, PackedDescent.{packed_rises}, RepresentsLaws.{kind_one}}
 
 module _ (F : List ℕ → Option Form) where
   -- ---- values

@@ -1,25 +1,8 @@
 -- Where bytes that JSON says are refused, an element of it falls, or they nest too deep.
 use Rattle.std.proofs.Common.{◌≡◌, ◌⊎◌, inl, inr, ℕ, suc, List, [], ◌∷◌, ◌++◌, Option, Some, refl, sym, ◌∙◌, subst}
 use Rattle.json.specs.Json.{Json, null}
-use Rattle.borsh_json.specs.declared.error.JsonError.{JsonError}
-use Rattle.borsh_json.specs.declared.error.JsonError.TheVariants.{OutOfMemory, NoMember, NoValue, Ambiguous, NotJson, Refused}
-use Rattle.borsh_json.specs.declared.error.Refusal.{Refusal}
-use Rattle.borsh_json.specs.declared.error.Refusal.TheVariants.{TooDeep, RepeatedName, EmptyElements, NotBool, NotUtf8, Zero, NotNumber, Descends, Expected, MissingField, UnknownName, RepeatedKey, Undefined}
-use Rattle.borsh_json.specs.Descents.{HasDescent}
-use Rattle.borsh_json.specs.Forms.{Form, tuple}
-use Rattle.borsh_json.specs.InOrder.{Step, IsReached, Falls, InOrder, IsRepresented}
-use Rattle.borsh_json.specs.Inside.{IsInside}
-use Rattle.borsh_json.specs.NoJson.{IsNoJson, IsAbout, HasNoJsonPart, IsOutOfOrder, RefusesBytes}
-use Rattle.borsh_json.specs.NoValue.{FailsAt, IsGivenUp, path_steps}
-use Rattle.borsh_json.specs.Represents.{HaveBytes, next_part}
-use Rattle.borsh_json.specs.Table.{Kind, no_bytes, row, DefinedKind, HasKind, Part}
-use Rattle.borsh_json.specs.Writes.{Stops}
-use Rattle.borsh_json.proofs.DescentJson.{falls_there}
-use Rattle.borsh_json.proofs.FoundLaws.{full_list}
-use Rattle.borsh_json.proofs.Lockstep.{AreBytes, behind}
-use Rattle.borsh_json.proofs.OrderLaws.{clash}
-use Rattle.borsh_json.proofs.ReachedLaws.{HasParts, nothing, part, entry, IsThere, inside_there}
-use Rattle.borsh_json.proofs.ReaderLaws.{uncons}
+use Rattle.borsh_json.specs.{declared.error.JsonError.{JsonError}, declared.error.JsonError.TheVariants.{OutOfMemory, NoMember, NoValue, Ambiguous, NotJson, Refused}, declared.error.Refusal.{Refusal}, declared.error.Refusal.TheVariants.{TooDeep, RepeatedName, EmptyElements, NotBool, NotUtf8, Zero, NotNumber, Descends, Expected, MissingField, UnknownName, RepeatedKey, Undefined}, Descents.{HasDescent}, Forms.{Form, tuple}, InOrder.{Step, IsReached, Falls, InOrder, IsRepresented}, Inside.{IsInside}, NoJson.{IsNoJson, IsAbout, HasNoJsonPart, IsOutOfOrder, RefusesBytes}, NoValue.{FailsAt, IsGivenUp, path_steps}, Represents.{HaveBytes, next_part}, Table.{Kind, no_bytes, row, DefinedKind, HasKind, Part}, Writes.{Stops}}
+use Rattle.borsh_json.proofs.{DescentJson.{falls_there}, FoundLaws.{full_list}, Lockstep.{AreBytes, behind}, OrderLaws.{clash}, ReachedLaws.{HasParts, nothing, part, entry, IsThere, inside_there}, ReaderLaws.{uncons}}
 
 -- ---- refusals
 module _ (F : List ℕ → Option Form) {x : List ℕ} where

@@ -1,35 +1,12 @@
 -- Sets and maps of which two elements don't ascend: in the JSON that says them an element falls.
 use Rattle.std.proofs.Common.{◌≡◌, inl, inr, ℕ, suc, zero, ◌≤◌, ◌^◌, List, [], ◌∷◌, ◌++◌, length, map, take, drop, replicate, Bool, true, false, Option, Some, refl, sym, ◌∙◌, ap, subst, arith, append_assoc, append-nil, length-append}
-use Rattle.std.specs.Prelude.{ℤ, pos, codes}
-use Rattle.std.specs.List.Sorted.{IsStrictlySortedBy}
-use Rattle.std.specs.declared.cmp.Ordering.TheVariants.{Less}
+use Rattle.std.specs.{Prelude.{ℤ, pos, codes}, List.Sorted.{IsStrictlySortedBy}, declared.cmp.Ordering.TheVariants.{Less}}
 use Rattle.json.specs.Json.{Json, null, array, Items}
 use Rattle.borsh_walks.specs.Container.{first, later, first_variant, later_variant, tag}
 use Rattle.borsh_values.specs.Nodes.{Opens}
 use Rattle.borsh_values.proofs.MemberLaws.{copies_of, same_front}
-use Rattle.borsh_json.specs.Descents.{HasDescent, PrimitivesDescend}
-use Rattle.borsh_json.specs.Forms.{Form, primitive, sequence, tuple, choice, named, unnamed, no_fields, shape_of_form, shapes, HasNoBytes, IsByte, IsMap}
-use Rattle.borsh_json.specs.Frames.{IsListKind}
-use Rattle.borsh_json.specs.InOrder.{Falls}
-use Rattle.borsh_json.specs.Only.{AreOnly, none_only, empty_only, opened_only}
-use Rattle.borsh_json.specs.Ordered.{a_value, IsAtLeast}
-use Rattle.borsh_json.specs.Represents.{SaysFirst, HaveBytes, none_left, next_part}
-use Rattle.borsh_json.specs.Table.{Lengths, Keys, texts, numbers, Kind, utf8, byte_list, row, entries, IsHex, AreKeys, SequenceKind, a_text, some_bytes, an_object, some_elements, nullable, by_name, primitive_kind, DefinedKind, HasKind, Part, list_parts, Entry, entry_parts, key_json, key_order, IsArray, Says}
-use Rattle.borsh_json.proofs.BytesFall.{bytes_fallen}
-use Rattle.borsh_json.proofs.CutLaws.{Front, IsRead, nothing_read, empty_read, node_read, copies_read, only_read, shorter}
-use Rattle.borsh_json.proofs.DescentLaws.{front_of, packed_alone}
-use Rattle.borsh_json.proofs.FormKinds.{form_known, map_elements, shaped}
-use Rattle.borsh_json.proofs.FoundLaws.{full_list, full_primitive, zero_part}
-use Rattle.borsh_json.proofs.InOrderLaws.{IsKindOfList, list_kind, keys_one, string_no_set}
-use Rattle.borsh_json.proofs.KeyRanks.{keys_rise, key_parts}
-use Rattle.borsh_json.proofs.LeafLaws.{primitive_sized}
-use Rattle.borsh_json.proofs.Lockstep.{AreBytes, behind, before as bytes_before, AreNamed, list_named, named_front, defined, Match, no_names, silent, named_so, paired, match_list, match_entries, match_row, match_fields, listed, sized, longer, in_four, array_counts}
-use Rattle.borsh_json.proofs.NameLaws.{keys_full}
-use Rattle.borsh_json.proofs.NoJsonLaws.{exact}
-use Rattle.borsh_json.proofs.OrderLaws.{clash}
-use Rattle.borsh_json.proofs.OrderNumbers.{long_tag, one_low}
-use Rattle.borsh_json.proofs.ReachedLaws.{entries_joined}
-use Rattle.borsh_json.proofs.ReaderLaws.{split, uncons}
+use Rattle.borsh_json.specs.{Descents.{HasDescent, PrimitivesDescend}, Forms.{Form, primitive, sequence, tuple, choice, named, unnamed, no_fields, shape_of_form, shapes, HasNoBytes, IsByte, IsMap}, Frames.{IsListKind}, InOrder.{Falls}, Only.{AreOnly, none_only, empty_only, opened_only}, Ordered.{a_value, IsAtLeast}, Represents.{SaysFirst, HaveBytes, none_left, next_part}, Table.{Lengths, Keys, texts, numbers, Kind, utf8, byte_list, row, entries, IsHex, AreKeys, SequenceKind, a_text, some_bytes, an_object, some_elements, nullable, by_name, primitive_kind, DefinedKind, HasKind, Part, list_parts, Entry, entry_parts, key_json, key_order, IsArray, Says}}
+use Rattle.borsh_json.proofs.{BytesFall.{bytes_fallen}, CutLaws.{Front, IsRead, nothing_read, empty_read, node_read, copies_read, only_read, shorter}, DescentLaws.{front_of, packed_alone}, FormKinds.{form_known, map_elements, shaped}, FoundLaws.{full_list, full_primitive, zero_part}, InOrderLaws.{IsKindOfList, list_kind, keys_one, string_no_set}, KeyRanks.{keys_rise, key_parts}, LeafLaws.{primitive_sized}, Lockstep.{AreBytes, behind, before as bytes_before, AreNamed, list_named, named_front, defined, Match, no_names, silent, named_so, paired, match_list, match_entries, match_row, match_fields, listed, sized, longer, in_four, array_counts}, NameLaws.{keys_full}, NoJsonLaws.{exact}, OrderLaws.{clash}, OrderNumbers.{long_tag, one_low}, ReachedLaws.{entries_joined}, ReaderLaws.{split, uncons}}
 
 -- ---- lists
 two_of : {A : Type 0} (n : ℕ) (l : List A) → suc (suc n) ≤ length l → (front : List A) × (p : A) × (q : A) × (after : List A) × (l ≡ front ++ p ∷ q ∷ after) × (length front ≡ n)

@@ -2,31 +2,11 @@
 use Rattle.std.proofs.Common.{◌≡◌, inl, inr, ℕ, List, [], ◌∷◌, ◌++◌, length, map, IfSome, Option, Some, None, refl, sym, ◌∙◌, ap, subst, slice_get, Bor, ℤ}
 use Rattle.std.specs.List.{AllByRecursion}
 use Rattle.json.specs.Json.{Json}
-use Rattle.borsh_walks.specs.Container.{IsIn, first, later, references, variant_names, Reached, stays, onward}
-use Rattle.borsh_walks.specs.declared.definition.Definition.{Definition}
-use Rattle.borsh_plan.specs.declared.named.Named.{Named}
-use Rattle.borsh_plan.specs.Plan.{map_of, root_of}
+use Rattle.borsh_walks.specs.{Container.{IsIn, first, later, references, variant_names, Reached, stays, onward}, declared.definition.Definition.{Definition}}
+use Rattle.borsh_plan.specs.{declared.named.Named.{Named}, Plan.{map_of, root_of}}
 use Rattle.borsh_plan.proofs.Laws.{has_place}
-use Rattle.borsh_json.specs.declared.definitions.Definitions.{Definitions}
-use Rattle.borsh_json.specs.declared.kinds.Kind.{Kind as Found}
-use Rattle.borsh_json.specs.declared.kinds.Kind.TheVariants.{Number, Bool as Truth, Text, Bytes, Float, ByteList, Numbers, List as ListKind, Map, Row, Newtype, Object, Optional, Choice, Refused}
-use Rattle.borsh_json.specs.Checked.{NeedsNoOrder}
-use Rattle.borsh_json.specs.Forms.{Form, form_of, shape_of_form, shapes}
-use Rattle.borsh_json.specs.Found.{forms_of, names_of}
-use Rattle.borsh_json.specs.Frames.{AreInOrder}
-use Rattle.borsh_json.specs.InOrder.{Falls, NeedsNoCheck}
-use Rattle.borsh_json.specs.Orders.{KindTellsOrder, NeedNotAscend, NoneAscends, IsFoundKind, AreFoundKinds}
-use Rattle.borsh_json.specs.Places.{IsAt, IsKindOf, lengths_of}
-use Rattle.borsh_json.specs.Represents.{SaysFirst, HaveBytes, none_left, next_part}
-use Rattle.borsh_json.specs.Table.{Kind, no_bytes, truth, whole, float, raw, utf8, byte_list, list, row, inner, fields, optional, variants, entries, Keys, HasKind, Part, IsVariant, this, that, Entry, entry_parts, Says}
-use Rattle.borsh_json.proofs.CheckedLaws.{kind_free}
-use Rattle.borsh_json.proofs.FormKinds.{form_found, shaped}
-use Rattle.borsh_json.proofs.FoundLaws.{full_list}
-use Rattle.borsh_json.proofs.InOrderLaws.{items_said, whole_in_order}
-use Rattle.borsh_json.proofs.Lockstep.{AreNamed, list_named, falls_list}
-use Rattle.borsh_json.proofs.PlaceLaws.{get_pushed, kind_there}
-use Rattle.borsh_json.proofs.ReachedLaws.{part_names, row_names, field_names}
-use Rattle.borsh_json.proofs.WrittenLaws.{divided}
+use Rattle.borsh_json.specs.{declared.definitions.Definitions.{Definitions}, declared.kinds.Kind.{Kind as Found}, declared.kinds.Kind.TheVariants.{Number, Bool as Truth, Text, Bytes, Float, ByteList, Numbers, List as ListKind, Map, Row, Newtype, Object, Optional, Choice, Refused}, Checked.{NeedsNoOrder}, Forms.{Form, form_of, shape_of_form, shapes}, Found.{forms_of, names_of}, Frames.{AreInOrder}, InOrder.{Falls, NeedsNoCheck}, Orders.{KindTellsOrder, NeedNotAscend, NoneAscends, IsFoundKind, AreFoundKinds}, Places.{IsAt, IsKindOf, lengths_of}, Represents.{SaysFirst, HaveBytes, none_left, next_part}, Table.{Kind, no_bytes, truth, whole, float, raw, utf8, byte_list, list, row, inner, fields, optional, variants, entries, Keys, HasKind, Part, IsVariant, this, that, Entry, entry_parts, Says}}
+use Rattle.borsh_json.proofs.{CheckedLaws.{kind_free}, FormKinds.{form_found, shaped}, FoundLaws.{full_list}, InOrderLaws.{items_said, whole_in_order}, Lockstep.{AreNamed, list_named, falls_list}, PlaceLaws.{get_pushed, kind_there}, ReachedLaws.{part_names, row_names, field_names}, WrittenLaws.{divided}}
 use Rattle.borsh_walks.proofs.Forms.{shapes_are}
 
 variant_in : {k : ℤ} {v p : List ℕ} {vs : List (ℤ × List ℕ × List ℕ)} → IsVariant k v p vs → IsIn p (variant_names (map (λ (v : ℤ × List ℕ × List ℕ). (v.0, v.2)) vs))

@@ -2,21 +2,8 @@
 use Rattle.std.proofs.Common.{◌≡◌, ◌⊎◌, inl, inr, ℕ, ◌<◌, List, [], ◌∷◌, ◌++◌, get_or, Option, Some, None, refl, sym, ◌∙◌, ap, subst, arith, codes}
 use Rattle.json.specs.Json.{Json, array, string, object, Items}
 use Rattle.borsh_walks.specs.Container.{Member}
-use Rattle.borsh_json.specs.declared.error.JsonError.{JsonError}
-use Rattle.borsh_json.specs.declared.error.JsonError.TheVariants.{OutOfMemory, NoMember, NoValue, Ambiguous, NotJson, Refused}
-use Rattle.borsh_json.specs.declared.error.Refusal.{Refusal}
-use Rattle.borsh_json.specs.declared.error.Refusal.TheVariants.{TooDeep, Descends}
-use Rattle.borsh_json.specs.Descents.{HasKeys}
-use Rattle.borsh_json.specs.Forms.{Form, sequence, tuple, IsList, shapes}
-use Rattle.borsh_json.specs.Found.{IsSetName}
-use Rattle.borsh_json.specs.Frames.{AreInOrder, IsListKind}
-use Rattle.borsh_json.specs.InOrder.{Step, ItemsFall, Falls, InOrder, TextRepresents}
-use Rattle.borsh_json.specs.NoValue.{ShowsNoValue, IsGivenUp, FailsAt, SaysNothing}
-use Rattle.borsh_json.specs.Represents.{SaysFirst, SaysSome}
-use Rattle.borsh_json.specs.Table.{Lengths, Kind, utf8, byte_list, list, entries, Keys, a_text, some_bytes, an_object, some_elements, SequenceKind, DefinedKind, HasKind, Part, list_parts, Says}
-use Rattle.borsh_json.proofs.FoundLaws.{full_list, list_element, set_no_map}
-use Rattle.borsh_json.proofs.RepresentsLaws.{bytes_one}
-use Rattle.borsh_json.proofs.WrittenLaws.{whole_each}
+use Rattle.borsh_json.specs.{declared.error.JsonError.{JsonError}, declared.error.JsonError.TheVariants.{OutOfMemory, NoMember, NoValue, Ambiguous, NotJson, Refused}, declared.error.Refusal.{Refusal}, declared.error.Refusal.TheVariants.{TooDeep, Descends}, Descents.{HasKeys}, Forms.{Form, sequence, tuple, IsList, shapes}, Found.{IsSetName}, Frames.{AreInOrder, IsListKind}, InOrder.{Step, ItemsFall, Falls, InOrder, TextRepresents}, NoValue.{ShowsNoValue, IsGivenUp, FailsAt, SaysNothing}, Represents.{SaysFirst, SaysSome}, Table.{Lengths, Kind, utf8, byte_list, list, entries, Keys, a_text, some_bytes, an_object, some_elements, SequenceKind, DefinedKind, HasKind, Part, list_parts, Says}}
+use Rattle.borsh_json.proofs.{FoundLaws.{full_list, list_element, set_no_map}, RepresentsLaws.{bytes_one}, WrittenLaws.{whole_each}}
 
 -- ---- names
 pub string_no_set : (x e : List ℕ) → x ≡ codes "String" → IsSetName x e → ⊥

@@ -1,32 +1,10 @@
 -- The reader's next part.
 use Rattle.std.proofs.Common.{◌≡◌, inl, ℕ, suc, zero, ◌+◌, ◌-◌, ◌<◌, List, [], ◌∷◌, ◌++◌, length, map, false, Option, Some, None, refl, sym, ◌∙◌, ap, subst, arith, append_assoc, append-nil, length-append, IsSome, MatchOption, Result, Ok, Err, MatchResult, slice_get, Bor, bytes_eq}
 use Rattle.std.specs.List.{IsDistinct, list_any}
-use Rattle.json.specs.Token.{Token}
-use Rattle.json.specs.Json.{Json, object, Items, no_items, item, Members}
-use Rattle.json.specs.Find.{BeginsWith, get_member}
+use Rattle.json.specs.{Token.{Token}, Json.{Json, object, Items, no_items, item, Members}, Find.{BeginsWith, get_member}}
 use Rattle.borsh_plan.specs.declared.named.Named.{Named}
-use Rattle.borsh_json.specs.declared.error.ReadError.{ReadError}
-use Rattle.borsh_json.specs.declared.kinds.Entries.{Entries as FoundEntries}
-use Rattle.borsh_json.specs.declared.parts.Next.{Next}
-use Rattle.borsh_json.specs.declared.parts.Next.TheVariants.{Part, Missing, End}
-use Rattle.borsh_json.specs.declared.position.Key.{Key}
-use Rattle.borsh_json.specs.declared.position.Key.TheVariants.{None as NoKey, Name, Entry as EntryOf}
-use Rattle.borsh_json.specs.declared.position.Parts.{Parts}
-use Rattle.borsh_json.specs.declared.position.Parts.TheVariants.{Root, List as Elements, Row, Object, Entries as MapEntries, Newtype, Some as Present, Variant}
-use Rattle.borsh_json.specs.declared.position.Part.{Part as FoundPart}
-use Rattle.borsh_json.specs.declared.position.Place.{Place}
-use Rattle.borsh_json.specs.declared.sources.Source.{Source}
-use Rattle.borsh_json.specs.Forms.{Form, form_of, field_bytes}
-use Rattle.borsh_json.specs.Frames.{FailsRead, name_step, first_steps, last_steps, steps_at, Left, items_left, fields_left, entries_left, Wanted, IsWanted, IsObject, IsMapPlace, IsKey, HasItems, HasFields, HasEntries, NoneLeft, IsLeft, AreEntriesOf, HasLeft, SaysOn, IsPlaceOf, IsPlaceIn, IsDoing, SaysAll, IsNext, DeniesKey, IsNextEntry}
-use Rattle.borsh_json.specs.InOrder.{field as field_step, place as place_step, element as element_step, AreSteps}
-use Rattle.borsh_json.specs.NoValue.{SaysOwn, LacksField, HasOther}
-use Rattle.borsh_json.specs.Places.{IsAt, AreKeysOf}
-use Rattle.borsh_json.specs.Represents.{SaysFirst, HaveBytes, none_left, next_part}
-use Rattle.borsh_json.specs.Table.{Keys, Kind, inner, fields, HasKind, Part as JsonPart, row_parts, field_parts, Entry, key_json, entry_parts, Says}
-use Rattle.borsh_json.proofs.EachLaws.{fields_only}
-use Rattle.borsh_json.proofs.ReaderLaws.{object_one, fields_joined, fields_count}
-use Rattle.borsh_json.proofs.RepresentsLaws.{kind_one}
-use Rattle.borsh_json.proofs.StepLaws.{item_front, fields_end, left_there, items_left_none, entries_left_none, no_row, no_entries}
+use Rattle.borsh_json.specs.{declared.error.ReadError.{ReadError}, declared.kinds.Entries.{Entries as FoundEntries}, declared.parts.Next.{Next}, declared.parts.Next.TheVariants.{Part, Missing, End}, declared.position.Key.{Key}, declared.position.Key.TheVariants.{None as NoKey, Name, Entry as EntryOf}, declared.position.Parts.{Parts}, declared.position.Parts.TheVariants.{Root, List as Elements, Row, Object, Entries as MapEntries, Newtype, Some as Present, Variant}, declared.position.Part.{Part as FoundPart}, declared.position.Place.{Place}, declared.sources.Source.{Source}, Forms.{Form, form_of, field_bytes}, Frames.{FailsRead, name_step, first_steps, last_steps, steps_at, Left, items_left, fields_left, entries_left, Wanted, IsWanted, IsObject, IsMapPlace, IsKey, HasItems, HasFields, HasEntries, NoneLeft, IsLeft, AreEntriesOf, HasLeft, SaysOn, IsPlaceOf, IsPlaceIn, IsDoing, SaysAll, IsNext, DeniesKey, IsNextEntry}, InOrder.{field as field_step, place as place_step, element as element_step, AreSteps}, NoValue.{SaysOwn, LacksField, HasOther}, Places.{IsAt, AreKeysOf}, Represents.{SaysFirst, HaveBytes, none_left, next_part}, Table.{Keys, Kind, inner, fields, HasKind, Part as JsonPart, row_parts, field_parts, Entry, key_json, entry_parts, Says}}
+use Rattle.borsh_json.proofs.{EachLaws.{fields_only}, ReaderLaws.{object_one, fields_joined, fields_count}, RepresentsLaws.{kind_one}, StepLaws.{item_front, fields_end, left_there, items_left_none, entries_left_none, no_row, no_entries}}
 
 -- a key that isn't that of an entry is of no map
 no_map : (p : Parts) (key : Key) (f : List ℕ) → ((es : FoundEntries) → key ≡ EntryOf es → ⊥) → IsKey p key f → IsMapPlace p → ⊥

@@ -1,39 +1,11 @@
 -- Maps whose values are objects.
-use Rattle.std.proofs.Common.{◌≡◌, ◌⊎◌, ℕ, suc, zero, ◌+◌, ◌-◌, ◌≤◌, List, [], ◌∷◌, ◌++◌, inl, inr, length, replicate, false, Option, Some, None, refl, sym, ◌∙◌, ap, subst, arith, append-nil, append_assoc, length-append, Ok, pos, nat_le, Bor, nat_cmp, is_ge, Ordering, Less, Equal, Greater}
-use Rattle.std.specs.Option.{option_cmp}
-use Rattle.std.specs.BTreeMap.{BTreeMap, IsOrdered, btree_map_len}
-use Rattle.std.specs.Cmp.Lexicographic.{slice_cmp}
-use Rattle.std.specs.List.{AllByRecursion}
-use Rattle.std.specs.List.Sorted.{IsPermutation, IsStrictlySortedBy}
-use Rattle.std.proofs.lemmas.Cmp.{nat_list_cmp_total}
-use Rattle.std.proofs.lemmas.List.Sorted.{IsPermutation-refl, length_permutation}
-use Rattle.json.specs.Token.{Token}
-use Rattle.json.specs.Json.{Json, object, Members, no_members, member}
-use Rattle.json.specs.Find.{BeginsWith, InMembers}
+use Rattle.std.proofs.{Common.{◌≡◌, ◌⊎◌, ℕ, suc, zero, ◌+◌, ◌-◌, ◌≤◌, List, [], ◌∷◌, ◌++◌, inl, inr, length, replicate, false, Option, Some, None, refl, sym, ◌∙◌, ap, subst, arith, append-nil, append_assoc, length-append, Ok, pos, nat_le, Bor, nat_cmp, is_ge, Ordering, Less, Equal, Greater}, lemmas.Cmp.{nat_list_cmp_total}, lemmas.List.Sorted.{IsPermutation-refl, length_permutation}}
+use Rattle.std.specs.{Option.{option_cmp}, BTreeMap.{BTreeMap, IsOrdered, btree_map_len}, Cmp.Lexicographic.{slice_cmp}, List.{AllByRecursion}, List.Sorted.{IsPermutation, IsStrictlySortedBy}}
+use Rattle.json.specs.{Token.{Token}, Json.{Json, object, Members, no_members, member}, Find.{BeginsWith, InMembers}}
 use Rattle.borsh_walks.specs.Container.{tag}
 use Rattle.borsh_plan.specs.declared.named.Named.{Named}
-use Rattle.borsh_json.specs.declared.error.ReadError.{ReadError}
-use Rattle.borsh_json.specs.declared.kinds.Entries.{Entries as FoundEntries}
-use Rattle.borsh_json.specs.declared.kinds.KeyKind.{KeyKind}
-use Rattle.borsh_json.specs.declared.kinds.KeyKind.TheVariants.{Text as TextKeys, Number as NumberKeys}
-use Rattle.borsh_json.specs.declared.numbers.Number.{Number}
-use Rattle.borsh_json.specs.declared.position.Parts.TheVariants.{Entries as MapEntries}
-use Rattle.borsh_json.specs.declared.position.Place.{Place}
-use Rattle.borsh_json.specs.declared.sources.Source.{Source}
-use Rattle.borsh_json.specs.declared.sources.Source.TheVariants.{Entries as InPlace, Texts, Ranks}
-use Rattle.borsh_json.specs.Forms.{Form, form_of}
-use Rattle.borsh_json.specs.Frames.{ShowsRead, DeniesRead, FailsRead, Wanted, IsText, IsRank, AreKeyed, HasEntries, HaveOneEach, HasNoNumber, AreSorted, HasLeft, IsOpened, entries_left, IsKeyReason, IsUnexpected}
-use Rattle.borsh_json.specs.Places.{IsAt, AreKeysOf}
-use Rattle.borsh_json.specs.Represents.{HaveBytes, SaysSome}
-use Rattle.borsh_json.specs.Table.{Lengths, Keys, texts, numbers, whole, entries, HasKind, IsNumber, IsWhole, Part, Entry, entries_of, entry_parts, key_order, key_json, Says}
-use Rattle.borsh_json.proofs.EachLaws.{sorted_each}
-use Rattle.borsh_json.proofs.KeyJson.{key_number, tells}
-use Rattle.borsh_json.proofs.MemberLaws.{keyed_length, sorted_keyed, text_cmp}
-use Rattle.borsh_json.proofs.NumberLaws.{ranks_compare}
-use Rattle.borsh_json.proofs.OpeningLaws.{key_why, framed, said, shows_read, refuses_plain}
-use Rattle.borsh_json.proofs.ReaderLaws.{split, uncons, object_one}
-use Rattle.borsh_json.proofs.RepresentsLaws.{IsAmong, moved, kind_one, number_one}
-use Rattle.borsh_json.specs.NoValue.{SaysOwn, FailsHere}
+use Rattle.borsh_json.specs.{declared.error.ReadError.{ReadError}, declared.kinds.Entries.{Entries as FoundEntries}, declared.kinds.KeyKind.{KeyKind}, declared.kinds.KeyKind.TheVariants.{Text as TextKeys, Number as NumberKeys}, declared.numbers.Number.{Number}, declared.position.Parts.TheVariants.{Entries as MapEntries}, declared.position.Place.{Place}, declared.sources.Source.{Source}, declared.sources.Source.TheVariants.{Entries as InPlace, Texts, Ranks}, Forms.{Form, form_of}, Frames.{ShowsRead, DeniesRead, FailsRead, Wanted, IsText, IsRank, AreKeyed, HasEntries, HaveOneEach, HasNoNumber, AreSorted, HasLeft, IsOpened, entries_left, IsKeyReason, IsUnexpected}, Places.{IsAt, AreKeysOf}, Represents.{HaveBytes, SaysSome}, Table.{Lengths, Keys, texts, numbers, whole, entries, HasKind, IsNumber, IsWhole, Part, Entry, entries_of, entry_parts, key_order, key_json, Says}, NoValue.{SaysOwn, FailsHere}}
+use Rattle.borsh_json.proofs.{EachLaws.{sorted_each}, KeyJson.{key_number, tells}, MemberLaws.{keyed_length, sorted_keyed, text_cmp}, NumberLaws.{ranks_compare}, OpeningLaws.{key_why, framed, said, shows_read, refuses_plain}, ReaderLaws.{split, uncons, object_one}, RepresentsLaws.{IsAmong, moved, kind_one, number_one}}
 
 among_middle : (e : Entry) (xs ys : List Entry) → IsAmong e (xs ++ e ∷ ys)
 among_middle e [] ys = inl refl

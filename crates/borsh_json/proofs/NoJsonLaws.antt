@@ -3,14 +3,8 @@ use Rattle.std.proofs.Common.{◌≡◌, inl, refl, ℕ, List, [], ◌∷◌, �
 use Rattle.borsh_walks.specs.Container.{first}
 use Rattle.borsh_values.specs.Nodes.{Opens}
 use Rattle.borsh_values.proofs.MemberLaws.{same_front}
-use Rattle.borsh_json.specs.Forms.{Form, tuple, shape_of_form, shapes, HasNoBytes}
-use Rattle.borsh_json.specs.Only.{IsOpened, AreOnly, none_only, empty_only, opened_only}
-use Rattle.borsh_json.specs.Represents.{HaveBytes, none_left, next_part}
-use Rattle.borsh_json.specs.Table.{Kind, Part, Says}
-use Rattle.borsh_json.proofs.FormKinds.{shaped}
-use Rattle.borsh_json.proofs.FoundLaws.{zero_part}
-use Rattle.borsh_json.proofs.Lockstep.{AreBytes, behind, before as bytes_before, defined, Match, no_names, silent, named_so, paired, value_opens}
-use Rattle.borsh_json.proofs.RepresentsLaws.{kind_one}
+use Rattle.borsh_json.specs.{Forms.{Form, tuple, shape_of_form, shapes, HasNoBytes}, Only.{IsOpened, AreOnly, none_only, empty_only, opened_only}, Represents.{HaveBytes, none_left, next_part}, Table.{Kind, Part, Says}}
+use Rattle.borsh_json.proofs.{FormKinds.{shaped}, FoundLaws.{zero_part}, Lockstep.{AreBytes, behind, before as bytes_before, defined, Match, no_names, silent, named_so, paired, value_opens}, RepresentsLaws.{kind_one}}
 
 same_rest : (xs ys r s : List ℕ) → xs ++ r ≡ ys ++ s → r ≡ s → xs ≡ ys
 same_rest xs ys r s e q =

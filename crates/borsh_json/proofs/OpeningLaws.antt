@@ -1,29 +1,9 @@
 -- What JSON of a kind opens.
 use Rattle.std.proofs.Common.{◌≡◌, inl, inr, ℕ, suc, zero, List, [], ◌∷◌, ◌++◌, length, map, replicate, drop, Bool, true, Option, Some, None, refl, sym, ◌∙◌, ap, subst, arith, append-nil, Result, Ok, Err, ℤ, slice_get, MatchOption, String, string_bytes, Global}
-use Rattle.json.specs.Token.{Token}
-use Rattle.json.specs.Json.{Json, null, boolean, number, string, Items, no_items, item}
-use Rattle.json.specs.Find.{BeginsWith, is_null, as_bool, as_str, as_number}
+use Rattle.json.specs.{Token.{Token}, Json.{Json, null, boolean, number, string, Items, no_items, item}, Find.{BeginsWith, is_null, as_bool, as_str, as_number}}
 use Rattle.borsh_plan.specs.declared.named.Named.{Named}
-use Rattle.borsh_json.specs.declared.error.ReadError.{ReadError}
-use Rattle.borsh_json.specs.declared.error.ReadError.TheVariants.{OutOfMemory, Refused}
-use Rattle.borsh_json.specs.declared.error.Refusal.{Refusal}
-use Rattle.borsh_json.specs.declared.error.Refusal.TheVariants.{RepeatedName, EmptyElements, Expected, RepeatedKey}
-use Rattle.borsh_json.specs.declared.kinds.Flaw.{Flaw}
-use Rattle.borsh_json.specs.declared.kinds.Flaw.TheVariants.{RepeatedName as NameTwice, EmptyElements as NoElements}
-use Rattle.borsh_json.specs.declared.opening.Frame.{Frame}
-use Rattle.borsh_json.specs.declared.position.Parts.{Parts}
-use Rattle.borsh_json.specs.declared.position.Place.{Place}
-use Rattle.borsh_json.specs.declared.sources.Source.{Source}
-use Rattle.borsh_json.specs.declared.sources.Source.TheVariants.{One}
-use Rattle.borsh_json.specs.Forms.{Form}
-use Rattle.borsh_json.specs.Frames.{ShowsRead, DeniesRead, FailsRead, Left, items_left, IsExpected, SaysOn, IsPlaceOf, IsFound, IsOpened, HasLeft, IsWanted, IsMapPlace, Wanted, IsUnexpected, IsKeyReason}
-use Rattle.borsh_json.specs.NoValue.{SaysOwn, Why}
-use Rattle.borsh_json.specs.Places.{HasFlaw, IsRefusalOf}
-use Rattle.borsh_json.specs.Table.{Kind, HasEmptyElements, HasKind, Part, row_parts, list_parts, IsVariant, RepeatsName, this, that, Says}
-use Rattle.borsh_json.proofs.FrameLaws.{drop_at}
-use Rattle.borsh_json.proofs.ReaderLaws.{mapped}
-use Rattle.borsh_json.proofs.RepresentsLaws.{kind_one}
-use Rattle.borsh_json.proofs.StepLaws.{item_back}
+use Rattle.borsh_json.specs.{declared.error.ReadError.{ReadError}, declared.error.ReadError.TheVariants.{OutOfMemory, Refused}, declared.error.Refusal.{Refusal}, declared.error.Refusal.TheVariants.{RepeatedName, EmptyElements, Expected, RepeatedKey}, declared.kinds.Flaw.{Flaw}, declared.kinds.Flaw.TheVariants.{RepeatedName as NameTwice, EmptyElements as NoElements}, declared.opening.Frame.{Frame}, declared.position.Parts.{Parts}, declared.position.Place.{Place}, declared.sources.Source.{Source}, declared.sources.Source.TheVariants.{One}, Forms.{Form}, Frames.{ShowsRead, DeniesRead, FailsRead, Left, items_left, IsExpected, SaysOn, IsPlaceOf, IsFound, IsOpened, HasLeft, IsWanted, IsMapPlace, Wanted, IsUnexpected, IsKeyReason}, NoValue.{SaysOwn, Why}, Places.{HasFlaw, IsRefusalOf}, Table.{Kind, HasEmptyElements, HasKind, Part, row_parts, list_parts, IsVariant, RepeatsName, this, that, Says}}
+use Rattle.borsh_json.proofs.{FrameLaws.{drop_at}, ReaderLaws.{mapped}, RepresentsLaws.{kind_one}, StepLaws.{item_back}}
 
 -- ---- names without JSON
 -- the refusal for a flaw of a name is right where that for each flaw is

@@ -1,25 +1,11 @@
 -- Rows, lists, objects and variants that are opened.
 use Rattle.std.proofs.Common.{◌≡◌, inl, inr, ℕ, suc, zero, ◌≤◌, List, [], ◌∷◌, ◌++◌, length, map, replicate, Option, Some, None, refl, sym, ◌∙◌, ap, subst, arith, append-nil, string_bytes, IsSome, Ok, String, Vec, ℤ, pos, slice_get, ◌-◌, Bor, Global, BTreeMap, bytes_eq}
 use Rattle.std.specs.List.{IsDistinct}
-use Rattle.json.specs.Token.{Token}
-use Rattle.json.specs.Json.{Json, string, array, object, Items, Members, no_members, member}
-use Rattle.json.specs.Find.{InItems, Finds, as_str, as_array, get_member}
-use Rattle.borsh_walks.specs.Container.{tag, references, variant_names}
-use Rattle.borsh_walks.specs.Tables.{mark_of}
+use Rattle.json.specs.{Token.{Token}, Json.{Json, string, array, object, Items, Members, no_members, member}, Find.{InItems, Finds, as_str, as_array, get_member}}
+use Rattle.borsh_walks.specs.{Container.{tag, references, variant_names}, Tables.{mark_of}}
 use Rattle.borsh_plan.specs.declared.named.Named.{Named}
-use Rattle.borsh_json.specs.declared.error.ReadError.{ReadError}
-use Rattle.borsh_json.specs.declared.position.Parts.TheVariants.{List as Elements, Row, Object}
-use Rattle.borsh_json.specs.declared.position.Place.{Place}
-use Rattle.borsh_json.specs.declared.sources.Source.{Source}
-use Rattle.borsh_json.specs.declared.sources.Source.TheVariants.{Items as TheItems}
-use Rattle.borsh_json.specs.Forms.{Form, named, choice, shape_of_form, HasNoBytes, field_bytes}
-use Rattle.borsh_json.specs.Frames.{DeniesRead, FailsRead, Wanted, AreFound, AreOthers, HasFields, HasLeft, IsOpened, NamesVariant, items_left, fields_left, IsListKind, IsUnexpected}
-use Rattle.borsh_json.specs.NoValue.{SaysOwn, NamesNoVariant}
-use Rattle.borsh_json.specs.Places.{IsAt, IsUnsayable}
-use Rattle.borsh_json.specs.Table.{Lengths, Kind, byte_list, row, fields, variants, HasKind, Part, row_parts, list_parts, entries_of, IsVariant, IsHex, IsPrefixed, IsArray, Says}
-use Rattle.borsh_json.proofs.FormKinds.{form_found}
-use Rattle.borsh_json.proofs.RepresentsLaws.{variant_one}
-use Rattle.borsh_json.proofs.OpeningLaws.{denied, said, framed, row_fits, rows_there, list_row, list_length, second_map, second_copies, refuses_plain}
+use Rattle.borsh_json.specs.{declared.error.ReadError.{ReadError}, declared.position.Parts.TheVariants.{List as Elements, Row, Object}, declared.position.Place.{Place}, declared.sources.Source.{Source}, declared.sources.Source.TheVariants.{Items as TheItems}, Forms.{Form, named, choice, shape_of_form, HasNoBytes, field_bytes}, Frames.{DeniesRead, FailsRead, Wanted, AreFound, AreOthers, HasFields, HasLeft, IsOpened, NamesVariant, items_left, fields_left, IsListKind, IsUnexpected}, NoValue.{SaysOwn, NamesNoVariant}, Places.{IsAt, IsUnsayable}, Table.{Lengths, Kind, byte_list, row, fields, variants, HasKind, Part, row_parts, list_parts, entries_of, IsVariant, IsHex, IsPrefixed, IsArray, Says}}
+use Rattle.borsh_json.proofs.{FormKinds.{form_found}, RepresentsLaws.{variant_one}, OpeningLaws.{denied, said, framed, row_fits, rows_there, list_row, list_length, second_map, second_copies, refuses_plain}}
 
 array_one : (js ks : Items) → array js ≡ array ks → js ≡ ks
 array_one js ks e = cc

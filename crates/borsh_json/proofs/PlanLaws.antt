@@ -1,14 +1,9 @@
 -- The root and the map of a plan that was made for a call, and a text that was read again.
 use Rattle.std.proofs.Common.{◌≡◌, ℕ, List, [], ◌∷◌, Some, sym, subst, String, Global, BTreeMap}
 use Rattle.json.specs.Json.{Json, document}
-use Rattle.borsh_walks.specs.declared.definition.Definition.{Definition}
-use Rattle.borsh_walks.specs.Container.{Member}
-use Rattle.borsh_plan.specs.declared.plan.Plan.{Plan}
-use Rattle.borsh_plan.specs.Plan.{IsPlanOf, definitions_of, map_of, root_of}
-use Rattle.borsh_json.specs.declared.definitions.Definitions.{Definitions}
-use Rattle.borsh_json.specs.Forms.{forms_in}
-use Rattle.borsh_json.specs.Found.{SaysBy}
-use Rattle.borsh_json.specs.Represents.{HaveBytes}
+use Rattle.borsh_walks.specs.{declared.definition.Definition.{Definition}, Container.{Member}}
+use Rattle.borsh_plan.specs.{declared.plan.Plan.{Plan}, Plan.{IsPlanOf, definitions_of, map_of, root_of}}
+use Rattle.borsh_json.specs.{declared.definitions.Definitions.{Definitions}, Forms.{forms_in}, Found.{SaysBy}, Represents.{HaveBytes}}
 use Rattle.borsh_walks.proofs.Forms.{shapes_are}
 
 pub by_plan : (P : List ℕ → BTreeMap (String Global) Definition → Type 0) (d : Definitions) (p : Plan) {m : BTreeMap (String Global) Definition} {x : List ℕ} → d.plan.now ≡ p → IsPlanOf m x p → P (root_of d.plan.now) (map_of d.plan.now) → P x m

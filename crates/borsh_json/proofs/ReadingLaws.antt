@@ -1,38 +1,9 @@
 -- The reader's loop.
 use Rattle.std.proofs.Common.{◌≡◌, inl, inr, ℕ, suc, zero, ◌+◌, ◌-◌, ◌<◌, List, [], ◌∷◌, ◌++◌, length, map, Option, Some, refl, sym, ◌∙◌, ap, subst, arith, append_assoc, append-nil, length-append, string_bytes, Bool, true, false, codes, slice_get, String, Result, Ok, Err, IfOk, OnOk, IfErr, Global, Bor}
-use Rattle.json.specs.Token.{Token}
-use Rattle.json.specs.Json.{Json, no_items, item}
-use Rattle.json.specs.Find.{BeginsWith}
+use Rattle.json.specs.{Token.{Token}, Json.{Json, no_items, item}, Find.{BeginsWith}}
 use Rattle.borsh_plan.specs.declared.named.Named.{Named}
-use Rattle.borsh_json.specs.declared.error.PartError.{PartError}
-use Rattle.borsh_json.specs.declared.error.PartError.TheVariants.{OutOfMemory as NoMemory, Refused as RefusedPart}
-use Rattle.borsh_json.specs.declared.error.ReadError.{ReadError}
-use Rattle.borsh_json.specs.declared.error.ReadError.TheVariants.{OutOfMemory, Refused}
-use Rattle.borsh_json.specs.declared.error.Refusal.{Refusal}
-use Rattle.borsh_json.specs.declared.error.Refusal.TheVariants.{TooDeep, RepeatedName, EmptyElements, Expected, MissingField, UnknownName, RepeatedKey, Undefined}
-use Rattle.borsh_json.specs.declared.definitions.Definitions.{Definitions}
-use Rattle.borsh_json.specs.declared.opening.Frame.{Frame}
-use Rattle.borsh_json.specs.declared.parts.Next.TheVariants.{Part, End}
-use Rattle.borsh_json.specs.declared.parts.Reading.{Reading}
-use Rattle.borsh_json.specs.declared.position.Parts.{Parts}
-use Rattle.borsh_json.specs.declared.position.Parts.TheVariants.{Root, List as Elements, Row, Object, Entries as MapEntries, Newtype, Some as Present, Variant}
-use Rattle.borsh_json.specs.declared.position.Place.{Place}
-use Rattle.borsh_json.specs.declared.sources.Source.{Source}
-use Rattle.borsh_json.specs.declared.sources.Source.TheVariants.{One}
-use Rattle.borsh_json.specs.Errors.{IsUnreadable}
-use Rattle.borsh_json.specs.Forms.{Form, field_bytes}
-use Rattle.borsh_json.specs.Found.{forms_of, names_of}
-use Rattle.borsh_json.specs.Frames.{FailsRead, HasPath, name_step, first_steps, last_steps, steps_at, steps_through, IsUnread, IsOf, IsOfRead, Left, items_left, fields_left, entries_left, Wanted, HasLeft, SaysOn, IsPlaceOf, IsPlaceIn, IsDoing, IsNext, NoneLeft, DeniesKey, Stands, IsInside, IsBegun, IsEnded, HaveAround, HasRead, HasBegun, IsReadOn, ReadsOn}
-use Rattle.borsh_json.specs.InOrder.{Step, field as field_step, place as place_step, element as element_step, variant as variant_step, AreSteps, BeginsParts, IsReached, whole_value, part_of}
-use Rattle.borsh_json.specs.NoValue.{FailsHere, LacksField, FailsAt, SaysNothing, HasOther, Why}
-use Rattle.borsh_json.specs.Places.{IsAt}
-use Rattle.borsh_json.specs.Represents.{SaysFirst, HaveBytes, none_left, next_part}
-use Rattle.borsh_json.specs.Table.{Kind, inner, fields, Part as JsonPart, entry_parts}
-use Rattle.borsh_json.specs.Writes.{IsFull}
-use Rattle.borsh_json.proofs.FrameLaws.{get_there}
-use Rattle.borsh_json.proofs.ReaderLaws.{joined, no_parts, fields_count, reached_none, lacks_none}
-use Rattle.borsh_json.proofs.LoopLaws.{alone, other_none, fields_same}
-use Rattle.borsh_json.proofs.MapLaws.{fails_none}
+use Rattle.borsh_json.specs.{declared.error.PartError.{PartError}, declared.error.PartError.TheVariants.{OutOfMemory as NoMemory, Refused as RefusedPart}, declared.error.ReadError.{ReadError}, declared.error.ReadError.TheVariants.{OutOfMemory, Refused}, declared.error.Refusal.{Refusal}, declared.error.Refusal.TheVariants.{TooDeep, RepeatedName, EmptyElements, Expected, MissingField, UnknownName, RepeatedKey, Undefined}, declared.definitions.Definitions.{Definitions}, declared.opening.Frame.{Frame}, declared.parts.Next.TheVariants.{Part, End}, declared.parts.Reading.{Reading}, declared.position.Parts.{Parts}, declared.position.Parts.TheVariants.{Root, List as Elements, Row, Object, Entries as MapEntries, Newtype, Some as Present, Variant}, declared.position.Place.{Place}, declared.sources.Source.{Source}, declared.sources.Source.TheVariants.{One}, Errors.{IsUnreadable}, Forms.{Form, field_bytes}, Found.{forms_of, names_of}, Frames.{FailsRead, HasPath, name_step, first_steps, last_steps, steps_at, steps_through, IsUnread, IsOf, IsOfRead, Left, items_left, fields_left, entries_left, Wanted, HasLeft, SaysOn, IsPlaceOf, IsPlaceIn, IsDoing, IsNext, NoneLeft, DeniesKey, Stands, IsInside, IsBegun, IsEnded, HaveAround, HasRead, HasBegun, IsReadOn, ReadsOn}, InOrder.{Step, field as field_step, place as place_step, element as element_step, variant as variant_step, AreSteps, BeginsParts, IsReached, whole_value, part_of}, NoValue.{FailsHere, LacksField, FailsAt, SaysNothing, HasOther, Why}, Places.{IsAt}, Represents.{SaysFirst, HaveBytes, none_left, next_part}, Table.{Kind, inner, fields, Part as JsonPart, entry_parts}, Writes.{IsFull}}
+use Rattle.borsh_json.proofs.{FrameLaws.{get_there}, ReaderLaws.{joined, no_parts, fields_count, reached_none, lacks_none}, LoopLaws.{alone, other_none, fields_same}, MapLaws.{fails_none}}
 
 -- ---- the steps through places
 pub steps_last : (ps : List Place) (p : Place) → steps_through (ps ++ p ∷ []) ≡ steps_through ps ++ steps_at p

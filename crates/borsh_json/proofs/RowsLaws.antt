@@ -1,34 +1,10 @@
 -- Rows of a value, and what they say.
-use Rattle.std.proofs.Common.{◌≡◌, ℕ, ◌+◌, List, [], ◌∷◌, ◌++◌, length, take, inl, inr, refl, ap, sym, subst, ◌∙◌, arith}
-use Rattle.std.specs.Prelude.{ℤ, String, Vec, Option, Some, None, Result, Ok, Err, IfOk, MatchOption, map, option_map, slice_get, string_bytes}
-use Rattle.std.specs.Global.{Global}
-use Rattle.std.proofs.lemmas.Option.{slice_get-map}
-use Rattle.borsh_walks.specs.declared.definition.Definition.{Definition}
-use Rattle.borsh_walks.specs.declared.definition.Definition.TheVariants.{Primitive, Sequence, Tuple, Enum, Struct}
-use Rattle.borsh_walks.specs.declared.definition.Fields.{Fields}
-use Rattle.borsh_walks.specs.declared.definition.Fields.TheVariants.{NamedFields, UnnamedFields, Empty}
-use Rattle.borsh_walks.specs.declared.definition.LengthRange.{LengthRange}
-use Rattle.std.specs.Borrow.{Bor}
-use Rattle.std.specs.BTreeMap.{get_by_text}
-use Rattle.borsh_walks.specs.Definitions.{shape_of}
-use Rattle.borsh_plan.specs.declared.plan.Plan.{Plan}
-use Rattle.borsh_plan.specs.Plan.{definitions_of, map_of}
-use Rattle.borsh_values.specs.Nodes.{AreElementsOf, IsCountOf, IsVariantOf, Opens}
-use Rattle.borsh_values.specs.Tags.{IsVariantIndex}
-use Rattle.borsh_values.specs.declared.nodes.Node.{Node}
-use Rattle.borsh_values.specs.Preorder.{GivesNode, bytes_left, next_offset}
-use Rattle.borsh_walks.specs.Container.{Shape}
-use Rattle.borsh_json.specs.declared.error.JsonError.{JsonError}
-use Rattle.borsh_json.specs.declared.error.JsonError.TheVariants.{OutOfMemory, NoMember, NoValue, Ambiguous, NotJson, Refused}
-use Rattle.borsh_json.specs.declared.error.Refusal.{Refusal}
-use Rattle.borsh_json.specs.declared.error.Refusal.TheVariants.{TooDeep, RepeatedName, EmptyElements, NotBool, NotUtf8, Zero, NotNumber, Descends, Expected, MissingField, UnknownName, RepeatedKey, Undefined}
-use Rattle.borsh_json.specs.Errors.{IsNoJsonReason, IsNoRowsReason, IsTooDeep, IsUnwritable}
-use Rattle.borsh_json.specs.Forms.{Form, sequence, variant_bytes, form_of, form_of_struct}
-use Rattle.borsh_json.specs.Places.{lengths_of}
-use Rattle.borsh_json.specs.Rows.{IsNextRow, IsPrimitiveText, IsQuoted, IsRowText, IsValueText, GivesEmpty, one_more, counted, rows_plan}
-use Rattle.borsh_json.specs.Table.{Lengths, any_length, primitive_kind}
-use Rattle.borsh_json.specs.declared.rows.Rows.{Rows}
-use Rattle.std.proofs.lemmas.Simd.{map-map}
+use Rattle.std.proofs.{Common.{◌≡◌, ℕ, ◌+◌, List, [], ◌∷◌, ◌++◌, length, take, inl, inr, refl, ap, sym, subst, ◌∙◌, arith}, lemmas.Option.{slice_get-map}, lemmas.Simd.{map-map}}
+use Rattle.std.specs.{Prelude.{ℤ, String, Vec, Option, Some, None, Result, Ok, Err, IfOk, MatchOption, map, option_map, slice_get, string_bytes}, Global.{Global}, Borrow.{Bor}, BTreeMap.{get_by_text}}
+use Rattle.borsh_walks.specs.{declared.definition.Definition.{Definition}, declared.definition.Definition.TheVariants.{Primitive, Sequence, Tuple, Enum, Struct}, declared.definition.Fields.{Fields}, declared.definition.Fields.TheVariants.{NamedFields, UnnamedFields, Empty}, declared.definition.LengthRange.{LengthRange}, Definitions.{shape_of}, Container.{Shape}}
+use Rattle.borsh_plan.specs.{declared.plan.Plan.{Plan}, Plan.{definitions_of, map_of}}
+use Rattle.borsh_values.specs.{Nodes.{AreElementsOf, IsCountOf, IsVariantOf, Opens}, Tags.{IsVariantIndex}, declared.nodes.Node.{Node}, Preorder.{GivesNode, bytes_left, next_offset}}
+use Rattle.borsh_json.specs.{declared.error.JsonError.{JsonError}, declared.error.JsonError.TheVariants.{OutOfMemory, NoMember, NoValue, Ambiguous, NotJson, Refused}, declared.error.Refusal.{Refusal}, declared.error.Refusal.TheVariants.{TooDeep, RepeatedName, EmptyElements, NotBool, NotUtf8, Zero, NotNumber, Descends, Expected, MissingField, UnknownName, RepeatedKey, Undefined}, Errors.{IsNoJsonReason, IsNoRowsReason, IsTooDeep, IsUnwritable}, Forms.{Form, sequence, variant_bytes, form_of, form_of_struct}, Places.{lengths_of}, Rows.{IsNextRow, IsPrimitiveText, IsQuoted, IsRowText, IsValueText, GivesEmpty, one_more, counted, rows_plan}, Table.{Lengths, any_length, primitive_kind}, declared.rows.Rows.{Rows}}
 
 -- a refusal for depth is one for which a member has no JSON
 deep_reason : (r : Refusal) → IsTooDeep r → IsUnwritable r

@@ -1,26 +1,11 @@
 -- What errors say of a text.
 use Rattle.std.proofs.Common.{◌≡◌, inl, ℕ, List, [], ◌∷◌, ◌++◌, Option, Some, None, refl, sym, ◌∙◌, ap, subst, append_assoc, IsSome}
-use Rattle.json.specs.Token.{Token}
-use Rattle.json.specs.Lex.{tokens}
-use Rattle.json.specs.Json.{Json, document}
-use Rattle.std.specs.BTreeMap.{BTreeMap}
-use Rattle.std.specs.Prelude.{String}
-use Rattle.borsh_walks.specs.Container.{Shape}
-use Rattle.borsh_walks.specs.Definitions.{definitions_in}
-use Rattle.borsh_walks.specs.declared.definition.Definition.{Definition}
+use Rattle.json.specs.{Token.{Token}, Lex.{tokens}, Json.{Json, document}}
+use Rattle.std.specs.{BTreeMap.{BTreeMap}, Prelude.{String}}
+use Rattle.borsh_walks.specs.{Container.{Shape}, Definitions.{definitions_in}, declared.definition.Definition.{Definition}}
 use Rattle.borsh_walks.proofs.Forms.{shapes_are}
-use Rattle.borsh_values.specs.Membership.{IsUndecided}
-use Rattle.borsh_values.specs.declared.faults.Path.{Path}
-use Rattle.borsh_json.specs.declared.error.JsonError.{JsonError}
-use Rattle.borsh_json.specs.declared.error.JsonError.TheVariants.{OutOfMemory, NoMember, NoValue, Ambiguous, NotJson, Refused}
-use Rattle.borsh_json.specs.declared.error.PartError.{PartError}
-use Rattle.borsh_json.specs.declared.error.PartError.TheVariants.{OutOfMemory as NoMemory, Refused as RefusedPart}
-use Rattle.borsh_json.specs.declared.error.Refusal.{Refusal}
-use Rattle.borsh_json.specs.declared.error.Refusal.TheVariants.{TooDeep}
-use Rattle.borsh_json.specs.Errors.{open_after, open_behind, IsUnreadable, IsTextRefusal, IsTextReason, error_of}
-use Rattle.borsh_json.specs.Forms.{Form, forms_in}
-use Rattle.borsh_json.specs.Frames.{IsUnread}
-use Rattle.borsh_json.specs.NoValue.{path_steps, FailsAt, SaysNothing, ShowsFall, ShowsNoValue}
+use Rattle.borsh_values.specs.{Membership.{IsUndecided}, declared.faults.Path.{Path}}
+use Rattle.borsh_json.specs.{declared.error.JsonError.{JsonError}, declared.error.JsonError.TheVariants.{OutOfMemory, NoMember, NoValue, Ambiguous, NotJson, Refused}, declared.error.PartError.{PartError}, declared.error.PartError.TheVariants.{OutOfMemory as NoMemory, Refused as RefusedPart}, declared.error.Refusal.{Refusal}, declared.error.Refusal.TheVariants.{TooDeep}, Errors.{open_after, open_behind, IsUnreadable, IsTextRefusal, IsTextReason, error_of}, Forms.{Form, forms_in}, Frames.{IsUnread}, NoValue.{path_steps, FailsAt, SaysNothing, ShowsFall, ShowsNoValue}}
 
 pub there : {A : Type 0} (o : Option A) → IsSome o → (a : A) × (o ≡ Some a)
 there None s = absurd cc

@@ -1,14 +1,7 @@
 -- Bytes of which each definition opens once, and in which what has to ascend does, whatever JSON says them.
 use Rattle.std.specs.Prelude.{◌≡◌, ℕ, suc, zero, List, [], ◌∷◌, ◌++◌, map, replicate, drop, Option, Some, None, IfSome}
-use Rattle.borsh_values.specs.Nodes.{packed_size}
-use Rattle.borsh_values.specs.Cursor.{HasOneTag, OpensOnce}
-use Rattle.borsh_json.specs.Descents.{HasKeys, PrimitivesDescend}
-use Rattle.borsh_json.specs.Forms.{Form, primitive, shape_of_form, shapes, HasNoBytes}
-use Rattle.borsh_json.specs.Found.{IsSet}
-use Rattle.borsh_json.specs.Frames.{IsListKind}
-use Rattle.borsh_json.specs.Ordered.{a_value, IsAtLeast}
-use Rattle.borsh_json.specs.Orders.{KnowsNoOrder}
-use Rattle.borsh_json.specs.Table.{Kind, HasKind}
+use Rattle.borsh_values.specs.{Nodes.{packed_size}, Cursor.{HasOneTag, OpensOnce}}
+use Rattle.borsh_json.specs.{Descents.{HasKeys, PrimitivesDescend}, Forms.{Form, primitive, shape_of_form, shapes, HasNoBytes}, Found.{IsSet}, Frames.{IsListKind}, Ordered.{a_value, IsAtLeast}, Orders.{KnowsNoOrder}, Table.{Kind, HasKind}}
 
 -- what is still to be read of some bytes
 pub data Due : Type 0 where

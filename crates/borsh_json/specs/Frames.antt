@@ -1,58 +1,10 @@
 -- What the frames of the reader stand for, and what its steps return.
-use Rattle.std.specs.Prelude.{◌≡◌, ◌⊎◌, ⊤, ℕ, suc, zero, ℤ, String, slice_get, List, [], ◌∷◌, ◌++◌, ◌+◌, ◌-◌, ◌*◌, ◌<◌, length, map, drop, replicate, Bool, true, false, Option, Some, None, IsSome, Result, MatchOption, MatchResult, codes, string_bytes}
-use Rattle.std.specs.Borrow.{Bor}
-use Rattle.std.specs.Global.{Global}
-use Rattle.std.specs.Str.{bytes_eq}
-use Rattle.std.specs.List.{AllByRecursion, IsDistinct, list_any}
-use Rattle.std.specs.List.Sorted.{IsPermutation, IsStrictlySortedBy}
-use Rattle.std.specs.BTreeMap.{BTreeMap, btree_map_len}
-use Rattle.json.specs.Token.{Token}
-use Rattle.json.specs.Json.{Json, string, array, object, Items, no_items, item, Members, no_members, member}
-use Rattle.json.specs.Find.{BeginsWith, InItems, InMembers, get_member, Finds, as_array}
-use Rattle.borsh_walks.specs.Container.{references}
-use Rattle.borsh_walks.specs.Tables.{mark_of}
-use Rattle.borsh_values.specs.declared.faults.Path.{Path}
-use Rattle.borsh_values.specs.declared.faults.PathStep.{PathStep}
+use Rattle.std.specs.{Prelude.{◌≡◌, ◌⊎◌, ⊤, ℕ, suc, zero, ℤ, String, slice_get, List, [], ◌∷◌, ◌++◌, ◌+◌, ◌-◌, ◌*◌, ◌<◌, length, map, drop, replicate, Bool, true, false, Option, Some, None, IsSome, Result, MatchOption, MatchResult, codes, string_bytes}, Borrow.{Bor}, Global.{Global}, Str.{bytes_eq}, List.{AllByRecursion, IsDistinct, list_any}, List.Sorted.{IsPermutation, IsStrictlySortedBy}, BTreeMap.{BTreeMap, btree_map_len}}
+use Rattle.json.specs.{Token.{Token}, Json.{Json, string, array, object, Items, no_items, item, Members, no_members, member}, Find.{BeginsWith, InItems, InMembers, get_member, Finds, as_array}}
+use Rattle.borsh_walks.specs.{Container.{references}, Tables.{mark_of}}
+use Rattle.borsh_values.specs.{declared.faults.Path.{Path}, declared.faults.PathStep.{PathStep}}
 use Rattle.borsh_plan.specs.declared.named.Named.{Named}
-use Rattle.borsh_json.specs.declared.definitions.Definitions.{Definitions}
-use Rattle.borsh_json.specs.declared.error.PartError.{PartError}
-use Rattle.borsh_json.specs.declared.error.PartError.TheVariants.{OutOfMemory as NoMemory, Refused as RefusedPart}
-use Rattle.borsh_json.specs.declared.error.ReadError.{ReadError}
-use Rattle.borsh_json.specs.declared.error.ReadError.TheVariants.{OutOfMemory, Refused}
-use Rattle.borsh_json.specs.declared.error.Refusal.{Refusal}
-use Rattle.borsh_json.specs.declared.error.Refusal.TheVariants.{Expected, RepeatedKey}
-use Rattle.borsh_json.specs.Errors.{IsUnreadable}
-use Rattle.borsh_json.specs.declared.kinds.Elements.{Elements as FoundElements}
-use Rattle.borsh_json.specs.declared.kinds.KeyKind.{KeyKind}
-use Rattle.borsh_json.specs.declared.kinds.KeyKind.TheVariants.{Text as TextKeys, Number as NumberKeys}
-use Rattle.borsh_json.specs.declared.numbers.Number.{Number}
-use Rattle.borsh_json.specs.declared.order.Ordered.{Ordered}
-use Rattle.borsh_json.specs.declared.opening.Array.{Array}
-use Rattle.borsh_json.specs.declared.opening.Array.TheVariants.{No, TooLong, Of}
-use Rattle.borsh_json.specs.declared.opening.Frame.{Frame}
-use Rattle.borsh_json.specs.declared.parts.Next.{Next}
-use Rattle.borsh_json.specs.declared.parts.Next.TheVariants.{Part, Missing, End}
-use Rattle.borsh_json.specs.declared.parts.Reading.{Reading}
-use Rattle.borsh_json.specs.declared.position.Key.{Key}
-use Rattle.borsh_json.specs.declared.position.Key.TheVariants.{None as NoKey, Name, Entry as EntryOf}
-use Rattle.borsh_json.specs.declared.position.Part.{Part as FoundPart}
-use Rattle.borsh_json.specs.declared.position.Parts.{Parts}
-use Rattle.borsh_json.specs.declared.position.Parts.TheVariants.{Root, List as Elements, Row, Object, Entries as MapEntries, Newtype, Some as Present, Variant}
-use Rattle.borsh_json.specs.declared.position.Place.{Place}
-use Rattle.borsh_json.specs.declared.sources.EntryKey.{EntryKey}
-use Rattle.borsh_json.specs.declared.sources.EntryKey.TheVariants.{Text as TextKey, Rank}
-use Rattle.borsh_json.specs.declared.sources.Source.{Source}
-use Rattle.borsh_json.specs.declared.sources.Source.TheVariants.{One, Items as TheItems, Members as TheMembers, Entries as InPlace, Texts, Ranks}
-use Rattle.borsh_json.specs.Forms.{Form, named, form_of, shape_of_form}
-use Rattle.borsh_json.specs.Found.{forms_of, names_of}
-use Rattle.borsh_json.specs.Descents.{PrimitivesDescend}
-use Rattle.borsh_json.specs.InOrder.{Step, field as field_step, place as place_step, element as element_step, variant as variant_step, AreSteps, BeginsParts, IsReached, InOrder}
-use Rattle.borsh_json.specs.NoValue.{step_of, path_steps, RepeatsKey, FailsHere, LacksField, HasOther, Why, FailsAt, SaysNothing}
-use Rattle.borsh_json.specs.Orders.{ArePrimitives}
-use Rattle.borsh_json.specs.Places.{IsAt, AreKeysOf}
-use Rattle.borsh_json.specs.Ranks.{HasRank}
-use Rattle.borsh_json.specs.Represents.{SaysFirst, HaveBytes}
-use Rattle.borsh_json.specs.Table.{Lengths, Keys, Kind, byte_list, list, row, inner, fields, optional, variants, entries, HasKind, Part as JsonPart, row_parts, list_parts, field_parts, Entry, entries_of, key_order, key_json, entry_parts, IsVariant, IsWhole, IsPrefixed, IsArray, Says}
+use Rattle.borsh_json.specs.{declared.definitions.Definitions.{Definitions}, declared.error.PartError.{PartError}, declared.error.PartError.TheVariants.{OutOfMemory as NoMemory, Refused as RefusedPart}, declared.error.ReadError.{ReadError}, declared.error.ReadError.TheVariants.{OutOfMemory, Refused}, declared.error.Refusal.{Refusal}, declared.error.Refusal.TheVariants.{Expected, RepeatedKey}, Errors.{IsUnreadable}, declared.kinds.Elements.{Elements as FoundElements}, declared.kinds.KeyKind.{KeyKind}, declared.kinds.KeyKind.TheVariants.{Text as TextKeys, Number as NumberKeys}, declared.numbers.Number.{Number}, declared.order.Ordered.{Ordered}, declared.opening.Array.{Array}, declared.opening.Array.TheVariants.{No, TooLong, Of}, declared.opening.Frame.{Frame}, declared.parts.Next.{Next}, declared.parts.Next.TheVariants.{Part, Missing, End}, declared.parts.Reading.{Reading}, declared.position.Key.{Key}, declared.position.Key.TheVariants.{None as NoKey, Name, Entry as EntryOf}, declared.position.Part.{Part as FoundPart}, declared.position.Parts.{Parts}, declared.position.Parts.TheVariants.{Root, List as Elements, Row, Object, Entries as MapEntries, Newtype, Some as Present, Variant}, declared.position.Place.{Place}, declared.sources.EntryKey.{EntryKey}, declared.sources.EntryKey.TheVariants.{Text as TextKey, Rank}, declared.sources.Source.{Source}, declared.sources.Source.TheVariants.{One, Items as TheItems, Members as TheMembers, Entries as InPlace, Texts, Ranks}, Forms.{Form, named, form_of, shape_of_form}, Found.{forms_of, names_of}, Descents.{PrimitivesDescend}, InOrder.{Step, field as field_step, place as place_step, element as element_step, variant as variant_step, AreSteps, BeginsParts, IsReached, InOrder}, NoValue.{step_of, path_steps, RepeatsKey, FailsHere, LacksField, HasOther, Why, FailsAt, SaysNothing}, Orders.{ArePrimitives}, Places.{IsAt, AreKeysOf}, Ranks.{HasRank}, Represents.{SaysFirst, HaveBytes}, Table.{Lengths, Keys, Kind, byte_list, list, row, inner, fields, optional, variants, entries, HasKind, Part as JsonPart, row_parts, list_parts, field_parts, Entry, entries_of, key_order, key_json, entry_parts, IsVariant, IsWhole, IsPrefixed, IsArray, Says}}
 
 -- ---- errors
 

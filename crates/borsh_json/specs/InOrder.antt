@@ -2,12 +2,7 @@
 use Rattle.std.specs.Prelude.{◌≡◌, ◌⊎◌, ℕ, suc, ◌≤◌, ◌+◌, ◌*◌, List, [], ◌∷◌, ◌++◌, length, codes, Option, Some, slice_get}
 use Rattle.json.specs.Json.{Json, array, object, Items, Members, no_members, member, document}
 use Rattle.borsh_walks.specs.Container.{Member}
-use Rattle.borsh_json.specs.Descents.{HasKeys}
-use Rattle.borsh_json.specs.Forms.{Form, shapes}
-use Rattle.borsh_json.specs.Found.{IsSet}
-use Rattle.borsh_json.specs.Ordered.{a_value, IsAtLeast}
-use Rattle.borsh_json.specs.Represents.{HaveBytes}
-use Rattle.borsh_json.specs.Table.{Lengths, Kind, byte_list, list, row, inner, fields, optional, variants, entries, HasKind, Part, list_parts, field_parts, IsHex, Says}
+use Rattle.borsh_json.specs.{Descents.{HasKeys}, Forms.{Form, shapes}, Found.{IsSet}, Ordered.{a_value, IsAtLeast}, Represents.{HaveBytes}, Table.{Lengths, Kind, byte_list, list, row, inner, fields, optional, variants, entries, HasKind, Part, list_parts, field_parts, IsHex, Says}}
 
 -- ---- the parts of JSON, by their paths
 

@@ -1,22 +1,9 @@
 -- Why a text says no value, or says one that isn't read: what an error of `from_json` says.
-use Rattle.std.specs.Prelude.{◌≡◌, ◌⊎◌, ⊤, ℕ, ℤ, ◌≤◌, List, [], ◌∷◌, ◌++◌, map, string_bytes, true, false, Option, Some, None, IsSome, slice_get}
-use Rattle.std.specs.List.{list_any}
-use Rattle.std.specs.Str.{bytes_eq}
-use Rattle.json.specs.Json.{Json, string, object, Members, no_members, member, document}
-use Rattle.json.specs.Find.{get_member}
+use Rattle.std.specs.{Prelude.{◌≡◌, ◌⊎◌, ⊤, ℕ, ℤ, ◌≤◌, List, [], ◌∷◌, ◌++◌, map, string_bytes, true, false, Option, Some, None, IsSome, slice_get}, List.{list_any}, Str.{bytes_eq}}
+use Rattle.json.specs.{Json.{Json, string, object, Members, no_members, member, document}, Find.{get_member}}
 use Rattle.borsh_walks.specs.Container.{Member}
-use Rattle.borsh_values.specs.Membership.{IsUndecided}
-use Rattle.borsh_values.specs.declared.faults.Path.{Path}
-use Rattle.borsh_values.specs.declared.faults.PathStep.{PathStep}
-use Rattle.borsh_values.specs.declared.faults.PathStep.TheVariants.{Field, Place, Element, Variant}
-use Rattle.borsh_json.specs.declared.error.JsonError.{JsonError}
-use Rattle.borsh_json.specs.declared.error.JsonError.TheVariants.{OutOfMemory, NoMember, NoValue, Ambiguous, NotJson, Refused}
-use Rattle.borsh_json.specs.declared.error.Refusal.{Refusal}
-use Rattle.borsh_json.specs.declared.error.Refusal.TheVariants.{TooDeep, RepeatedName, EmptyElements, Descends, Expected, MissingField, UnknownName, RepeatedKey, Undefined}
-use Rattle.borsh_json.specs.Forms.{Form, shapes}
-use Rattle.borsh_json.specs.InOrder.{Step, field, place, element, variant, IsReached, Falls}
-use Rattle.borsh_json.specs.Represents.{HaveBytes, SaysFirst, SaysSome}
-use Rattle.borsh_json.specs.Table.{Lengths, Keys, fields, variants, entries, HasKind, HasEmptyElements, RepeatsName, Part, Entry, entries_of, key_json, IsVariant}
+use Rattle.borsh_values.specs.{Membership.{IsUndecided}, declared.faults.Path.{Path}, declared.faults.PathStep.{PathStep}, declared.faults.PathStep.TheVariants.{Field, Place, Element, Variant}}
+use Rattle.borsh_json.specs.{declared.error.JsonError.{JsonError}, declared.error.JsonError.TheVariants.{OutOfMemory, NoMember, NoValue, Ambiguous, NotJson, Refused}, declared.error.Refusal.{Refusal}, declared.error.Refusal.TheVariants.{TooDeep, RepeatedName, EmptyElements, Descends, Expected, MissingField, UnknownName, RepeatedKey, Undefined}, Forms.{Form, shapes}, InOrder.{Step, field, place, element, variant, IsReached, Falls}, Represents.{HaveBytes, SaysFirst, SaysSome}, Table.{Lengths, Keys, fields, variants, entries, HasKind, HasEmptyElements, RepeatsName, Part, Entry, entries_of, key_json, IsVariant}}
 
 -- ---- the path of a refusal
 

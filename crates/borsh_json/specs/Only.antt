@@ -1,8 +1,6 @@
 -- Values whose definitions go with their bytes in one way only.
 use Rattle.std.specs.Prelude.{◌≡◌, ℕ, List, [], ◌∷◌, ◌++◌, Option, Some}
-use Rattle.borsh_values.specs.Nodes.{Opens}
-use Rattle.borsh_values.specs.Cursor.{HasOneTag, OnlyEmpty, OpensOnce}
-use Rattle.borsh_values.specs.Walks.{IsCounted}
+use Rattle.borsh_values.specs.{Nodes.{Opens}, Cursor.{HasOneTag, OnlyEmpty, OpensOnce}, Walks.{IsCounted}}
 use Rattle.borsh_json.specs.Forms.{Form, shape_of_form, shapes, HasNoBytes}
 
 module _ (F : List ℕ → Option Form) where

@@ -1,25 +1,10 @@
 -- The rows of a value, and what each says of its bytes.
-use Rattle.std.specs.Prelude.{◌≡◌, ◌⊎◌, ⊤, ℕ, ℤ, ◌+◌, ◌<◌, ◌==◌, List, [], ◌∷◌, ◌++◌, length, map, take, drop, false, codes, if◌then◌else◌, Option, Some, MatchOption, slice_get, IsUtf8}
-use Rattle.std.specs.Borrow.{Bor}
-use Rattle.std.specs.BTreeMap.{get_by_text}
-use Rattle.std.specs.Fmt.{decimal}
+use Rattle.std.specs.{Prelude.{◌≡◌, ◌⊎◌, ⊤, ℕ, ℤ, ◌+◌, ◌<◌, ◌==◌, List, [], ◌∷◌, ◌++◌, length, map, take, drop, false, codes, if◌then◌else◌, Option, Some, MatchOption, slice_get, IsUtf8}, Borrow.{Bor}, BTreeMap.{get_by_text}, Fmt.{decimal}}
 use Rattle.borsh_walks.specs.Container.{Member, sequence as counted_sequence}
-use Rattle.borsh_plan.specs.Plan.{definitions_of, map_of, root_of}
-use Rattle.borsh_values.specs.Nodes.{IsCountOf}
-use Rattle.borsh_values.specs.Preorder.{GivesNode, bytes_left, levels_left, plan_of, next_offset}
-use Rattle.borsh_values.specs.declared.{faults.Path.Path, preorder.Preorder.Preorder}
+use Rattle.borsh_plan.specs.{Plan.{definitions_of, map_of, root_of}, declared.plan.Plan.{Plan}}
+use Rattle.borsh_values.specs.{Nodes.{IsCountOf}, Preorder.{GivesNode, bytes_left, levels_left, plan_of, next_offset}, declared.{faults.Path.Path, preorder.Preorder.Preorder}, Tags.{IsVariantIndex}, declared.nodes.Node.{Node}}
 use Rattle.json.specs.Json.{max_depth}
-use Rattle.borsh_json.specs.declared.error.JsonError.TheVariants.{Refused}
-use Rattle.borsh_values.specs.Tags.{IsVariantIndex}
-use Rattle.borsh_plan.specs.declared.plan.Plan.{Plan}
-use Rattle.borsh_values.specs.declared.nodes.Node.{Node}
-use Rattle.borsh_json.specs.declared.error.JsonError.{JsonError}
-use Rattle.borsh_json.specs.declared.rows.Rows.{Rows}
-use Rattle.borsh_json.specs.Errors.{IsNoRowsReason}
-use Rattle.borsh_json.specs.Floats.{IsFloatText, IsNan}
-use Rattle.borsh_json.specs.Forms.{Form, primitive, sequence, choice, IsByte}
-use Rattle.borsh_json.specs.Places.{lengths_of}
-use Rattle.borsh_json.specs.Table.{any_length, Kind, no_bytes, truth, whole, float, raw, utf8, byte_list, list, row, inner, fields, optional, variants, entries, primitive_kind, IsWhole}
+use Rattle.borsh_json.specs.{declared.error.JsonError.TheVariants.{Refused}, declared.error.JsonError.{JsonError}, declared.rows.Rows.{Rows}, Errors.{IsNoRowsReason}, Floats.{IsFloatText, IsNan}, Forms.{Form, primitive, sequence, choice, IsByte}, Places.{lengths_of}, Table.{any_length, Kind, no_bytes, truth, whole, float, raw, utf8, byte_list, list, row, inner, fields, optional, variants, entries, primitive_kind, IsWhole}}
 
 -- the plan by which rows are given
 abbrev pub rows_plan : Rows → Bor Plan

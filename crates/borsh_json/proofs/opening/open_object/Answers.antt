@@ -1,10 +1,6 @@
 use Rattle.std.proofs.Common.{map}
-use Rattle.borsh_json.specs.Forms.{field_bytes}
-use Rattle.borsh_json.specs.Table.{fields}
-use Rattle.borsh_json.proofs.EachLaws.{fields_each}
-use Rattle.borsh_json.proofs.OpeningLaws.{said, refuses_keys}
-use Rattle.borsh_json.proofs.PartsLaws.{object_opened}
-use Rattle.borsh_json.proofs.opening.open_object.Goals as goal
+use Rattle.borsh_json.specs.{Forms.{field_bytes}, Table.{fields}}
+use Rattle.borsh_json.proofs.{EachLaws.{fields_each}, OpeningLaws.{said, refuses_keys}, PartsLaws.{object_opened}, opening.open_object.Goals as goal}
 
 pub returns-in-Ok : goal.returns-in-Ok
 returns-in-Ok c F ns x j h b =

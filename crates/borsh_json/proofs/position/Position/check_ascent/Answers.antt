@@ -1,12 +1,5 @@
 use Rattle.std.proofs.Common.{◌≡◌, ◌++◌, ◌∷◌, ◌∙◌, [], List, Option, Some, sym, subst, ℕ}
-use Rattle.borsh_json.specs.declared.error.PartError.{PartError}
-use Rattle.borsh_json.specs.declared.error.PartError.TheVariants.{OutOfMemory, Refused}
-use Rattle.borsh_json.specs.declared.order.Ordered.{Ordered}
-use Rattle.borsh_json.specs.Descents.{PrimitivesDescend}
-use Rattle.borsh_json.specs.Forms.{Form}
-use Rattle.borsh_json.specs.Frames.{HasPath, IsFallOf}
-use Rattle.borsh_json.specs.InOrder.{Step, element}
-use Rattle.borsh_json.specs.Orders.{ArePrimitives}
+use Rattle.borsh_json.specs.{declared.error.PartError.{PartError}, declared.error.PartError.TheVariants.{OutOfMemory, Refused}, declared.order.Ordered.{Ordered}, Descents.{PrimitivesDescend}, Forms.{Form}, Frames.{HasPath, IsFallOf}, InOrder.{Step, element}, Orders.{ArePrimitives}}
 use Rattle.borsh_json.proofs.position.Position.check_ascent.Goals as goal
 
 pub returns-in-None-clause-rises : goal.returns-in-None-clause-rises

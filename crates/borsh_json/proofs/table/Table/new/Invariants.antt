@@ -1,6 +1,5 @@
 use Rattle.std.proofs.Common.{◌≡◌, length, false}
-use Rattle.borsh_json.specs.Found.{forms_of, names_of}
-use Rattle.borsh_json.specs.Orders.{AreFoundKinds, NoneAscends}
+use Rattle.borsh_json.specs.{Found.{forms_of, names_of}, Orders.{AreFoundKinds, NoneAscends}}
 use Rattle.borsh_json.proofs.table.Table.new.Given as goal
 
 abbrev pub invariant-loop-at : goal.invariant-loop-at
