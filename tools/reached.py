@@ -9,11 +9,27 @@ import re
 
 top = pathlib.Path(__file__).resolve().parent.parent
 
-USE = re.compile(r"^ *(?:pub |ghost )?use Rattle\.(\w+)\.specs\.([\w.\-]+?)(?:\.\{([^}]*)\}| as ([\w\-]+));?$", re.M)
+USE = re.compile(r"^ *(pub |ghost )?use Rattle\.(.+?);?$", re.M)
 BEGINS = re.compile(r"^\s*(?:(?:abbrev|pub|data|record|unfoldable|opaque) )+([^\s(){},;:]+)")
 WORDS = re.compile(r"[^\s(){},;:\[\]]+")
 CALL = re.compile(r"^(\s*)pub (?:unsafe )?(?:extern \"C\" )?fn (\w+)")
 IMPL = re.compile(r"^(?:unsafe )?impl(?:<.*?>)? (?:[\w:<>, '\[\]&;()]+ for )?&?(?:mut )?\[?(\w+)")
+
+
+def spread(path):
+    """The paths that a path with braces stands for."""
+    front, brace, inside = path.partition("{")
+    if not brace:
+        yield path.strip()
+        return
+    depth, word = 0, ""
+    for letter in inside[:-1] + ",":
+        depth += {"{": 1, "}": -1}.get(letter, 0)
+        if letter == "," and depth == 0:
+            yield from spread(front + word.strip())
+            word = ""
+        else:
+            word += letter
 
 
 class Names:
@@ -22,14 +38,16 @@ class Names:
     def __init__(self, text):
         self.names, self.modules, self.exports = {}, {}, {}
         for it in USE.finditer(text):
-            crate, file, names, alias = it.groups()
-            if alias:
-                self.modules[alias] = (crate, file)
-            for word in filter(None, (word.strip() for word in (names or "").split(","))):
-                name, _, other = word.partition(" as ")
-                self.names[other or name] = (crate, file, name)
-                if it[0].startswith("pub "):
-                    self.exports[other or name] = (crate, file, name)
+            for path in spread(it[2]):
+                path, _, alias = path.partition(" as ")
+                crate, kind, *rest = path.split(".")
+                if kind != "specs" or not rest:
+                    continue
+                name = alias or rest[-1]
+                self.names[name] = (crate, ".".join(rest[:-1]), rest[-1])
+                self.modules[name] = (crate, ".".join(rest))
+                if it[1] == "pub ":
+                    self.exports[name] = self.names[name]
 
 
 class Definition:

@@ -3,38 +3,11 @@ use Rattle.std.proofs.Common.{◌≡◌, ◌⊎◌, inl, inr, ℕ, suc, zero, �
 use Rattle.std.specs.List.{IsDistinct}
 use Rattle.json.specs.Token.{Token}
 use Rattle.borsh_walks.specs.Container.{Shape, sequence as sequence_shape, product, tag, references}
-use Rattle.borsh_values.specs.Nodes.{packed_size, Opens, OpensElements, IsCountOf}
-use Rattle.borsh_values.specs.Walks.{IsCounted}
+use Rattle.borsh_values.specs.{Nodes.{packed_size, Opens, OpensElements, IsCountOf}, Walks.{IsCounted}}
 use Rattle.borsh_plan.specs.declared.named.Named.{Named}
 use Rattle.borsh_values.proofs.WalkedLaws.{read_count}
-use Rattle.borsh_json.specs.declared.error.WriteError.{WriteError}
-use Rattle.borsh_json.specs.declared.error.WriteError.TheVariants.{Refused}
-use Rattle.borsh_json.specs.declared.error.Refusal.{Refusal}
-use Rattle.borsh_json.specs.declared.kinds.Elements.{Elements as FoundElements}
-use Rattle.borsh_json.specs.declared.kinds.Entries.{Entries as FoundEntries}
-use Rattle.borsh_json.specs.declared.kinds.Flaw.{Flaw}
-use Rattle.borsh_json.specs.declared.kinds.Kind.{Kind as Found}
-use Rattle.borsh_json.specs.declared.kinds.Kind.TheVariants.{List as ListKind, Map as MapKind, Row as RowKind, Newtype as NewtypeKind, Object as ObjectKind, Refused as RefusedKind}
-use Rattle.borsh_json.specs.declared.order.Ordered.{Ordered}
-use Rattle.borsh_json.specs.declared.output.Output.{Output}
-use Rattle.borsh_json.specs.declared.position.Parts.{Parts}
-use Rattle.borsh_json.specs.declared.position.Parts.TheVariants.{Root, List as Elements, Row, Object, Entries as MapEntries, Newtype, Some as Present, Variant}
-use Rattle.borsh_json.specs.declared.position.Place.{Place}
-use Rattle.borsh_json.specs.declared.sources.EntryKey.{EntryKey}
-use Rattle.borsh_json.specs.Forms.{Form, sequence, shape_of_form, shapes, field_bytes, tuple, unnamed, named, no_fields}
-use Rattle.borsh_json.specs.Frames.{Wanted, name_step}
-use Rattle.borsh_json.specs.InOrder.{element, place}
-use Rattle.borsh_json.specs.Inside.{LeadTo}
-use Rattle.borsh_json.specs.Leaves.{IsOpenedAs, RefusesValue, long_of}
-use Rattle.borsh_json.specs.NoJson.{IsAbout, IsNoJson}
-use Rattle.borsh_json.specs.Places.{IsAt, IsUnsayable, IsKindOf, IsRefusalOf, lengths_of}
-use Rattle.borsh_json.specs.Table.{Lengths, list, entries, row, inner, fields}
-use Rattle.borsh_json.specs.Writes.{Rest, items_rest, members_rest, value_rest, entries_rest, names_of_rest, IsFront, BeginsAt, AreCalled, begins_of, IsRestOf, IsRest, WritesValue, WritesStruct, ArePartsOf}
-use Rattle.borsh_json.proofs.FormKinds.{form_known}
-use Rattle.borsh_json.proofs.FrontLaws.{copies, front_written, row_front, newtype_front, object_front, list_front, map_front}
-use Rattle.borsh_json.proofs.OpeningLaws.{flaw_refuses, second_map, second_copies}
-use Rattle.borsh_json.proofs.PartsLaws.{names_of}
-use Rattle.borsh_json.proofs.ReaderLaws.{uncons}
+use Rattle.borsh_json.specs.{declared.error.WriteError.{WriteError}, declared.error.WriteError.TheVariants.{Refused}, declared.error.Refusal.{Refusal}, declared.kinds.Elements.{Elements as FoundElements}, declared.kinds.Entries.{Entries as FoundEntries}, declared.kinds.Flaw.{Flaw}, declared.kinds.Kind.{Kind as Found}, declared.kinds.Kind.TheVariants.{List as ListKind, Map as MapKind, Row as RowKind, Newtype as NewtypeKind, Object as ObjectKind, Refused as RefusedKind}, declared.order.Ordered.{Ordered}, declared.output.Output.{Output}, declared.position.Parts.{Parts}, declared.position.Parts.TheVariants.{Root, List as Elements, Row, Object, Entries as MapEntries, Newtype, Some as Present, Variant}, declared.position.Place.{Place}, declared.sources.EntryKey.{EntryKey}, Forms.{Form, sequence, shape_of_form, shapes, field_bytes, tuple, unnamed, named, no_fields}, Frames.{Wanted, name_step}, InOrder.{element, place}, Inside.{LeadTo}, Leaves.{IsOpenedAs, RefusesValue, long_of}, NoJson.{IsAbout, IsNoJson}, Places.{IsAt, IsUnsayable, IsKindOf, IsRefusalOf, lengths_of}, Table.{Lengths, list, entries, row, inner, fields}, Writes.{Rest, items_rest, members_rest, value_rest, entries_rest, names_of_rest, IsFront, BeginsAt, AreCalled, begins_of, IsRestOf, IsRest, WritesValue, WritesStruct, ArePartsOf}}
+use Rattle.borsh_json.proofs.{FormKinds.{form_known}, FrontLaws.{copies, front_written, row_front, newtype_front, object_front, list_front, map_front}, OpeningLaws.{flaw_refuses, second_map, second_copies}, PartsLaws.{names_of}, ReaderLaws.{uncons}}
 
 -- ---- the steps to parts
 taken : (i : ℕ) → suc i - 1 ≡ i

@@ -3,32 +3,9 @@ use Rattle.std.proofs.Common.{◌≡◌, inl, inr, ℕ, suc, zero, List, [], ◌
 use Rattle.std.specs.Prelude.{IfSome, MatchOption, option_map}
 use Rattle.borsh_walks.specs.Container.{sequence as sequence_shape, product, IsIn, first, later}
 use Rattle.borsh_plan.specs.declared.named.Named.{Named}
-use Rattle.borsh_values.specs.Nodes.{packed_size, Opens, OpensElements}
-use Rattle.borsh_values.specs.Cursor.{OpensOnce}
-use Rattle.borsh_values.specs.Walks.{IsCounted}
-use Rattle.borsh_json.specs.declared.definitions.Definitions.{Definitions}
-use Rattle.borsh_json.specs.declared.kinds.Elements.{Elements as FoundElements}
-use Rattle.borsh_json.specs.declared.kinds.Kind.{Kind as Found}
-use Rattle.borsh_json.specs.declared.kinds.Kind.TheVariants.{Number, Bool as Truth, Text, Bytes, Float, ByteList, Numbers, List as ListKind, Map, Row as RowKind, Newtype as NewtypeKind, Object as ObjectKind, Optional, Choice, Refused}
-use Rattle.borsh_json.specs.declared.order.Ordered.{Ordered}
-use Rattle.borsh_json.specs.declared.position.Parts.{Parts}
-use Rattle.borsh_json.specs.declared.position.Parts.TheVariants.{Root}
-use Rattle.borsh_json.specs.Checked.{Due, one, ascending, NeedsNoOrder, IsOnly, AreChecked, empty, plain, collection, packed, elements_end, next_element}
-use Rattle.borsh_json.specs.Forms.{Form, primitive as primitive_form, sequence as sequence_form, tuple as tuple_form, shape_of_form, shapes, HasNoBytes}
-use Rattle.borsh_json.specs.Found.{forms_of, names_of}
-use Rattle.borsh_json.specs.Frames.{IsListKind}
-use Rattle.borsh_json.specs.Only.{IsOpened}
-use Rattle.borsh_json.specs.Ordered.{a_value, IsAtLeast}
-use Rattle.borsh_json.specs.Orders.{ArePrimitives, HasKeyOrder, KindHasOrder, KindTellsOrder, OrderedBy}
-use Rattle.borsh_json.specs.Descents.{HasKeys, PrimitivesDescend}
-use Rattle.borsh_json.specs.Places.{IsKindOf, lengths_of}
-use Rattle.borsh_json.specs.Table.{Lengths, Kind, truth, whole, float, raw, utf8, byte_list, list, optional, variants, entries, HasKind}
-use Rattle.borsh_json.specs.Writes.{HasNode, Mark, Rest, value_rest, names_of_rest, one_more, AreOwed, none_owed, names_owed, elements_owed, IsCheckedTo, NoneFallsIn}
-use Rattle.borsh_json.proofs.FallLaws.{byte_there, positive}
-use Rattle.borsh_json.proofs.FormKinds.{form_known}
-use Rattle.borsh_json.proofs.FoundLaws.{list_element, zero_part}
-use Rattle.borsh_json.proofs.PackedDescent.{packed_rises}
-use Rattle.borsh_json.proofs.RepresentsLaws.{kind_one}
+use Rattle.borsh_values.specs.{Nodes.{packed_size, Opens, OpensElements}, Cursor.{HasOneTag, OpensOnce}, Walks.{IsCounted}}
+use Rattle.borsh_json.specs.{declared.definitions.Definitions.{Definitions}, declared.kinds.Elements.{Elements as FoundElements}, declared.kinds.Kind.{Kind as Found}, declared.kinds.Kind.TheVariants.{Number, Bool as Truth, Text, Bytes, Float, ByteList, Numbers, List as ListKind, Map, Row as RowKind, Newtype as NewtypeKind, Object as ObjectKind, Optional, Choice, Refused}, declared.order.Ordered.{Ordered}, declared.position.Parts.{Parts}, declared.position.Parts.TheVariants.{Root}, Checked.{Due, one, ascending, NeedsNoOrder, IsOnly, AreChecked, empty, plain, collection, packed, elements_end, next_element}, Forms.{Form, primitive as primitive_form, sequence as sequence_form, tuple as tuple_form, shape_of_form, shapes, HasNoBytes}, Found.{forms_of, names_of}, Frames.{IsListKind}, Only.{IsOpened}, Ordered.{a_value, IsAtLeast}, Orders.{ArePrimitives, HasKeyOrder, KindHasOrder, KindTellsOrder, OrderedBy}, Descents.{HasKeys, PrimitivesDescend}, Places.{IsKindOf, lengths_of}, Table.{Lengths, Kind, truth, whole, float, raw, utf8, byte_list, list, optional, variants, entries, HasKind}, Writes.{HasNode, Mark, Rest, value_rest, names_of_rest, one_more, AreOwed, none_owed, names_owed, elements_owed, IsCheckedTo, NoneFallsIn}}
+use Rattle.borsh_json.proofs.{FallLaws.{byte_there, positive}, FormKinds.{form_known}, FoundLaws.{list_element, zero_part}, PackedDescent.{packed_rises}, RepresentsLaws.{kind_one}}
 
 module _ (F : List ℕ → Option Form) where
   -- ---- values
@@ -50,7 +27,7 @@ module _ (F : List ℕ → Option Form) where
   product_once f ps s = subst (λ d. OpensOnce (shapes F) d [] ps) (sym s) (λ b ms r t o e. (o.0, sym (ap (λ b. b ++ r) o.0) ∙ e, o.1))
 
   pub product_opened : {x : List ℕ} (f : Form) (ps : List (List ℕ)) → (HasNoBytes F x → ⊥) → F x ≡ Some f → shape_of_form f ≡ product ps → IsOpened F x f [] ps
-  product_opened f ps full c s = (full, c, subst (λ s. Opens (shapes F) s [] ps) (sym s) (refl, refl), product_once f ps s, subst (λ s. IsCounted s) (sym s) tt)
+  product_opened f ps full c s = (full, c, subst (λ s. Opens (shapes F) s [] ps) (sym s) (refl, refl), product_once f ps s, subst (λ s. IsCounted s) (sym s) tt, subst (λ s. HasOneTag s []) (sym s) tt)
 
   pub product_free : {x : List ℕ} (ps : List (List ℕ)) → shapes F x ≡ Some (product ps) → NeedsNoOrder F x
   product_free ps c kind h l e k keys = let q : Some (product ps) ≡ Some (sequence_shape 4 0 4294967295 e) = sym c ∙ ap (λ o. option_map shape_of_form o) keys.0 in cc
@@ -67,10 +44,10 @@ module _ (F : List ℕ → Option Form) where
       let q : Some only.0 ≡ Some f = sym only.1 ∙ c in
       let g : only.0 ≡ f = cc in
       let once = subst (λ (f : Form). OpensOnce (shapes F) (shape_of_form f) own parts) g only.2 in
-      (full, c, o, subst (λ l. OpensOnce (shapes F) (shape_of_form f) own l) (sym (once own qs [] [] o refl).2) once, counted)
+      (full, c, o, subst (λ l. OpensOnce (shapes F) (shape_of_form f) own l) (sym (once own qs [] [] o refl).2) once, counted, subst (λ (f : Form). HasOneTag (shape_of_form f) own) g only.3)
 
   pub product_due : {x : List ℕ} (f : Form) (ps : List (List ℕ)) → F x ≡ Some f → shape_of_form f ≡ product ps → (HasNoBytes F x → ⊥) → IsDueAs x [] ps None
-  product_due f ps c s full ds after h = plain [] ps full (product_free ps (ap (λ o. option_map shape_of_form o) c ∙ ap (λ s. Some s) s)) (f, c, product_once f ps s) h
+  product_due f ps c s full ds after h = plain [] ps full (product_free ps (ap (λ o. option_map shape_of_form o) c ∙ ap (λ s. Some s) s)) (f, c, product_once f ps s, subst (λ s. HasOneTag s []) (sym s) tt) h
 
   pub pair_due : (e k v : List ℕ) → F e ≡ Some (tuple_form (k ∷ v ∷ [])) → (HasNoBytes F k → ⊥) → IsDueAs e [] (k ∷ v ∷ []) None
   pair_due e k v c full = product_due (tuple_form (k ∷ v ∷ [])) (k ∷ v ∷ []) c refl (λ z. full (zero_part F (ap (λ o. option_map shape_of_form o) c) z first))
@@ -154,7 +131,7 @@ module _ (d : Definitions) (x : List ℕ) (f : Form) (own : List ℕ) (parts : L
 
   module _ (is : IsOpened F x f own parts) where
     abbrev only : IsOnly F x own parts
-    only = (f, is.1, is.3)
+    only = (f, is.1, is.3, is.5)
 
     free_due : (o : Option Ordered) → NeedsNoOrder F x → IsDueIn o
     free_due o n = (None, (λ ds after c. plain own parts is.0 n only c), tt)

@@ -6,25 +6,8 @@ use Rattle.borsh_walks.specs.Container.{Shape, choice as choice_shape, tag, refe
 use Rattle.borsh_values.specs.Nodes.{Opens, IsVariantOf}
 use Rattle.borsh_plan.specs.declared.named.Named.{Named}
 use Rattle.borsh_values.proofs.WalkedLaws.{read_variant}
-use Rattle.borsh_json.specs.declared.error.WriteError.{WriteError}
-use Rattle.borsh_json.specs.declared.kinds.Kind.TheVariants.{Optional as OptionKind, Choice as ChoiceKind}
-use Rattle.borsh_json.specs.declared.output.Output.{Output}
-use Rattle.borsh_json.specs.declared.position.Parts.TheVariants.{Some as Present, Variant}
-use Rattle.borsh_json.specs.declared.position.Place.{Place}
-use Rattle.borsh_json.specs.Forms.{Form, choice, shape_of_form, shapes, HasNoBytes, variant_bytes}
-use Rattle.borsh_json.specs.InOrder.{variant}
-use Rattle.borsh_json.specs.Inside.{LeadTo}
-use Rattle.borsh_json.specs.Leaves.{IsOpenedAs, WritesLeaf}
-use Rattle.borsh_json.specs.Places.{IsAt, IsKindOf}
-use Rattle.borsh_json.specs.Represents.{SaysFirst}
-use Rattle.borsh_json.specs.Table.{HasKind, optional, variants, IsVariant, this, that}
-use Rattle.borsh_json.specs.Writes.{members_rest, value_rest, BeginsAt, IsWrittenAs, WritesValue}
-use Rattle.borsh_json.proofs.BegunLaws.{value_begun}
-use Rattle.borsh_json.proofs.FormKinds.{form_known}
-use Rattle.borsh_json.proofs.FrameLaws.{get_from, get_map}
-use Rattle.borsh_json.proofs.FrontLaws.{some_front, variant_front}
-use Rattle.borsh_json.proofs.OpeningLaws.{variant_here}
-use Rattle.borsh_json.proofs.PartsLaws.{third_names, variant_part}
+use Rattle.borsh_json.specs.{declared.error.WriteError.{WriteError}, declared.kinds.Kind.TheVariants.{Optional as OptionKind, Choice as ChoiceKind}, declared.output.Output.{Output}, declared.position.Parts.TheVariants.{Some as Present, Variant}, declared.position.Place.{Place}, Forms.{Form, choice, shape_of_form, shapes, HasNoBytes, variant_bytes}, InOrder.{variant}, Inside.{LeadTo}, Leaves.{IsOpenedAs, WritesLeaf}, Places.{IsAt, IsKindOf}, Represents.{SaysFirst}, Table.{HasKind, optional, variants, IsVariant, this, that}, Writes.{members_rest, value_rest, BeginsAt, IsWrittenAs, WritesValue}}
+use Rattle.borsh_json.proofs.{BegunLaws.{value_begun}, FormKinds.{form_known}, FrameLaws.{get_from, get_map}, FrontLaws.{some_front, variant_front}, OpeningLaws.{variant_here}, PartsLaws.{third_names, variant_part}}
 
 -- the only name
 one_in : (F : List ℕ → Option Form) (x : List ℕ) → HasNoBytes F x → (y : List ℕ) → IsIn y (x ∷ []) → HasNoBytes F y

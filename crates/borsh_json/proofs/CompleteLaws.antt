@@ -1,26 +1,8 @@
--- What some JSON represents is only given up: where a part of bytes is refused, they have none.
-use Rattle.std.proofs.Common.{◌≡◌, ◌⊎◌, inl, inr, ℕ, List, [], ◌∷◌, ◌++◌, Option, Some, refl, sym, ◌∙◌, subst, append-nil}
-use Rattle.std.specs.List.{AllByRecursion}
-use Rattle.json.specs.Json.{Json}
-use Rattle.borsh_json.specs.declared.error.JsonError.{JsonError}
-use Rattle.borsh_json.specs.declared.error.JsonError.TheVariants.{OutOfMemory, NoMember, NoValue, Ambiguous, NotJson, Refused}
-use Rattle.borsh_json.specs.declared.error.Refusal.{Refusal}
-use Rattle.borsh_json.specs.declared.error.Refusal.TheVariants.{TooDeep, RepeatedName, EmptyElements, NotBool, NotUtf8, Zero, NotNumber, Descends, Expected, MissingField, UnknownName, RepeatedKey, Undefined}
-use Rattle.borsh_json.specs.Descents.{HasDescent}
-use Rattle.borsh_json.specs.Forms.{Form, tuple}
-use Rattle.borsh_json.specs.InOrder.{Step, whole_value, InOrder, IsRepresented}
-use Rattle.borsh_json.specs.Inside.{IsInside}
-use Rattle.borsh_json.specs.NoJson.{IsAbout, HasNoJsonPart, IsOutOfOrder, RefusesBytes}
-use Rattle.borsh_json.specs.NoValue.{IsGivenUp, path_steps}
-use Rattle.borsh_json.specs.Represents.{HaveBytes, none_left}
-use Rattle.borsh_json.specs.Table.{Kind, no_bytes, row, DefinedKind, HasKind, Part}
-use Rattle.borsh_json.specs.Writes.{Stops}
-use Rattle.borsh_json.proofs.DescentJson.{no_descent}
-use Rattle.borsh_json.proofs.FoundLaws.{full_list}
-use Rattle.borsh_json.proofs.Lockstep.{AreBytes, behind, Match, no_names, silent, named_so, paired}
-use Rattle.borsh_json.proofs.NoJsonLaws.{IsPart, parts_reached, IsInherited, IsSaid, inside_said, not_said}
-use Rattle.borsh_json.proofs.OrderLaws.{clash}
-use Rattle.borsh_json.proofs.ReaderLaws.{uncons}
+-- Where bytes that JSON says are refused, an element of it falls, or they nest too deep.
+use Rattle.std.proofs.Common.{◌≡◌, ◌⊎◌, inl, inr, ℕ, suc, List, [], ◌∷◌, ◌++◌, Option, Some, refl, sym, ◌∙◌, subst}
+use Rattle.json.specs.Json.{Json, null}
+use Rattle.borsh_json.specs.{declared.error.JsonError.{JsonError}, declared.error.JsonError.TheVariants.{OutOfMemory, NoMember, NoValue, Ambiguous, NotJson, Refused}, declared.error.Refusal.{Refusal}, declared.error.Refusal.TheVariants.{TooDeep, RepeatedName, EmptyElements, NotBool, NotUtf8, Zero, NotNumber, Descends, Expected, MissingField, UnknownName, RepeatedKey, Undefined}, Descents.{HasDescent}, Forms.{Form, tuple}, InOrder.{Step, IsReached, Falls, InOrder, IsRepresented}, Inside.{IsInside}, NoJson.{IsNoJson, IsAbout, HasNoJsonPart, IsOutOfOrder, RefusesBytes}, NoValue.{FailsAt, IsGivenUp, path_steps}, Represents.{HaveBytes, next_part}, Table.{Kind, no_bytes, row, DefinedKind, HasKind, Part}, Writes.{Stops}}
+use Rattle.borsh_json.proofs.{DescentJson.{falls_there}, FoundLaws.{full_list}, Lockstep.{AreBytes, behind}, OrderLaws.{clash}, ReachedLaws.{HasParts, nothing, part, entry, IsThere, inside_there}, ReaderLaws.{uncons}}
 
 -- ---- refusals
 module _ (F : List ℕ → Option Form) {x : List ℕ} where
@@ -50,44 +32,47 @@ module _ (F : List ℕ → Option Form) {x : List ℕ} where
   no_tuple (Undefined name) a c = a
 
 module _ (F : List ℕ → Option Form) (root bytes : List ℕ) (j : Json) (small : AreBytes bytes) (says : HaveBytes F ((root, j) ∷ []) bytes) where
-  its_parts : IsInherited F (IsPart F root j)
-  its_parts x i own bs qs ps h s r = parts_reached F root j x i own ps h s.0 s.1 [] qs s.2 none_left r
-
   -- the JSON says each value that begins inside
-  value_there : {n : ℕ} {path : List Step} {before x : List ℕ} (rest : List ℕ) → IsInside F root n path before x → bytes ≡ before ++ rest → (xs : List (List ℕ)) × IsSaid F (IsPart F root j) its_parts [] (x ∷ xs) rest
-  value_there rest i e = inside_said F (IsPart F root j) its_parts [] i rest (subst (λ l. AreBytes l) e small) (subst (λ l. IsSaid F (IsPart F root j) its_parts [] (root ∷ []) l) e (record { parts = (root, j) ∷ []; bytes = bytes; named = named_so no_names; said = says; is = sym (append-nil bytes); each = ((0, [], [], whole_value), tt) }))
+  value_there : {n : ℕ} {path : List Step} {before x : List ℕ} (rest : List ℕ) → IsInside F root n path before x → bytes ≡ before ++ rest → IsThere F root j path before x rest
+  value_there rest i e = inside_there F root j i rest (subst (λ l. AreBytes l) e small) (subst (λ l. HaveBytes F ((root, j) ∷ []) l) e says)
+
+  -- but none that no JSON can say
+  not_said : {path : List Step} {before x : List ℕ} {qs : List Part} (ps : List Part) (own after : List ℕ) → IsNoJson F x own → ((ps : List (List ℕ)) → F x ≡ Some (tuple ps) → ⊥) → HasParts F root j path before x qs → HaveBytes F (qs ++ ps) (own ++ after) → ⊥
+  not_said ps own after n p (nothing z) h = n null ps after (next_part no_bytes [] [] (inl (z, refl)) (refl, refl, refl) h)
+  not_said ps own after n p (part {i = i} m r) h = n i ps after h
+  not_said ps own after n p (entry {k = k} {v = v} m c r g) h = p (k ∷ v ∷ []) c
 
   no_part : (path : List Step) (r : Refusal) → HasNoJsonPart F root bytes path r → ⊥
   no_part path r h =
       let s = value_there (h.3 ++ h.4) h.7 h.6 in
-      let said = subst (λ l. HaveBytes F s.1.parts l) (sym (s.1.is ∙ append-nil s.1.bytes)) s.1.said in
       elim h.8 [
-        | inl a ↦ not_said F (IsPart F root j) its_parts [] h.3 h.4 a.1.1 (λ ps c. no_tuple F r a.1.0 c) s.1.named said
-        | inr a ↦ not_said F (IsPart F root j) its_parts [] h.3 h.4 a.2.9 (λ ps c. elim (tuple_kind F c a.2.5) [ inl e ↦ cc | inr e ↦ cc ]) s.1.named said
+        | inl a ↦ not_said s.others h.3 h.4 a.1.1 (λ ps c. no_tuple F r a.1.0 c) s.has s.said
+        | inr a ↦ not_said s.others h.3 h.4 a.2.9 (λ ps c. elim (tuple_kind F c a.2.5) [ inl e ↦ cc | inr e ↦ cc ]) s.has s.said
       ]
 
-  out_of_order : (path : List Step) → IsOutOfOrder F root bytes path → InOrder F root j → ⊥
-  out_of_order path h o =
+  -- an element of it falls where it isn't above the one before it in the bytes
+  pub descends : (path : List Step) → IsOutOfOrder F root bytes path → FailsAt F root j path Descends
+  descends path h =
       let s = value_there h.4 h.8 h.7 in
-      falls s.1.named (subst (λ l. HaveBytes F s.1.parts l) (sym (s.1.is ∙ append-nil s.1.bytes)) s.1.said) s.1.each h.9
+      let f = falls s.others s.has s.said h.9 in
+      (f.0, h.1, suc h.2, h.3, h.5, f.1, h.6, f.2, f.3)
     where
-      fine : AreBytes h.4
-      fine = behind h.3 h.4 (subst (λ l. AreBytes l) h.7 small)
-
-      falls : {xs : List (List ℕ)} {ps : List Part} → Match F ps (h.5 ∷ xs) → HaveBytes F ps h.4 → AllByRecursion (IsPart F root j) ps → HasDescent F h.5 h.4 h.2 → ⊥
-      falls (silent z m) r a d = full_list F d.keys.0 z
-      falls (paired full c m) r a d = clash (F h.5) c d.keys.0 (λ q. cc)
-      falls (named_so {j = i} {ps = ps} m) r a d = let u = uncons F r in no_descent F h.5 i u.0 u.2 u.1 ps u.4.0 u.4.1 u.4.2 u.5 (subst (λ l. AreBytes l) u.3 fine) (λ index f. o a.0.0 a.0.1 a.0.2 h.5 i a.0.3 index f) h.2 (subst (λ l. HasDescent F h.5 l h.2) u.3 d)
+      falls : {qs : List Part} (ps : List Part) → HasParts F root j h.1 h.3 h.5 qs → HaveBytes F (qs ++ ps) h.4 → HasDescent F h.5 h.4 h.2 → (n : ℕ) × (i : Json) × IsReached F root j n h.1 h.3 (h.5, i) × Falls F h.5 i (suc h.2)
+      falls ps (nothing z) b d = absurd (full_list F d.keys.0 z)
+      falls ps (entry n c r g) b d = absurd (clash (F h.5) c d.keys.0 (λ q. cc))
+      falls ps (part {i = i} n r) b d =
+          let u = uncons F b in
+          (n, i, r, falls_there F h.5 i u.0 u.2 u.1 ps u.4.0 u.4.1 u.4.2 u.5 (subst (λ l. AreBytes l) u.3 (behind h.3 h.4 (subst (λ l. AreBytes l) h.7 small))) h.2 (subst (λ l. HasDescent F h.5 l h.2) u.3 d))
 
   refused : (path : List Step) (r : Refusal) → RefusesBytes F root bytes path r → InOrder F root j → r ≡ TooDeep
   refused path TooDeep h o = refl
+  refused path Descends h o = let a = descends path h in absurd (o a.0 a.1 a.3 a.4 a.5 a.7 a.2 a.8)
   refused path (RepeatedName name) h o = absurd (no_part path (RepeatedName name) h)
   refused path EmptyElements h o = absurd (no_part path EmptyElements h)
   refused path NotBool h o = absurd (no_part path NotBool h)
   refused path NotUtf8 h o = absurd (no_part path NotUtf8 h)
   refused path Zero h o = absurd (no_part path Zero h)
   refused path NotNumber h o = absurd (no_part path NotNumber h)
-  refused path Descends h o = absurd (out_of_order path h o)
   refused path (Expected wanted) h o = absurd (no_part path (Expected wanted) h)
   refused path MissingField h o = absurd (no_part path MissingField h)
   refused path (UnknownName name) h o = absurd (no_part path (UnknownName name) h)

@@ -1,17 +1,9 @@
 -- The parts of a value whose order isn't told, as its own bytes say them.
-use Rattle.std.proofs.Common.{◌≡◌, ℕ, suc, zero, ◌≤◌, List, [], ◌∷◌, length, map, take, replicate, Option, Some, None, refl, sym, ◌∙◌, ap, subst, ℤ, slice_get, string_bytes}
-use Rattle.std.proofs.Math.Seq.{take-length}
-use Rattle.borsh_walks.specs.Container.{sequence, product, choice, references, variant_names}
-use Rattle.borsh_walks.specs.declared.definition.Fields.{Fields}
-use Rattle.borsh_walks.specs.declared.definition.Fields.TheVariants.{NamedFields, UnnamedFields, Empty}
+use Rattle.std.proofs.{Common.{◌≡◌, ℕ, suc, zero, ◌≤◌, List, [], ◌∷◌, length, map, take, replicate, Option, Some, None, refl, sym, ◌∙◌, ap, subst, ℤ, slice_get, string_bytes}, Math.Seq.{take-length}}
+use Rattle.borsh_walks.specs.{Container.{sequence, product, choice, references, variant_names}, declared.definition.Fields.{Fields}, declared.definition.Fields.TheVariants.{NamedFields, UnnamedFields, Empty}}
 use Rattle.borsh_plan.specs.declared.named.Named.{Named}
-use Rattle.borsh_values.specs.Nodes.{IsCountOf}
-use Rattle.borsh_values.specs.Tags.{number_of}
-use Rattle.borsh_json.specs.declared.order.Pending.TheVariants.{Copies, PartCopies}
-use Rattle.borsh_json.specs.Forms.{Form, form_of_struct, shape_of_form}
-use Rattle.borsh_json.specs.Ordered.{node_size, IsCount, HasParts, IsNode, a_copy, variant_of}
-use Rattle.borsh_json.specs.Orders.{IsPending}
-use Rattle.borsh_json.specs.Places.{IsAt}
+use Rattle.borsh_values.specs.{Nodes.{IsCountOf}, Tags.{number_of}}
+use Rattle.borsh_json.specs.{declared.order.Pending.TheVariants.{Copies, PartCopies}, Forms.{Form, form_of_struct, shape_of_form}, Ordered.{node_size, IsCount, HasParts, IsNode, a_copy, variant_of}, Orders.{IsPending}, Places.{IsAt}}
 
 copies_mapped : (k : ℕ) (e : List ℕ) → map (λ p. a_copy p) (replicate k e) ≡ replicate k (a_copy e)
 copies_mapped zero e = refl

@@ -1,25 +1,11 @@
 -- Values that are read part by part; and two of them, which compare as they do where other bytes follow, if the first is read in one way only.
-use Rattle.std.proofs.Common.{◌≡◌, ◌⊎◌, inl, inr, ℕ, suc, zero, ◌<◌, ◌≤◌, ◌^◌, List, [], ◌∷◌, ◌++◌, length, map, replicate, Bool, true, false, Option, Some, None, refl, sym, ◌∙◌, ap, subst, arith, append_assoc, append-nil}
-use Rattle.std.specs.Prelude.{⊤, ℤ, pos, codes, if◌then◌else◌}
-use Rattle.std.specs.Str.{bytes_eq}
-use Rattle.std.specs.declared.cmp.Ordering.{Ordering}
-use Rattle.std.specs.declared.cmp.Ordering.TheVariants.{Less, Equal, Greater}
-use Rattle.std.proofs.lemmas.Slice.Eq.{bytes_eq-Decides}
-use Rattle.borsh_walks.specs.Container.{Shape, IsListedVariant, first_variant, later_variant, tag, Members}
-use Rattle.borsh_walks.specs.Container as shape
-use Rattle.borsh_values.specs.Nodes.{packed_size, OpensElements, Opens}
-use Rattle.borsh_values.specs.Tags.{number_of}
-use Rattle.borsh_values.specs.Walks.{IsCounted}
-use Rattle.borsh_values.proofs.MemberLaws.{copies_of, member_as, members_head, no_more, one_count, same_front}
-use Rattle.borsh_values.proofs.TagLaws.{value_low}
-use Rattle.borsh_json.specs.Forms.{Form, primitive, sequence, tuple, choice, named, unnamed, no_fields, shape_of_form, shapes, HasNoBytes, IsList, IsOption}
-use Rattle.borsh_json.specs.Only.{AreOnly, none_only, empty_only, opened_only}
-use Rattle.borsh_json.specs.Ordered.{Order, single, numbers, text, array, list, parts, other, OrdersBytes, HasOrder, Compared, a_value, a_copy, elements, IsCount, IsNode, IsCopy, variant_of, Fronts, FrontsOf, IsAtLeast, all_equal, first_above, first_equal}
-use Rattle.borsh_json.proofs.FormKinds.{shaped}
-use Rattle.borsh_json.proofs.FoundLaws.{full_primitive}
-use Rattle.borsh_json.proofs.NameLaws.{packed_primitive}
-use Rattle.borsh_json.proofs.OrderLaws.{moved}
-use Rattle.borsh_json.proofs.OrderNumbers.{long_tag, one_low}
+use Rattle.std.proofs.{Common.{◌≡◌, ◌⊎◌, inl, inr, ℕ, suc, zero, ◌<◌, ◌≤◌, ◌^◌, List, [], ◌∷◌, ◌++◌, length, map, replicate, Bool, true, false, Option, Some, None, refl, sym, ◌∙◌, ap, subst, arith, append_assoc, append-nil}, lemmas.Slice.Eq.{bytes_eq-Decides}}
+use Rattle.std.specs.{Prelude.{⊤, ℤ, pos, codes, if◌then◌else◌}, Str.{bytes_eq}, declared.cmp.Ordering.{Ordering}, declared.cmp.Ordering.TheVariants.{Less, Equal, Greater}}
+use Rattle.borsh_walks.specs.{Container.{Shape, IsListedVariant, first_variant, later_variant, tag, Members}, Container as shape}
+use Rattle.borsh_values.specs.{Nodes.{packed_size, OpensElements, Opens}, Tags.{number_of}, Walks.{IsCounted}}
+use Rattle.borsh_values.proofs.{MemberLaws.{copies_of, member_as, members_head, no_more, one_count, same_front}, TagLaws.{value_low}}
+use Rattle.borsh_json.specs.{Forms.{Form, primitive, sequence, tuple, choice, named, unnamed, no_fields, shape_of_form, shapes, HasNoBytes, IsList, IsOption}, Only.{AreOnly, none_only, empty_only, opened_only}, Ordered.{Order, single, numbers, text, array, list, parts, other, OrdersBytes, HasOrder, Compared, a_value, a_copy, elements, IsCount, IsNode, IsCopy, variant_of, Fronts, FrontsOf, IsAtLeast, all_equal, first_above, first_equal}}
+use Rattle.borsh_json.proofs.{FormKinds.{shaped}, FoundLaws.{full_primitive}, NameLaws.{packed_primitive}, OrderLaws.{moved}, OrderNumbers.{long_tag, one_low}}
 
 -- a value of the definition begins with these own bytes and has these parts; the elements of a list are parts, also primitives
 abbrev pub Front : Shape → List ℕ → List (List ℕ) → Type 0
@@ -121,7 +107,7 @@ module _ (F : List ℕ → Option Form) where
   only_read none_only = nothing_read
   only_read (empty_only z a) = empty_read z.1 (only_read a)
   only_read (opened_only (primitive n) own ps o a) = node_read (primitive n) own ps o.0 o.1 o.2 (λ t. tt) (only_read a)
-  only_read (opened_only {x = x} {bs = bs} {xs = xs} (sequence w lo hi e) own ps (full, c, (k, cs, low, high, is, opens), once, counted) a) =
+  only_read (opened_only {x = x} {bs = bs} {xs = xs} (sequence w lo hi e) own ps (full, c, (k, cs, low, high, is, opens), once, counted, alone) a) =
       subst (λ l. IsRead true (x ∷ xs) l) (sym (ap (λ l. l ++ bs) is ∙ append_assoc (tag w (pos k)) cs bs))
       (node_read (sequence w lo hi e) (tag w (pos k)) (replicate k e) full c (k, [], low, high, sym (append-nil (tag w (pos k))), (refl, refl)) (λ t. counted) (elements_read xs ps (packed_size (shapes F e)) k e cs refl opens (only_read a)))
   only_read (opened_only (tuple xs) own ps o a) = node_read (tuple xs) own ps o.0 o.1 o.2 (λ t. tt) (only_read a)

@@ -1,14 +1,6 @@
 -- Texts without a zero in front are what their numbers print.
-use Rattle.std.proofs.Common.{◌≡◌, ◌⊎◌, inl, inr, ℕ, suc, zero, ◌+◌, ◌*◌, ◌/◌, ◌%◌, ◌<◌, ◌≤◌, ◌^◌, List, [], ◌∷◌, ◌++◌, drop, Bool, true, false, cond, eqb, refl, sym, ◌∙◌, ap, subst, arith, append_assoc, ℤ, pos, negsuc, neg_ℤ, Option, Result, Ok, Err, MatchOption, FitsSigned, append-nil}
-use Rattle.std.specs.Fmt.{decimal, signed_decimal}
-use Rattle.std.specs.Char.{digit_value}
-use Rattle.std.specs.Int.{w128}
-use Rattle.std.specs.Result.{result_ok}
-use Rattle.std.specs.Str.Parse.{AllDigits, IsNumeral, digits_value, digits_value_after, signed_digits_value, without_leading_plus, without_leading_sign, ParsesUnsigned, ParsesSigned}
-use Rattle.std.proofs.lemmas.Fmt.{decimal_is_IsNumeral_wide, decimal_digit, decimal_step_wide, decimal_by_steps_wide, parse-decimal_wide}
-use Rattle.std.proofs.lemmas.Result.{Ok-from_Ok_iff}
-use Rattle.std.proofs.lemmas.Str.{digit_value_digit}
-use Rattle.std.proofs.lemmas.Str.Parse.{digit_from_value, numerals_by_value, tells_digits, parse_signed_minus, parse_signed_digits}
+use Rattle.std.proofs.{Common.{◌≡◌, ◌⊎◌, inl, inr, ℕ, suc, zero, ◌+◌, ◌*◌, ◌/◌, ◌%◌, ◌<◌, ◌≤◌, ◌^◌, List, [], ◌∷◌, ◌++◌, drop, Bool, true, false, cond, eqb, refl, sym, ◌∙◌, ap, subst, arith, append_assoc, ℤ, pos, negsuc, neg_ℤ, Option, Result, Ok, Err, MatchOption, FitsSigned, append-nil}, lemmas.Fmt.{decimal_is_IsNumeral_wide, decimal_digit, decimal_step_wide, decimal_by_steps_wide, parse-decimal_wide}, lemmas.Result.{Ok-from_Ok_iff}, lemmas.Str.{digit_value_digit}, lemmas.Str.Parse.{digit_from_value, numerals_by_value, tells_digits, parse_signed_minus, parse_signed_digits}}
+use Rattle.std.specs.{Fmt.{decimal, signed_decimal}, Char.{digit_value}, Int.{w128}, Result.{result_ok}, Str.Parse.{AllDigits, IsNumeral, digits_value, digits_value_after, signed_digits_value, without_leading_plus, without_leading_sign, ParsesUnsigned, ParsesSigned}}
 use Rattle.borsh_json.specs.Ranks.{IsLeading, HasNoLeadingZero}
 
 -- ---- how printed numbers begin

@@ -1,35 +1,12 @@
--- Sets and maps of which two elements don't ascend have no JSON in order.
+-- Sets and maps of which two elements don't ascend: in the JSON that says them an element falls.
 use Rattle.std.proofs.Common.{◌≡◌, inl, inr, ℕ, suc, zero, ◌≤◌, ◌^◌, List, [], ◌∷◌, ◌++◌, length, map, take, drop, replicate, Bool, true, false, Option, Some, refl, sym, ◌∙◌, ap, subst, arith, append_assoc, append-nil, length-append}
-use Rattle.std.specs.Prelude.{⊤, ℤ, pos, codes}
-use Rattle.std.specs.List.{AllByRecursion}
-use Rattle.std.specs.List.Sorted.{IsStrictlySortedBy}
-use Rattle.std.specs.declared.cmp.Ordering.TheVariants.{Less}
+use Rattle.std.specs.{Prelude.{ℤ, pos, codes}, List.Sorted.{IsStrictlySortedBy}, declared.cmp.Ordering.TheVariants.{Less}}
 use Rattle.json.specs.Json.{Json, null, array, Items}
 use Rattle.borsh_walks.specs.Container.{first, later, first_variant, later_variant, tag}
 use Rattle.borsh_values.specs.Nodes.{Opens}
 use Rattle.borsh_values.proofs.MemberLaws.{copies_of, same_front}
-use Rattle.borsh_json.specs.Descents.{HasDescent, PrimitivesDescend}
-use Rattle.borsh_json.specs.Forms.{Form, primitive, sequence, tuple, choice, named, unnamed, no_fields, shape_of_form, shapes, HasNoBytes, IsByte, IsMap}
-use Rattle.borsh_json.specs.Frames.{IsListKind}
-use Rattle.borsh_json.specs.InOrder.{Falls}
-use Rattle.borsh_json.specs.Only.{AreOnly, none_only, empty_only, opened_only}
-use Rattle.borsh_json.specs.Ordered.{a_value, IsAtLeast}
-use Rattle.borsh_json.specs.Represents.{SaysFirst, HaveBytes, none_left, next_part}
-use Rattle.borsh_json.specs.Table.{Lengths, Keys, texts, numbers, Kind, utf8, byte_list, row, entries, IsHex, AreKeys, SequenceKind, a_text, some_bytes, an_object, some_elements, nullable, by_name, primitive_kind, DefinedKind, HasKind, Part, list_parts, Entry, entry_parts, key_json, key_order, IsArray, Says}
-use Rattle.borsh_json.proofs.BytesFall.{bytes_fallen}
-use Rattle.borsh_json.proofs.CutLaws.{Front, IsRead, nothing_read, empty_read, node_read, copies_read, only_read, shorter}
-use Rattle.borsh_json.proofs.DescentLaws.{front_of, packed_alone}
-use Rattle.borsh_json.proofs.FormKinds.{form_known, map_elements, shaped}
-use Rattle.borsh_json.proofs.FoundLaws.{full_list, full_primitive, zero_part}
-use Rattle.borsh_json.proofs.InOrderLaws.{IsKindOfList, list_kind, keys_one, string_no_set}
-use Rattle.borsh_json.proofs.KeyRanks.{keys_rise, key_parts}
-use Rattle.borsh_json.proofs.LeafLaws.{primitive_sized}
-use Rattle.borsh_json.proofs.Lockstep.{AreBytes, behind, before as bytes_before, AreNamed, list_named, named_front, defined, Match, no_names, silent, named_so, paired, match_list, match_entries, match_row, match_fields, listed, sized, longer, in_four, array_counts}
-use Rattle.borsh_json.proofs.NameLaws.{keys_full}
-use Rattle.borsh_json.proofs.NoJsonLaws.{values_passed}
-use Rattle.borsh_json.proofs.OrderLaws.{clash}
-use Rattle.borsh_json.proofs.OrderNumbers.{long_tag, one_low}
-use Rattle.borsh_json.proofs.ReaderLaws.{split, uncons}
+use Rattle.borsh_json.specs.{Descents.{HasDescent, PrimitivesDescend}, Forms.{Form, primitive, sequence, tuple, choice, named, unnamed, no_fields, shape_of_form, shapes, HasNoBytes, IsByte, IsMap}, Frames.{IsListKind}, InOrder.{Falls}, Only.{AreOnly, none_only, empty_only, opened_only}, Ordered.{a_value, IsAtLeast}, Represents.{SaysFirst, HaveBytes, none_left, next_part}, Table.{Lengths, Keys, texts, numbers, Kind, utf8, byte_list, row, entries, IsHex, AreKeys, SequenceKind, a_text, some_bytes, an_object, some_elements, nullable, by_name, primitive_kind, DefinedKind, HasKind, Part, list_parts, Entry, entry_parts, key_json, key_order, IsArray, Says}}
+use Rattle.borsh_json.proofs.{BytesFall.{bytes_fallen}, CutLaws.{Front, IsRead, nothing_read, empty_read, node_read, copies_read, only_read, shorter}, DescentLaws.{front_of, packed_alone}, FormKinds.{form_known, map_elements, shaped}, FoundLaws.{full_list, full_primitive, zero_part}, InOrderLaws.{IsKindOfList, list_kind, keys_one, string_no_set}, KeyRanks.{keys_rise, key_parts}, LeafLaws.{primitive_sized}, Lockstep.{AreBytes, behind, before as bytes_before, AreNamed, list_named, named_front, defined, Match, no_names, silent, named_so, paired, match_list, match_entries, match_row, match_fields, listed, sized, longer, in_four, array_counts}, NameLaws.{keys_full}, NoJsonLaws.{exact}, OrderLaws.{clash}, OrderNumbers.{long_tag, one_low}, ReachedLaws.{entries_joined}, ReaderLaws.{split, uncons}}
 
 -- ---- lists
 two_of : {A : Type 0} (n : ℕ) (l : List A) → suc (suc n) ≤ length l → (front : List A) × (p : A) × (q : A) × (after : List A) × (l ≡ front ++ p ∷ q ∷ after) × (length front ≡ n)
@@ -47,14 +24,6 @@ cut_front (x ∷ xs) ys (u ∷ us) vs e l =
     let t = cut_front xs ys us vs (let s : xs ++ ys ≡ us ++ vs = cc in s) (omega (arith, l)) in
     (t.0, ap (λ l. x ∷ l) t.1 ∙ ap (λ x. x ∷ (us ++ t.0)) q, t.2)
 
-same_rest : (xs ys r s : List ℕ) → xs ++ r ≡ ys ++ s → r ≡ s → xs ≡ ys
-same_rest xs ys r s e q =
-    let a = ap (λ l. length l) e in
-    let b = length-append xs r in
-    let c = length-append ys s in
-    let d = ap (λ l. length l) q in
-    (same_front xs ys r s e (omega (arith, a, b, c, d))).0
-
 renamed : (p : Part) (y : List ℕ) → p.0 ≡ y → p ≡ (y, p.1)
 renamed (z, j) y e = ap (λ z. (z, j)) e
 
@@ -70,14 +39,6 @@ sorted_two keys (e ∷ front) p q after h = sorted_two keys front p q after h.1
 texts_alone : (keys : Keys) (p q : Entry) → key_order keys p q ≡ Less → key_order keys (p.0, null) (q.0, null) ≡ Less
 texts_alone texts p q h = h
 texts_alone (numbers n) p q h = h
-
-entries_joined : (keys : Keys) (k v : List ℕ) (front after : List Entry) → entry_parts keys k v (front ++ after) ≡ entry_parts keys k v front ++ entry_parts keys k v after
-entries_joined keys k v [] after = refl
-entries_joined keys k v (e ∷ front) after = ap (λ l. (k, key_json keys e.0) ∷ (v, e.1) ∷ l) (entries_joined keys k v front after)
-
-all_true : (qs : List Part) → AllByRecursion (λ (p : Part). ⊤) qs
-all_true [] = tt
-all_true (q ∷ qs) = (tt, all_true qs)
 
 module _ (F : List ℕ → Option Form) where
   -- ---- what JSON says is read part by part
@@ -159,16 +120,6 @@ module _ (F : List ℕ → Option Form) where
       subst (λ o. IsRead F once (k ∷ v ∷ xs) (o ++ bs)) (sym u.0) (subst (λ ps. IsRead F once (ps ++ xs) bs) u.1 r)
 
   -- ---- values that are passed
-  nothing_said : {ps : List Part} {bs : List ℕ} → Match F ps [] → HaveBytes F ps bs → bs ≡ []
-  nothing_said no_names none_left = refl
-
-  -- the JSON of names whose values are opened in one way has their bytes
-  exact : (ys : List (List ℕ)) (mid : List ℕ) (ps : List Part) (m t u : List ℕ) → AreOnly F ys mid → Match F ps ys → HaveBytes F ps m → AreBytes (mid ++ u) → m ++ t ≡ mid ++ u → (m ≡ mid) × (t ≡ u)
-  exact ys mid ps m t u a n h small e =
-      let s = values_passed F (λ p. ⊤) (λ x j own bs qs ps a b c. all_true qs) t {ys = ys} {xs = []} {mid = mid} {rest = u} a small (record { parts = ps; bytes = m; named = subst (λ l. Match F ps l) (sym (append-nil ys)) n; said = h; is = sym e; each = all_true ps }) in
-      let same : t ≡ u = sym (s.is ∙ ap (λ b. b ++ t) (nothing_said s.named s.said)) in
-      (same_rest m mid t u e same, same)
-
   bytes_only : (n : ℕ) (e : List ℕ) {xs : List (List ℕ)} {bs : List ℕ} → F e ≡ Some (primitive 1) → AreOnly F xs bs → xs ≡ replicate n e → length bs ≡ n
   bytes_only zero e c none_only q = refl
   bytes_only (suc n) e c none_only q = let s : [] ≡ e ∷ replicate n e = q in cc
@@ -208,7 +159,7 @@ module _ (F : List ℕ → Option Form) where
   object_of kind m keys k v (some_elements a b y z) q = cc
 
   -- ---- two elements that don't ascend
-  module _ (x : List ℕ) (i : Json) (own bs : List ℕ) (qs ps : List Part) (kind : Kind) (has : HasKind F x kind) (says : Says F kind i own qs) (more : HaveBytes F (qs ++ ps) bs) (small : AreBytes (own ++ bs)) (none : (index : ℕ) → Falls F x i index → ⊥) (passed : ℕ) (d : HasDescent F x (own ++ bs) passed) where
+  module _ (x : List ℕ) (i : Json) (own bs : List ℕ) (qs ps : List Part) (kind : Kind) (has : HasKind F x kind) (says : Says F kind i own qs) (more : HaveBytes F (qs ++ ps) bs) (small : AreBytes (own ++ bs)) (passed : ℕ) (d : HasDescent F x (own ++ bs) passed) where
     abbrev behind_count : List ℕ
     behind_count = d.middle ++ (d.first ++ d.after)
 
@@ -239,12 +190,12 @@ module _ (F : List ℕ → Option Form) where
         let left = behind d.middle (d.first ++ d.after) all in
         let before = subst (λ (n : ℕ). Match F front (replicate n d.e)) k (subst (λ l. Match F front l) (append-nil (replicate m d.e)) (subst (λ (l : List Part). Match F l (replicate m d.e ++ [])) (append-nil front) f)) in
         let s = split F more front ((ones ++ rest) ++ ps) (ap (λ (l : List Part). l ++ ps) q ∙ append_assoc front (ones ++ rest) ps) in
-        let u = exact (replicate passed d.e) d.middle front s.0 s.1 (d.first ++ d.after) d.elements before s.2 all (sym s.4 ∙ is) in
+        let u = exact F (replicate passed d.e) d.middle front s.0 s.1 (d.first ++ d.after) d.elements before s.2 all (sym s.4 ∙ is) in
         let t = split F s.3 ones (rest ++ ps) (append_assoc ones rest ps) in
-        let v = exact (d.e ∷ []) d.first ones t.0 t.1 d.after d.element g t.2 left (sym t.4 ∙ u.1) in
+        let v = exact F (d.e ∷ []) d.first ones t.0 t.1 d.after d.element g t.2 left (sym t.4 ∙ u.1) in
         (subst (λ b. HaveBytes F ones b) v.0 t.2, subst (λ b. HaveBytes F (rest ++ ps) b) v.1 t.3, behind d.first d.after left)
 
-    array_falls : (items : Items) → IsListKind kind → i ≡ array items → qs ≡ list_parts d.e items → ⊥
+    array_falls : (items : Items) → IsListKind kind → i ≡ array items → qs ≡ list_parts d.e items → Falls F x i (suc passed)
     array_falls items l a q =
         let e = d.e in
         let o = array_counts F x e kind i items own qs has d.keys.0 l a says in
@@ -259,7 +210,7 @@ module _ (F : List ℕ → Option Form) where
         let s = apart front (p ∷ []) (r ∷ after) (length front) two.4 two.5 (match_list F e front (named_front e front (p ∷ r ∷ after) names) no_names) (subst (λ y. Match F (p ∷ []) (y ∷ [])) rest.0 (named_so no_names)) c.1 in
         let w = split F s.1 (r ∷ []) (after ++ ps) refl in
         let second = subst (λ (r : Part). HaveBytes F (r ∷ []) w.0) (renamed r e rest.1.0) w.2 in
-        none (suc passed) (inr (record {
+        inr (record {
           e = e;
           k = d.k;
           items = items;
@@ -276,12 +227,12 @@ module _ (F : List ℕ → Option Form) where
           left_says = subst (λ (p : Part). HaveBytes F (p ∷ []) d.first) (renamed p e rest.0) s.0;
           right_says = second;
           falls = keyed_falls w.0 w.1 r.1 second (bytes_before w.0 w.1 (subst (λ l. AreBytes l) w.4 s.2)) w.4;
-        }))
+        })
 
     -- digits
-    digits_fall : (l : Lengths) (cs : List ℕ) → kind ≡ byte_list l d.e → IsHex i cs → own ≡ tag 4 (pos (length cs)) ++ cs → length cs ≤ 4294967295 → IsByte F d.e → ⊥
+    digits_fall : (l : Lengths) (cs : List ℕ) → kind ≡ byte_list l d.e → IsHex i cs → own ≡ tag 4 (pos (length cs)) ++ cs → length cs ≤ 4294967295 → IsByte F d.e → Falls F x i (suc passed)
     digits_fall l cs q hex o h byte = elim d.keys.1 [
-      | inr m ↦ clash (F d.e) byte.1 m.1 (λ z. cc)
+      | inr m ↦ absurd (clash (F d.e) byte.1 m.1 (λ z. cc))
       | inl set ↦ (let c = counted (length cs) cs o h in
           let m = bytes_only passed d.e byte.1 d.elements refl in
           let n = bytes_only 1 d.e byte.1 d.element refl in
@@ -310,7 +261,7 @@ module _ (F : List ℕ → Option Form) where
             falls = alone;
           } in
           let v = bytes_fallen F d.e byte cs (suc passed) fall in
-          none (suc passed) (inl (l, d.e, d.middle, v.0, v.1, after, subst (λ (k : Kind). HasKind F x k) q has, (d.keys.0, set.0), subst (λ b. IsHex i b) v.2 hex, ap suc (sym m), v.3)))
+          inl (l, d.e, d.middle, v.0, v.1, after, subst (λ (k : Kind). HasKind F x k) q has, (d.keys.0, set.0), subst (λ b. IsHex i b) v.2 hex, ap suc (sym m), v.3))
     ]
 
     -- an object
@@ -344,18 +295,18 @@ module _ (F : List ℕ → Option Form) where
         (texts_alone keys p r (sorted_two keys two.0 p r two.3 (subst (λ (es : List Entry). IsStrictlySortedBy (key_order keys) es) two.4 s.4)))
         (subst (λ l. IsAtLeast F (a_value k ∷ []) (left.0 ++ (left.2 ++ d.after)) l) right.3 there)
 
-    none_descends : IsKindOfList F d.e kind → ⊥
-    none_descends (inl (l, q)) =
+    list_falls : IsKindOfList F d.e kind → Falls F x i (suc passed)
+    list_falls (inl (l, q)) =
         let t = text_name kind l (defined F (sequence 4 0 4294967295 d.e) d.keys.0 (full_list F d.keys.0) has) q in
-        elim d.keys.1 [ inl set ↦ string_no_set x d.e t.0 set.0 | inr m ↦ clash (F d.e) t.1.1 m.1 (λ z. cc) ]
-    none_descends (inr (inl (l, inl q))) =
+        absurd (elim d.keys.1 [ inl set ↦ string_no_set x d.e t.0 set.0 | inr m ↦ clash (F d.e) t.1.1 m.1 (λ z. cc) ])
+    list_falls (inr (inl (l, inl q))) =
         let f = form_known F (byte_list l d.e) (sequence 4 0 4294967295 d.e) (subst (λ (kind : Kind). HasKind F x kind) q has) d.keys.0 (λ z. cc) in
         elim (subst (λ (kind : Kind). Says F kind i own qs) q says) [
           | inl s ↦ (let o = in_four F l d.e d.e f.0 (length s.0) s.0 own s.2 in digits_fall l s.0 q s.1 o.1 o.0 f.1)
           | inr s ↦ array_falls s.0 (l, d.e, inr q) s.1 s.2
         ]
-    none_descends (inr (inl (l, inr q))) = let s = subst (λ (kind : Kind). Says F kind i own qs) q says in array_falls s.0 (l, d.e, inl q) s.1 s.2
-    none_descends (inr (inr (l, keys, k, v, q))) = entries_fall l keys k v q
+    list_falls (inr (inl (l, inr q))) = let s = subst (λ (kind : Kind). Says F kind i own qs) q says in array_falls s.0 (l, d.e, inl q) s.1 s.2
+    list_falls (inr (inr (l, keys, k, v, q))) = absurd (entries_fall l keys k v q)
 
-    pub no_descent : ⊥
-    no_descent = none_descends (list_kind F x d.e kind has d.keys.0)
+    pub falls_there : Falls F x i (suc passed)
+    falls_there = list_falls (list_kind F x d.e kind has d.keys.0)

@@ -1,21 +1,11 @@
 -- Neighbours of a set or a map that don't ascend.
-use Rattle.std.proofs.Common.{◌≡◌, ◌⊎◌, inl, inr, ℕ, suc, zero, ◌+◌, ◌-◌, ◌*◌, ◌<◌, ◌≤◌, ◌^◌, List, [], ◌∷◌, ◌++◌, length, map, take, drop, Bool, Option, Some, refl, sym, ◌∙◌, ap, subst, arith, append_assoc, append-nil, length-append, length-drop, length-take-le, take-append-drop, ℤ, pos, All, Decides, true, false, nat_cmp, int_cmp, Ordering, Less, Equal, Greater}
+use Rattle.std.proofs.{Common.{◌≡◌, ◌⊎◌, inl, inr, ℕ, suc, zero, ◌+◌, ◌-◌, ◌*◌, ◌<◌, ◌≤◌, ◌^◌, List, [], ◌∷◌, ◌++◌, length, map, take, drop, Bool, Option, Some, refl, sym, ◌∙◌, ap, subst, arith, append_assoc, append-nil, length-append, length-drop, length-take-le, take-append-drop, ℤ, pos, All, Decides, true, false, nat_cmp, int_cmp, Ordering, Less, Equal, Greater}, Math.Nat.{suc-mul, zero-mul, mul-le-mul_left, mul-le-mul_right}}
 use Rattle.std.specs.Cmp.Lexicographic.{slice_cmp}
-use Rattle.std.proofs.Math.Nat.{suc-mul, zero-mul, mul-le-mul_left, mul-le-mul_right}
 use Rattle.borsh_walks.specs.Container.{tag}
 use Rattle.borsh_values.proofs.MemberLaws.{copies_of, same_front}
-use Rattle.borsh_json.specs.Descents.{PrimitivesDescend, HasKeys, HasDescent}
-use Rattle.borsh_json.specs.Forms.{Form, primitive, shape_of_form, shapes}
-use Rattle.borsh_json.specs.Table.{InRange}
-use Rattle.borsh_json.specs.Ordered.{Fronts, IsNode, a_copy, Order, single, numbers, text, array, list, parts, other, HasOrder, Compared, a_value, FrontsOf, IsAtLeast, all_equal, first_above, first_equal}
+use Rattle.borsh_json.specs.{Descents.{PrimitivesDescend, HasKeys, HasDescent}, Forms.{Form, primitive, shape_of_form, shapes}, Table.{InRange}, Ordered.{Fronts, IsNode, a_copy, Order, single, numbers, text, array, list, parts, other, HasOrder, Compared, a_value, FrontsOf, IsAtLeast, all_equal, first_above, first_equal}, declared.order.Ordered.{Ordered}, Orders.{ArePrimitives, DecidesFall}}
 use Rattle.borsh_plan.specs.declared.named.Named.{Named}
-use Rattle.borsh_json.specs.declared.order.Ordered.{Ordered}
-use Rattle.borsh_json.specs.Orders.{ArePrimitives, DecidesFall}
-use Rattle.borsh_json.proofs.FormKinds.{shaped}
-use Rattle.borsh_json.proofs.FoundLaws.{full_primitive}
-use Rattle.borsh_json.proofs.OnlyLaws.{copies_only}
-use Rattle.borsh_json.proofs.OrderLaws.{clash, front}
-use Rattle.borsh_json.proofs.OrderNumbers.{long_tag}
+use Rattle.borsh_json.proofs.{FormKinds.{shaped}, FoundLaws.{full_primitive}, OnlyLaws.{copies_only}, OrderLaws.{clash, front}, OrderNumbers.{long_tag}}
 
 pub all_left : (P : ℕ → Type 0) (xs ys : List ℕ) → All P (xs ++ ys) → All P xs
 all_left P [] ys h i d l = absurd (omega (arith, l))

@@ -1,22 +1,9 @@
 -- Objects in which no key comes twice.
-use Rattle.std.proofs.Common.{◌≡◌, ◌⊎◌, inl, inr, ℕ, List, [], ◌∷◌, ◌++◌, length, map, Bool, true, false, Option, Some, None, refl, sym, ◌∙◌, ap, subst, arith, length-append, IsSome, cond, is_some, ◌||◌, option_map, option_and_then, nat_cmp, int_cmp, bytes_eq, Less, Equal}
-use Rattle.std.specs.Cmp.Lexicographic.{slice_cmp}
-use Rattle.std.specs.List.{AllByRecursion, IsDistinct, list_any}
-use Rattle.std.specs.List.Sorted.{IsPermutation, IsStrictlySortedBy}
-use Rattle.std.specs.Str.Parse.{signed_digits_value}
-use Rattle.std.proofs.lemmas.Cmp.{nat_list_cmp_total, nat_list_eq_equiv, int_cmp_total, tied_itself}
-use Rattle.std.proofs.lemmas.List.Folds.{list_any-append}
-use Rattle.std.proofs.lemmas.List.Sorted.{IsPermutation-sym}
-use Rattle.std.proofs.lemmas.Map.Keys.{IsDistinct-cons, IsDistinct-head, IsDistinct-tail, IsDistinct-IsPermutation}
-use Rattle.std.proofs.lemmas.Map.Made.{length-le_from_is_member}
-use Rattle.std.proofs.lemmas.Slice.Eq.{bytes_eq-Decides}
-use Rattle.json.specs.Json.{Json, Members, no_members, member}
-use Rattle.json.specs.Find.{get_member, later_or}
-use Rattle.borsh_json.specs.Frames.{HaveOneEach}
-use Rattle.borsh_json.specs.Table.{Keys, texts, numbers, Part, field_parts, Entry, entries_of, key_order}
-use Rattle.borsh_json.proofs.FrameLaws.{length_map}
-use Rattle.borsh_json.proofs.MemberLaws.{or_true}
-use Rattle.borsh_json.proofs.ReaderLaws.{mapped}
+use Rattle.std.proofs.{Common.{◌≡◌, ◌⊎◌, inl, inr, ℕ, List, [], ◌∷◌, ◌++◌, length, map, Bool, true, false, Option, Some, None, refl, sym, ◌∙◌, ap, subst, arith, length-append, IsSome, cond, is_some, ◌||◌, option_map, option_and_then, nat_cmp, int_cmp, bytes_eq, Less, Equal}, lemmas.Cmp.{nat_list_cmp_total, nat_list_eq_equiv, int_cmp_total, tied_itself}, lemmas.List.Folds.{list_any-append}, lemmas.List.Sorted.{IsPermutation-sym}, lemmas.Map.Keys.{IsDistinct-cons, IsDistinct-head, IsDistinct-tail, IsDistinct-IsPermutation}, lemmas.Map.Made.{length-le_from_is_member}, lemmas.Slice.Eq.{bytes_eq-Decides}}
+use Rattle.std.specs.{Cmp.Lexicographic.{slice_cmp}, List.{AllByRecursion, IsDistinct, list_any}, List.Sorted.{IsPermutation, IsStrictlySortedBy}, Str.Parse.{signed_digits_value}}
+use Rattle.json.specs.{Json.{Json, Members, no_members, member}, Find.{get_member, later_or}}
+use Rattle.borsh_json.specs.{Frames.{HaveOneEach}, Table.{Keys, texts, numbers, Part, field_parts, Entry, entries_of, key_order}}
+use Rattle.borsh_json.proofs.{FrameLaws.{length_map}, MemberLaws.{or_true}, ReaderLaws.{mapped}}
 
 -- ---- keys that ascend
 abbrev same_key : Entry → Entry → Bool

@@ -1,28 +1,11 @@
 -- JSON in ASCII is read as the same JSON.
-use Rattle.std.proofs.Common.{◌≡◌, ◌⊎◌, inl, inr, ℕ, ◌<◌, ◌≤◌, Bool, true, false, cond, ◌&&◌, ◌||◌, ◌==◌, nat_lt, List, [], ◌∷◌, ◌++◌, length, drop, get_or, encode_utf8, IsUtf8, All, refl, sym, ◌∙◌, ap, ap₂, subst, arith, append_assoc, length-append, eqb-true, lt-ltb, le-ltb, ne_eqb}
-use Rattle.std.specs.Prelude.{⊤, Option, Some, None, option_and_then}
-use Rattle.std.specs.Char.{IsScalar, is_digit}
+use Rattle.std.proofs.{Common.{◌≡◌, ◌⊎◌, inl, inr, ℕ, ◌<◌, ◌≤◌, Bool, true, false, cond, ◌&&◌, ◌||◌, ◌==◌, nat_lt, List, [], ◌∷◌, ◌++◌, length, drop, get_or, encode_utf8, IsUtf8, All, refl, sym, ◌∙◌, ap, ap₂, subst, arith, append_assoc, length-append, eqb-true, lt-ltb, le-ltb, ne_eqb}, lemmas.Bool.Decides.{nat_tests}, lemmas.Bool.{and_parts, and_from, or_cases, or_parts, true≢false, false≢true}, lemmas.List.Elements.{All-head, All-tail}, lemmas.Str.{cons_from_encodes, encode_ascii, length-encode, len_utf8_bounds}}
+use Rattle.std.specs.{Prelude.{⊤, Option, Some, None, option_and_then}, Char.{IsScalar, is_digit}}
 use lib.Utf8.{encode, scalars}
-use Rattle.std.proofs.lemmas.Bool.Decides.{nat_tests}
-use Rattle.std.proofs.lemmas.Bool.{and_parts, and_from, or_cases, or_parts, true≢false, false≢true}
-use Rattle.std.proofs.lemmas.List.Elements.{All-head, All-tail}
-use Rattle.std.proofs.lemmas.Str.{cons_from_encodes, encode_ascii, length-encode, len_utf8_bounds}
-use Rattle.json.specs.Token.{Token, begin_object, end_object, begin_array, end_array, key, string, number, boolean, null, bad}
-use Rattle.json.specs.Align.{is_good}
-use Rattle.json.specs.Text.{Within, content, plain, after_backslash, after_u, after_high, code_unit, short_escape, prepend, is_high_surrogate, is_low_surrogate, surrogate_pair}
-use Rattle.json.specs.Word.{ends_word, word}
-use Rattle.json.specs.Lex.{Lexeme, token, comma, colon, Class, quote, backslash, operator, space, other, class, operator_lexeme, string_token, Mode, between, in_word, in_string, in_escape, lex_byte, lex}
-use Rattle.json.specs.Lex.{Place, fresh, after_value, after_comma, after_key, begins_colon, may_begin, may_close, if_allowed, place_token, punctuate}
-use Rattle.json.specs.Json.{Json, value, if_last, max_depth, document}
-use Rattle.json.specs.Print.{ArePrintable}
-use Rattle.json.proofs.Found.{not_found}
-use Rattle.json.proofs.Numbered.{document-HasNumbers}
-use Rattle.json.proofs.Printed.Trees.{ArePrintable-json_tokens}
-use Rattle.json.proofs.Printed.Utf8.{are_ascii, IsUtf8-are_ascii}
-use Rattle.json.proofs.Unique.Spelling.{tokens-document}
+use Rattle.json.specs.{Token.{Token, begin_object, end_object, begin_array, end_array, key, string, number, boolean, null, bad}, Align.{is_good}, Text.{Within, content, plain, after_backslash, after_u, after_high, code_unit, short_escape, prepend, is_high_surrogate, is_low_surrogate, surrogate_pair}, Word.{ends_word, word}, Lex.{Lexeme, token, comma, colon, Class, quote, backslash, operator, space, other, class, operator_lexeme, string_token, Mode, between, in_word, in_string, in_escape, lex_byte, lex}, Lex.{Place, fresh, after_value, after_comma, after_key, begins_colon, may_begin, may_close, if_allowed, place_token, punctuate}, Json.{Json, value, if_last, max_depth, document}, Print.{ArePrintable}}
+use Rattle.json.proofs.{Found.{not_found}, Numbered.{document-HasNumbers}, Printed.Trees.{ArePrintable-json_tokens}, Printed.Utf8.{are_ascii, IsUtf8-are_ascii}, Unique.Spelling.{tokens-document}}
 use Rattle.borsh_json.specs.Ascii.{IsPlain, is_plain, is_printable, units_text, character_text}
-use Rattle.borsh_json.proofs.UnitLaws.{IsOther, Others, no_end, other_class, past_in_string, past_in_word, units_read, units_in_string, units_in_escape, units_in_word}
-use Rattle.borsh_json.proofs.WordLaws.{Printed, Stops, word_stops}
+use Rattle.borsh_json.proofs.{UnitLaws.{IsOther, Others, no_end, other_class, past_in_string, past_in_word, units_read, units_in_string, units_in_escape, units_in_word}, WordLaws.{Printed, Stops, word_stops}}
 
 -- ---- printable bytes
 

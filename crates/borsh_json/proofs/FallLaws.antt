@@ -1,45 +1,10 @@
 -- Two neighbours that don't ascend, where the writer is.
-use Rattle.std.proofs.Common.{◌≡◌, inr, ℕ, suc, zero, ◌+◌, ◌<◌, ◌≤◌, List, [], ◌∷◌, ◌++◌, length, replicate, drop, Option, Some, None, refl, sym, ◌∙◌, ap, subst, arith, append_assoc, append-nil, length-append, pos, Bool, true, false, Decides, Result, Ok, Err, IfErr, IfOk, OnOk, MatchBool, MatchOption}
-use Rattle.std.proofs.Math.Seq.{drop-append_seam}
+use Rattle.std.proofs.{Common.{◌≡◌, inr, ℕ, suc, zero, ◌+◌, ◌<◌, ◌≤◌, List, [], ◌∷◌, ◌++◌, length, replicate, drop, Option, Some, None, refl, sym, ◌∙◌, ap, subst, arith, append_assoc, append-nil, length-append, pos, Bool, true, false, Decides, Result, Ok, Err, IfErr, IfOk, OnOk, MatchBool, MatchOption}, Math.Seq.{drop-append_seam}}
 use Rattle.borsh_walks.specs.Container.{Shape, primitive, sequence, product, choice, tag}
-use Rattle.borsh_plan.specs.Plan.{root_of}
+use Rattle.borsh_plan.specs.{Plan.{root_of}, declared.named.Named.{Named}}
 use Rattle.borsh_values.specs.Nodes.{packed_size, Opens, OpensElements, AreElementsOf}
-use Rattle.borsh_json.specs.declared.definitions.Definitions.{Definitions}
-use Rattle.borsh_json.specs.declared.error.PartError.{PartError}
-use Rattle.borsh_json.specs.declared.error.PartError.TheVariants.{OutOfMemory as NoPartMemory, Refused as RefusedPart}
-use Rattle.borsh_json.specs.declared.error.Refusal.TheVariants.{Descends}
-use Rattle.borsh_json.specs.declared.kinds.Elements.{Elements as FoundElements}
-use Rattle.borsh_json.specs.declared.kinds.Kind.TheVariants.{ByteList, Numbers}
-use Rattle.borsh_plan.specs.declared.named.Named.{Named}
-use Rattle.borsh_json.specs.declared.kinds.Entries.{Entries as FoundEntries}
-use Rattle.borsh_json.specs.declared.kinds.KeyKind.{KeyKind}
-use Rattle.borsh_json.specs.declared.kinds.KeyKind.TheVariants.{Text as TextKeys, Number as NumberKeys}
-use Rattle.borsh_json.specs.declared.order.Ascent.{Ascent}
-use Rattle.borsh_json.specs.declared.order.Ordered.{Ordered}
-use Rattle.borsh_json.specs.declared.position.Part.{Part as FoundPart}
-use Rattle.borsh_json.specs.declared.position.Place.{Place}
-use Rattle.borsh_json.specs.declared.sources.EntryKey.{EntryKey}
-use Rattle.borsh_json.specs.declared.writing.Writing.{Writing}
-use Rattle.borsh_json.specs.Descents.{HasDescent, PrimitivesDescend}
-use Rattle.borsh_json.specs.Forms.{Form, sequence as sequence_form, primitive as primitive_form, form_of, shape_of_form, shapes}
-use Rattle.borsh_json.specs.Found.{forms_of, names_of}
-use Rattle.borsh_json.specs.NoJson.{IsOutOfOrder}
-use Rattle.borsh_json.specs.Only.{AreOnly}
-use Rattle.borsh_json.specs.Ordered.{a_value, IsAtLeast}
-use Rattle.borsh_json.specs.Frames.{IsElementFall, IsOf, IsPath, NoneFalls, first_steps}
-use Rattle.borsh_json.specs.InOrder.{Step, element as element_step}
-use Rattle.borsh_json.specs.Inside.{LeadTo}
-use Rattle.borsh_json.specs.Leaves.{IsOpenedAs}
-use Rattle.borsh_json.specs.Orders.{KeysAscend, HasKeyOrder, OrderedBy, KindHasOrder, IsNotBelow, ArePrimitives}
-use Rattle.borsh_json.specs.Places.{IsAt, AreKeysOf, IsKindOf, lengths_of}
-use Rattle.borsh_json.specs.Represents.{SaysFirst}
-use Rattle.borsh_json.specs.Table.{Lengths, Keys, byte_list, list, entries, AreKeys, HasKind, key_json}
-use Rattle.borsh_json.specs.Writes.{IsFullOrFalls, TellsAscent, names_of_rest, opened, steps_to, Nested, IsLast, IsAbove, IsMapOf, IsLastKey, IsWritingAt, NoneFallsIn}
-use Rattle.borsh_json.proofs.FormKinds.{form_found, form_known}
-use Rattle.borsh_json.proofs.NestedLaws.{IsLastPart, last_part}
-use Rattle.borsh_json.proofs.KeyRanks.{keys_at_least}
-use Rattle.borsh_json.proofs.PackedDescent.{packed_descent}
-use Rattle.borsh_json.proofs.WritingPlaces.{TakesEntry}
+use Rattle.borsh_json.specs.{declared.definitions.Definitions.{Definitions}, declared.error.PartError.{PartError}, declared.error.PartError.TheVariants.{OutOfMemory as NoPartMemory, Refused as RefusedPart}, declared.error.Refusal.TheVariants.{Descends}, declared.kinds.Elements.{Elements as FoundElements}, declared.kinds.Kind.TheVariants.{ByteList, Numbers}, declared.kinds.Entries.{Entries as FoundEntries}, declared.kinds.KeyKind.{KeyKind}, declared.kinds.KeyKind.TheVariants.{Text as TextKeys, Number as NumberKeys}, declared.order.Ascent.{Ascent}, declared.order.Ordered.{Ordered}, declared.position.Part.{Part as FoundPart}, declared.position.Place.{Place}, declared.sources.EntryKey.{EntryKey}, declared.writing.Writing.{Writing}, Descents.{HasDescent, PrimitivesDescend}, Forms.{Form, sequence as sequence_form, primitive as primitive_form, form_of, shape_of_form, shapes}, Found.{forms_of, names_of}, NoJson.{IsOutOfOrder}, Only.{AreOnly}, Ordered.{a_value, IsAtLeast}, Frames.{IsElementFall, IsOf, IsPath, NoneFalls, first_steps}, InOrder.{Step, element as element_step}, Inside.{LeadTo}, Leaves.{IsOpenedAs}, Orders.{KeysAscend, HasKeyOrder, OrderedBy, KindHasOrder, IsNotBelow, ArePrimitives}, Places.{IsAt, AreKeysOf, IsKindOf, lengths_of}, Represents.{SaysFirst}, Table.{Lengths, Keys, byte_list, list, entries, AreKeys, HasKind, key_json}, Writes.{IsFullOrFalls, TellsAscent, names_of_rest, opened, steps_to, Nested, IsLast, IsAbove, IsMapOf, IsLastKey, IsWritingAt, NoneFallsIn}}
+use Rattle.borsh_json.proofs.{FormKinds.{form_found, form_known}, NestedLaws.{IsLastPart, last_part}, KeyRanks.{keys_at_least}, PackedDescent.{packed_descent}, WritingPlaces.{TakesEntry}}
 
 -- ---- copies
 copied : (n : ℕ) (e : List ℕ) (xs : List (List ℕ)) → replicate n e ≡ xs → (xs ≡ replicate (length xs) e) × (n ≡ length xs)
@@ -53,7 +18,7 @@ copied (suc n) e (x ∷ xs) h =
     let t = copied n e xs r in
     (ap (λ y. y ∷ xs) (sym q) ∙ ap (λ l. e ∷ l) t.0, ap suc t.1)
 
-parted : (n : ℕ) (e : List ℕ) (xs ys : List (List ℕ)) → replicate n e ≡ xs ++ ys → (xs ≡ replicate (length xs) e) × (ys ≡ replicate (length ys) e) × (n ≡ length xs + length ys)
+pub parted : (n : ℕ) (e : List ℕ) (xs ys : List (List ℕ)) → replicate n e ≡ xs ++ ys → (xs ≡ replicate (length xs) e) × (ys ≡ replicate (length ys) e) × (n ≡ length xs + length ys)
 parted n e [] ys h = let t = copied n e ys h in (refl, t.0, (let l = t.1 in omega (arith, l)))
 parted zero e (x ∷ xs) ys h = let g : [] ≡ x ∷ (xs ++ ys) = h in cc
 parted (suc n) e (x ∷ xs) ys h =

@@ -1,18 +1,10 @@
 -- Whether one primitive isn't below another.
-use Rattle.std.proofs.Common.{◌≡◌, inl, inr, ℕ, suc, ◌<◌, List, [], ◌∷◌, length, Bool, true, false, Option, Some, refl, sym, ◌∙◌, subst, arith, append-nil, ℤ, Decides, int_cmp, is_lt, bytes_eq, Ordering, Less, Equal, Greater}
-use Rattle.std.proofs.lemmas.Slice.Eq.{bytes_eq-Decides}
+use Rattle.std.proofs.{Common.{◌≡◌, inl, inr, ℕ, suc, ◌<◌, List, [], ◌∷◌, length, Bool, true, false, Option, Some, refl, sym, ◌∙◌, subst, arith, append-nil, ℤ, Decides, int_cmp, is_lt, bytes_eq, Ordering, Less, Equal, Greater}, lemmas.Slice.Eq.{bytes_eq-Decides}}
 use Rattle.borsh_walks.specs.Container.{tag}
 use Rattle.borsh_plan.specs.declared.named.Named.{Named}
 use Rattle.borsh_values.proofs.MemberLaws.{same_front}
-use Rattle.borsh_json.specs.declared.order.Ordered.{Ordered}
-use Rattle.borsh_json.specs.declared.order.Ordered.TheVariants.{Single, Number, Text, Array, List as Counted, Tuple, Other}
-use Rattle.borsh_json.specs.Forms.{Form, primitive}
-use Rattle.borsh_json.specs.Ordered.{Order, numbers, other, HasOrder, a_value, IsAtLeast, all_equal}
-use Rattle.borsh_json.specs.Orders.{FindsOrder, IsOrderOf, DecidesFall}
-use Rattle.borsh_json.specs.Table.{InRange}
-use Rattle.borsh_json.proofs.DescentLaws.{packed_order}
-use Rattle.borsh_json.proofs.FoundLaws.{full_primitive}
-use Rattle.borsh_json.proofs.OrderLaws.{Tells, numbers_tell, other_copy, node_tells, differ_tells}
+use Rattle.borsh_json.specs.{declared.order.Ordered.{Ordered}, declared.order.Ordered.TheVariants.{Single, Number, Text, Array, List as Counted, Tuple, Other}, Forms.{Form, primitive}, Ordered.{Order, numbers, other, HasOrder, a_value, IsAtLeast, all_equal}, Orders.{FindsOrder, IsOrderOf, DecidesFall}, Table.{InRange}}
+use Rattle.borsh_json.proofs.{DescentLaws.{packed_order}, FoundLaws.{full_primitive}, OrderLaws.{Tells, numbers_tell, other_copy, node_tells, differ_tells}}
 
 -- a number that was found
 number_of_order : (F : List ℕ → Option Form) (e : List ℕ) (k n : ℕ) (signed : Bool) → HasOrder F e (numbers k signed) → F e ≡ Some (primitive n) → k ≡ n

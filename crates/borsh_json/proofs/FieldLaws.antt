@@ -1,17 +1,9 @@
 -- Fields that come in their order.
-use Rattle.std.proofs.Common.{◌≡◌, ℕ, suc, List, [], ◌∷◌, ◌++◌, length, map, Bool, true, false, Some, None, refl, sym, ◌∙◌, ap, subst, arith, append_assoc, append-nil, string_bytes, cond, String, Global, bytes_eq, Bor}
+use Rattle.std.proofs.{Common.{◌≡◌, ℕ, suc, List, [], ◌∷◌, ◌++◌, length, map, Bool, true, false, Some, None, refl, sym, ◌∙◌, ap, subst, arith, append_assoc, append-nil, string_bytes, cond, String, Global, bytes_eq, Bor}, lemmas.Map.Keys.{IsDistinct-head, IsDistinct-tail}, lemmas.Slice.Eq.{bytes_eq-Decides}}
 use Rattle.std.specs.List.{AllByRecursion, IsDistinct}
-use Rattle.std.proofs.lemmas.Map.Keys.{IsDistinct-head, IsDistinct-tail}
-use Rattle.std.proofs.lemmas.Slice.Eq.{bytes_eq-Decides}
-use Rattle.json.specs.Token.{Token}
-use Rattle.json.specs.Json.{Json, object, Members, no_members, member}
-use Rattle.json.specs.Find.{BeginsWith, InMembers, get_member, later_or}
-use Rattle.borsh_json.specs.declared.sources.Source.TheVariants.{Entries as InPlace}
-use Rattle.borsh_json.specs.Frames.{Wanted, AreNext, HasFields}
-use Rattle.borsh_json.specs.Table.{Entry, entries_of}
-use Rattle.borsh_json.proofs.FrameLaws.{length_map}
-use Rattle.borsh_json.proofs.PartsLaws.{names_of}
-use Rattle.borsh_json.proofs.ReaderLaws.{object_one}
+use Rattle.json.specs.{Token.{Token}, Json.{Json, object, Members, no_members, member}, Find.{BeginsWith, InMembers, get_member, later_or}}
+use Rattle.borsh_json.specs.{declared.sources.Source.TheVariants.{Entries as InPlace}, Frames.{Wanted, AreNext, HasFields}, Table.{Entry, entries_of}}
+use Rattle.borsh_json.proofs.{FrameLaws.{length_map}, PartsLaws.{names_of}, ReaderLaws.{object_one}}
 
 abbrev pub keys_of : Members → List (List ℕ)
 keys_of ms = map (λ (e : Entry). e.0) (entries_of ms)

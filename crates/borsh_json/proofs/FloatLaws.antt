@@ -1,26 +1,13 @@
 -- Floats, their bits and their texts.
-use Rattle.std.proofs.Common.{◌≡◌, inl, inr, ◌∷◌, ◌++◌, [], ℕ, ◌*◌, ◌^◌, ◌<◌, List, length, Bool, true, false, true≢false, Option, Some, None, refl, sym, ◌∙◌, ap, subst, arith, if◌then◌else◌, not, codes, T, from_bits, to_bits, option_map, MatchOption, MatchResult, Result, Ok, Err, IsTrue, IsFalse, Bor, bytes_eq, Contains}
-use Rattle.std.specs.Float.{Float, Format, nan, inf, fin, binary32, binary64, float_is_finite}
-use Rattle.std.specs.Float.Ieee.{top}
-use Rattle.std.specs.Float.Numeral.{scan_numeral}
-use Rattle.std.specs.Float.Parse.{parse_float, read_float}
-use Rattle.std.specs.Result.{result_ok}
-use Rattle.std.proofs.lemmas.Slice.Eq.{bytes_eq-Decides}
+use Rattle.std.proofs.{Common.{◌≡◌, inl, inr, ◌∷◌, ◌++◌, [], ℕ, ◌*◌, ◌^◌, ◌<◌, List, length, Bool, true, false, true≢false, Option, Some, None, refl, sym, ◌∙◌, ap, subst, arith, if◌then◌else◌, not, codes, T, from_bits, to_bits, option_map, MatchOption, MatchResult, Result, Ok, Err, IsTrue, IsFalse, Bor, bytes_eq, Contains}, lemmas.Slice.Eq.{bytes_eq-Decides}, lemmas.List.Elements.{Contains-append_right}}
+use Rattle.std.specs.{Float.{Float, Format, nan, inf, fin, binary32, binary64, float_is_finite}, Float.Ieee.{top}, Float.Numeral.{scan_numeral}, Float.Parse.{parse_float, read_float}, Result.{result_ok}, Float.Numeral.{Parts, exponent_text, text_of}, Fmt.{sign_text}}
 use lib.Ieee.{is_nan}
 use lib.Ieee.Bits.{to_bits-of_bits}
-use Rattle.json.specs.Json.{Json, null, boolean, number, string, array, object}
-use Rattle.json.specs.Find.{as_number, as_str}
+use Rattle.json.specs.{Json.{Json, null, boolean, number, string, array, object}, Find.{as_number, as_str}, Print.{IsNumber}, Word.{after_number}}
 use Rattle.json.proofs.Printed.Floats.{IsNumber-plain}
-use Rattle.std.specs.Float.Numeral.{Parts, exponent_text, text_of}
-use Rattle.std.specs.Fmt.{sign_text}
-use Rattle.std.proofs.lemmas.List.Elements.{Contains-append_right}
-use Rattle.json.specs.Print.{IsNumber}
-use Rattle.json.specs.Word.{after_number}
 use Rattle.ryu.specs.Plain.{IsPlain, IsPlainNumber, word_of}
-use Rattle.borsh_json.specs.Printed.{IsMarked}
+use Rattle.borsh_json.specs.{Printed.{IsMarked}, Table.{float_size, float_of, infinity_of, IsFloat}, Floats.{IsFloatText, IsNan, ReadsBack}}
 use Rattle.borsh_walks.specs.Container.{little_endian}
-use Rattle.borsh_json.specs.Table.{float_size, float_of, infinity_of, IsFloat}
-use Rattle.borsh_json.specs.Floats.{IsFloatText, IsNan, ReadsBack}
 
 -- ---- bits
 twice_top : (f : Format) → 256 ^ float_size f ≡ 2 * top f

@@ -1,9 +1,7 @@
 -- The definition that a name of a kind has.
 use Rattle.std.proofs.Common.{◌≡◌, ◌⊎◌, inl, inr, ℕ, List, [], ◌∷◌, Bool, true, false, Option, Some, refl, sym, ◌∙◌, ap, subst, bytes_eq}
-use Rattle.std.specs.Prelude.{⊤, ◌&&◌, ◌==◌, if◌then◌else◌, codes, option_map}
-use Rattle.std.specs.Float.{binary32, binary64}
-use Rattle.borsh_json.specs.Forms.{Form, primitive, sequence, tuple, choice, named, unnamed, no_fields, shape_of_form, IsByte, IsMap}
-use Rattle.borsh_json.specs.Table.{Lengths, Kind, no_bytes, truth, whole, float, utf8, byte_list, list, row, inner, fields, optional, variants, entries, number_types, number_kind, primitive_kind, unnamed_kind, a_text, some_bytes, an_object, some_elements, IsNullable, nullable, by_name, AreKeys, DefinedKind, HasKind}
+use Rattle.std.specs.{Prelude.{⊤, ◌&&◌, ◌==◌, if◌then◌else◌, codes, option_map}, Float.{binary32, binary64}}
+use Rattle.borsh_json.specs.{Forms.{Form, primitive, sequence, tuple, choice, named, unnamed, no_fields, shape_of_form, IsByte, IsMap}, Table.{Lengths, Kind, no_bytes, truth, whole, float, utf8, byte_list, list, row, inner, fields, optional, variants, entries, number_types, number_kind, primitive_kind, unnamed_kind, a_text, some_bytes, an_object, some_elements, IsNullable, nullable, by_name, AreKeys, DefinedKind, HasKind}}
 
 pub shaped : (o : Option Form) {f : Form} → o ≡ Some f → option_map shape_of_form o ≡ Some (shape_of_form f)
 shaped o e = ap (λ o. option_map shape_of_form o) e

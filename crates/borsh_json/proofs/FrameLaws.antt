@@ -1,30 +1,10 @@
 -- What is left of a frame, part by part.
-use Rattle.std.proofs.Common.{◌≡◌, ℕ, suc, zero, ◌+◌, ◌<◌, ◌≤◌, List, [], ◌∷◌, ◌++◌, length, map, take, drop, get_or, Bool, true, false, Option, Some, None, refl, sym, ◌∙◌, ap, subst, arith, append_assoc, append-nil, string_bytes, slice_get, MatchOption, String, Vec, IsSome, cond, is_some, if◌then◌else◌, ◌||◌, Bor, Global, nat_cmp, bytes_eq}
-use Rattle.std.specs.BTreeMap.{BTreeMap, UpdatesBy, btree_map_len}
-use Rattle.std.specs.Cmp.Lexicographic.{slice_cmp}
-use Rattle.std.specs.List.{AllByRecursion}
-use Rattle.std.proofs.lemmas.Cmp.{nat_list_eq_equiv}
-use Rattle.std.proofs.lemmas.List.Folds.{list_any-append}
-use Rattle.std.proofs.lemmas.Map.Keys.{IsDistinct-head, IsDistinct-tail}
-use Rattle.std.proofs.lemmas.Map.Text.{btree_map_updates_str}
-use Rattle.json.specs.Token.{Token}
-use Rattle.json.specs.Json.{Json, Members, no_members, member}
-use Rattle.json.specs.Find.{BeginsWith, InMembers, get_member, Finds}
-use Rattle.borsh_walks.specs.Container.{references}
-use Rattle.borsh_walks.specs.Tables.{mark_of}
+use Rattle.std.proofs.{Common.{◌≡◌, ℕ, suc, zero, ◌+◌, ◌<◌, ◌≤◌, List, [], ◌∷◌, ◌++◌, length, map, take, drop, get_or, Bool, true, false, Option, Some, None, refl, sym, ◌∙◌, ap, subst, arith, append_assoc, append-nil, string_bytes, slice_get, MatchOption, String, Vec, IsSome, cond, is_some, if◌then◌else◌, ◌||◌, Bor, Global, nat_cmp, bytes_eq}, lemmas.Cmp.{nat_list_eq_equiv}, lemmas.List.Folds.{list_any-append}, lemmas.Map.Keys.{IsDistinct-head, IsDistinct-tail}, lemmas.Map.Text.{btree_map_updates_str}}
+use Rattle.std.specs.{BTreeMap.{BTreeMap, UpdatesBy, btree_map_len}, Cmp.Lexicographic.{slice_cmp}, List.{AllByRecursion}}
+use Rattle.json.specs.{Token.{Token}, Json.{Json, Members, no_members, member}, Find.{BeginsWith, InMembers, get_member, Finds}}
+use Rattle.borsh_walks.specs.{Container.{references}, Tables.{mark_of}}
 use Rattle.borsh_plan.specs.declared.named.Named.{Named}
-use Rattle.borsh_json.specs.declared.kinds.KeyKind.{KeyKind}
-use Rattle.borsh_json.specs.declared.kinds.KeyKind.TheVariants.{Text as TextKeys, Number as NumberKeys}
-use Rattle.borsh_json.specs.declared.position.Key.TheVariants.{None as NoKey, Name}
-use Rattle.borsh_json.specs.declared.position.Part.{Part}
-use Rattle.borsh_json.specs.declared.position.Parts.TheVariants.{Row, Object}
-use Rattle.borsh_json.specs.declared.position.Place.{Place}
-use Rattle.borsh_json.specs.declared.sources.EntryKey.TheVariants.{Text as TextKey}
-use Rattle.borsh_json.specs.declared.sources.Source.TheVariants.{Members as TheMembers, Entries as InPlace}
-use Rattle.borsh_json.specs.Forms.{Form, named, shape_of_form}
-use Rattle.borsh_json.specs.Frames.{steps_at, steps_through, Wanted, IsWanted, IsKey, AreFound, AreOthers, HasFields, HasEntries, IsEntryKey}
-use Rattle.borsh_json.specs.Places.{IsAt}
-use Rattle.borsh_json.specs.Table.{Entry, entries_of}
+use Rattle.borsh_json.specs.{declared.kinds.KeyKind.{KeyKind}, declared.kinds.KeyKind.TheVariants.{Text as TextKeys, Number as NumberKeys}, declared.position.Key.TheVariants.{None as NoKey, Name}, declared.position.Part.{Part}, declared.position.Parts.TheVariants.{Row, Object}, declared.position.Place.{Place}, declared.sources.EntryKey.TheVariants.{Text as TextKey}, declared.sources.Source.TheVariants.{Members as TheMembers, Entries as InPlace}, Forms.{Form, named, shape_of_form}, Frames.{steps_at, steps_through, Wanted, IsWanted, IsKey, AreFound, AreOthers, HasFields, HasEntries, IsEntryKey}, Places.{IsAt}, Table.{Entry, entries_of}}
 
 -- ---- lists from an index on
 pub drop_at : {A : Type 0} (xs : List A) (i : ℕ) (a : A) → slice_get xs i ≡ Some a → drop i xs ≡ a ∷ drop (suc i) xs

@@ -1,29 +1,10 @@
 -- The JSON of a value of which the beginning was written: what it says, with any that may follow.
-use Rattle.std.proofs.Common.{◌≡◌, inr, ℕ, suc, zero, ◌≤◌, List, [], ◌∷◌, ◌++◌, length, map, replicate, Option, Some, None, refl, sym, ◌∙◌, ap, subst, arith, append-nil, ℤ, pos, bytes_eq, Less}
-use Rattle.std.specs.List.{AllByRecursion, IsDistinct}
-use Rattle.std.specs.List.Sorted.{IsStrictlySortedBy}
-use Rattle.std.specs.Str.Parse.{signed_digits_value}
-use Rattle.std.proofs.lemmas.Cmp.{nat_list_cmp_total, int_cmp_total}
-use Rattle.std.proofs.lemmas.List.Sorted.{IsPermutation-refl}
-use Rattle.json.specs.Token.{Token}
-use Rattle.json.specs.Json.{Json, null, array, object, Items, Members, no_members, member}
-use Rattle.json.specs.Tree.{json_tokens}
+use Rattle.std.proofs.{Common.{◌≡◌, inr, ℕ, suc, zero, ◌≤◌, List, [], ◌∷◌, ◌++◌, length, map, replicate, Option, Some, None, refl, sym, ◌∙◌, ap, subst, arith, append-nil, ℤ, pos, bytes_eq, Less}, lemmas.Cmp.{nat_list_cmp_total, int_cmp_total}, lemmas.List.Sorted.{IsPermutation-refl}}
+use Rattle.std.specs.{List.{AllByRecursion, IsDistinct}, List.Sorted.{IsStrictlySortedBy}, Str.Parse.{signed_digits_value}}
+use Rattle.json.specs.{Token.{Token}, Json.{Json, null, array, object, Items, Members, no_members, member}, Tree.{json_tokens}}
 use Rattle.borsh_walks.specs.Container.{tag}
-use Rattle.borsh_json.specs.declared.output.LongNumbers.{LongNumbers}
-use Rattle.borsh_json.specs.declared.output.Output.{Output}
-use Rattle.borsh_json.specs.Forms.{Form, HasNoBytes}
-use Rattle.borsh_json.specs.Frames.{Wanted, AreNext}
-use Rattle.borsh_json.specs.Leaves.{Adds, long_of, AreWritten}
-use Rattle.borsh_json.specs.Represents.{HaveBytes}
-use Rattle.borsh_json.specs.Table.{Lengths, Keys, texts, numbers, Kind, list, row, inner, fields, optional, variants, entries, HasKind, Part, row_parts, list_parts, field_parts, Entry, entries_of, key_order, IsVariant, Says}
-use Rattle.borsh_json.specs.Writes.{Rest, items_rest, members_rest, value_rest, entries_rest, AreMembers, AreAbove, IsFront, WritesFront}
-use Rattle.borsh_json.proofs.FieldLaws.{keys_of, next_all}
-use Rattle.borsh_json.proofs.FormKinds.{form_found}
-use Rattle.borsh_json.proofs.FrameLaws.{length_map}
-use Rattle.borsh_json.proofs.NullLaws.{may_be_null}
-use Rattle.borsh_json.proofs.OpeningLaws.{list_row, list_length, row_fits, some_one}
-use Rattle.borsh_json.proofs.ReaderLaws.{field_back}
-use Rattle.borsh_json.proofs.WrittenLaws.{next_written}
+use Rattle.borsh_json.specs.{declared.output.LongNumbers.{LongNumbers}, declared.output.Output.{Output}, Forms.{Form, HasNoBytes}, Frames.{Wanted, AreNext}, Leaves.{Adds, long_of, AreWritten}, Represents.{HaveBytes}, Table.{Lengths, Keys, texts, numbers, Kind, list, row, inner, fields, optional, variants, entries, HasKind, Part, row_parts, list_parts, field_parts, Entry, entries_of, key_order, IsVariant, Says}, Writes.{Rest, items_rest, members_rest, value_rest, entries_rest, AreMembers, AreAbove, IsFront, WritesFront}}
+use Rattle.borsh_json.proofs.{FieldLaws.{keys_of, next_all}, FormKinds.{form_found}, FrameLaws.{length_map}, NullLaws.{may_be_null}, OpeningLaws.{list_row, list_length, row_fits, some_one}, ReaderLaws.{field_back}, WrittenLaws.{next_written}}
 
 -- ---- the parts of what follows
 pub copies : {A : Type 0} (n : ℕ) (x : A) → length (replicate n x) ≡ n

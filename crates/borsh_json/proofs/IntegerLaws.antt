@@ -1,13 +1,9 @@
 -- Whole numbers and the bytes that encode them.
-use Rattle.std.proofs.Common.{◌≡◌, inl, inr, ℕ, suc, zero, ◌+◌, ◌-◌, ◌*◌, ◌%◌, ◌^◌, ◌<◌, ◌≤◌, Bool, true, false, List, [], ◌∷◌, length, map, drop, get_or, refl, sym, ◌∙◌, ap, subst, arith, pow-suc, length-drop, ℤ, pos, negsuc, All}
-use Rattle.std.proofs.lemmas.Int.{to_z-of_z}
-use Rattle.std.proofs.lemmas.Bool.{cases_lt}
+use Rattle.std.proofs.{Common.{◌≡◌, inl, inr, ℕ, suc, zero, ◌+◌, ◌-◌, ◌*◌, ◌%◌, ◌^◌, ◌<◌, ◌≤◌, Bool, true, false, List, [], ◌∷◌, length, map, drop, get_or, refl, sym, ◌∙◌, ap, subst, arith, pow-suc, length-drop, ℤ, pos, negsuc, All}, lemmas.Int.{to_z-of_z}, lemmas.Bool.{cases_lt}}
 use Rattle.std.specs.Int.{cast_signed, w128}
 use Rattle.borsh_walks.specs.Container.{little_endian}
 use Rattle.borsh_values.specs.Tags.{byte_as, number_of}
-use Rattle.borsh_json.specs.Table.{InRange}
-use Rattle.borsh_json.specs.Ranks.{rank_of}
-use Rattle.borsh_json.specs.Integers.{IsEncoded, signed_as}
+use Rattle.borsh_json.specs.{Table.{InRange}, Ranks.{rank_of}, Integers.{IsEncoded, signed_as}}
 use Rattle.borsh_json.proofs.RepresentsLaws.{power_most}
 use Rattle.borsh_values.proofs.TagLaws.{Bytes, value_written, value_small, value_under, drop_bytes, drop_at}
 

@@ -1,14 +1,8 @@
 -- The JSON of a map's keys.
-use Rattle.std.proofs.Common.{◌≡◌, ◌⊎◌, inl, inr, ℕ, ◌≤◌, List, [], ◌++◌, length, Bool, true, false, refl, sym, ◌∙◌, ap, subst, arith, Option, Result, Ok, Err, MatchResult, nat_le, if◌then◌else◌, IsUtf8}
-use Rattle.std.proofs.lemmas.Bool.Decides.{leb_tells}
+use Rattle.std.proofs.{Common.{◌≡◌, ◌⊎◌, inl, inr, ℕ, ◌≤◌, List, [], ◌++◌, length, Bool, true, false, refl, sym, ◌∙◌, ap, subst, arith, Option, Result, Ok, Err, MatchResult, nat_le, if◌then◌else◌, IsUtf8}, lemmas.Bool.Decides.{leb_tells}}
 use Rattle.json.specs.Json.{number, string}
 use Rattle.borsh_plan.specs.declared.named.Named.{Named}
-use Rattle.borsh_json.specs.declared.error.ReadError.{ReadError}
-use Rattle.borsh_json.specs.declared.numbers.Number.{Number}
-use Rattle.borsh_json.specs.Forms.{Form}
-use Rattle.borsh_json.specs.Frames.{DeniesRead, FailsRead, IsUnexpected}
-use Rattle.borsh_json.specs.Represents.{SaysFirst}
-use Rattle.borsh_json.specs.Table.{Lengths, Keys, texts, numbers, HasKind, utf8, whole, IsNumber, IsPrefixed, IsWhole, key_json}
+use Rattle.borsh_json.specs.{declared.error.ReadError.{ReadError}, declared.numbers.Number.{Number}, Forms.{Form}, Frames.{DeniesRead, FailsRead, IsUnexpected}, Represents.{SaysFirst}, Table.{Lengths, Keys, texts, numbers, HasKind, utf8, whole, IsNumber, IsPrefixed, IsWhole, key_json}}
 use Rattle.borsh_json.proofs.OpeningLaws.{said, one_string, refuses_plain}
 
 -- a number's key is the JSON of the number

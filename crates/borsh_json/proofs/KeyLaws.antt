@@ -1,19 +1,10 @@
 -- The order of keys, by the numbers that order them.
-use Rattle.std.proofs.Common.{◌≡◌, inl, inr, ℕ, ◌≤◌, Bool, true, false, List, Option, Decides, refl, sym, ◌∙◌, ap, arith, nat_lt, nat_cmp, Less, Equal, Greater}
+use Rattle.std.proofs.{Common.{◌≡◌, inl, inr, ℕ, ◌≤◌, Bool, true, false, List, Option, Decides, refl, sym, ◌∙◌, ap, arith, nat_lt, nat_cmp, Less, Equal, Greater}, lemmas.Bool.{cases_lt}, lemmas.Bool.Decides.{nat_tests}}
 use Rattle.std.specs.Cmp.{nat_cmp_is}
-use Rattle.std.proofs.lemmas.Bool.{cases_lt}
-use Rattle.std.proofs.lemmas.Bool.Decides.{nat_tests}
 use Rattle.json.specs.Json.{Json}
 use Rattle.borsh_plan.specs.declared.named.Named.{Named}
-use Rattle.borsh_json.specs.declared.kinds.KeyKind.{KeyKind}
-use Rattle.borsh_json.specs.declared.kinds.KeyKind.TheVariants.{Text as TextKeys, Number as NumberKeys}
-use Rattle.borsh_json.specs.declared.sources.EntryKey.TheVariants.{Rank}
-use Rattle.borsh_json.specs.Forms.{Form}
-use Rattle.borsh_json.specs.Frames.{IsEntryKey}
-use Rattle.borsh_json.specs.Places.{AreKeysOf}
-use Rattle.borsh_json.specs.Table.{Keys, key_order}
-use Rattle.borsh_json.proofs.NumberLaws.{ranks_compare}
-use Rattle.borsh_json.proofs.RepresentsLaws.{kind_small}
+use Rattle.borsh_json.specs.{declared.kinds.KeyKind.{KeyKind}, declared.kinds.KeyKind.TheVariants.{Text as TextKeys, Number as NumberKeys}, declared.sources.EntryKey.TheVariants.{Rank}, Forms.{Form}, Frames.{IsEntryKey}, Places.{AreKeysOf}, Table.{Keys, key_order}}
+use Rattle.borsh_json.proofs.{NumberLaws.{ranks_compare}, RepresentsLaws.{kind_small}}
 
 not_less : (q r : ℕ) → r ≤ q → nat_cmp q r ≡ Less → ⊥
 not_less q r h e = elim (cases_lt r q) [

@@ -1,28 +1,12 @@
 -- The order of the keys of objects is that of their bytes.
 use Rattle.std.proofs.Common.{◌≡◌, ◌⊎◌, inl, inr, ℕ, ◌<◌, ◌^◌, List, [], ◌∷◌, ◌++◌, length, Bool, true, false, Option, refl, sym, ◌∙◌, ap, subst, arith, ℤ, ◌<ℤ◌, pos, codes, nat_le, if◌then◌else◌, int_cmp, Ordering, Less, Equal, Greater}
-use Rattle.std.specs.Cmp.{int_ranks}
-use Rattle.std.specs.Ordering.{MatchOrdering}
-use Rattle.std.specs.Str.Parse.{signed_digits_value}
+use Rattle.std.specs.{Cmp.{int_ranks}, Ordering.{MatchOrdering}, Str.Parse.{signed_digits_value}}
 use Rattle.json.specs.Json.{Json, null, number, string}
 use Rattle.borsh_walks.specs.Container.{tag}
 use Rattle.borsh_plan.specs.declared.named.Named.{Named}
 use Rattle.borsh_values.proofs.MemberLaws.{same_front}
-use Rattle.borsh_json.specs.declared.kinds.KeyKind.{KeyKind}
-use Rattle.borsh_json.specs.declared.kinds.KeyKind.TheVariants.{Text as TextKeys, Number as NumberKeys}
-use Rattle.borsh_json.specs.Forms.{Form, primitive, sequence}
-use Rattle.borsh_json.specs.Ordered.{numbers as number_values, a_value, IsAtLeast}
-use Rattle.borsh_json.specs.Places.{AreKeysOf}
-use Rattle.borsh_json.specs.Represents.{SaysFirst}
-use Rattle.borsh_json.specs.Table.{Lengths, Keys, texts, numbers, AreKeys, a_text, HasKind, utf8, whole, InRange, Part, Says, key_json, key_order}
-use Rattle.borsh_json.proofs.DescentLaws.{numbers_at_least, texts_at_least}
-use Rattle.borsh_json.proofs.FoundLaws.{full_list}
-use Rattle.borsh_json.proofs.KindOrders.{text_order, number_order}
-use Rattle.borsh_json.proofs.NameLaws.{keys_full}
-use Rattle.borsh_json.proofs.NumberLaws.{value_of}
-use Rattle.borsh_json.proofs.OpeningLaws.{one_string}
-use Rattle.borsh_json.proofs.OrderLaws.{front, value_fronts, some_bytes, texts_tell}
-use Rattle.borsh_json.proofs.OrderNumbers.{as_naturals, long_tag, same_cmp, sign_tested}
-use Rattle.borsh_json.proofs.RepresentsLaws.{kind_one, kind_small, short}
+use Rattle.borsh_json.specs.{declared.kinds.KeyKind.{KeyKind}, declared.kinds.KeyKind.TheVariants.{Text as TextKeys, Number as NumberKeys}, Forms.{Form, primitive, sequence}, Ordered.{numbers as number_values, a_value, IsAtLeast}, Places.{AreKeysOf}, Represents.{SaysFirst}, Table.{Lengths, Keys, texts, numbers, AreKeys, a_text, HasKind, utf8, whole, InRange, Part, Says, key_json, key_order}}
+use Rattle.borsh_json.proofs.{DescentLaws.{numbers_at_least, texts_at_least}, FoundLaws.{full_list}, KindOrders.{text_order, number_order}, NameLaws.{keys_full}, NumberLaws.{value_of}, OpeningLaws.{one_string}, OrderLaws.{front, value_fronts, some_bytes, texts_tell}, OrderNumbers.{as_naturals, long_tag, same_cmp, sign_tested}, RepresentsLaws.{kind_one, kind_small, short}}
 
 as_number : (b : Bool) (s t : List ℕ) → (if b then string s else number s) ≡ number t → s ≡ t
 as_number true s t e = cc

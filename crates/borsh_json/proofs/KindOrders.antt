@@ -2,20 +2,8 @@
 use Rattle.std.proofs.Common.{◌≡◌, inl, inr, ℕ, List, [], ◌∷◌, ◌++◌, length, Option, Some, None, IfSome, refl, sym, ◌∙◌, subst, Bool, slice_get, Bor}
 use Rattle.borsh_walks.specs.declared.definition.Definition.{Definition}
 use Rattle.borsh_plan.specs.declared.named.Named.{Named}
-use Rattle.borsh_json.specs.declared.formats.Collection.TheVariants.{List as Elements, Set}
-use Rattle.borsh_json.specs.declared.kinds.KeyKind.TheVariants.{Text as TextKeys, Number as NumberKeys}
-use Rattle.borsh_json.specs.declared.kinds.Kind.{Kind}
-use Rattle.borsh_json.specs.declared.numbers.Number.{Number as FoundNumber}
-use Rattle.borsh_json.specs.declared.order.Ordered.{Ordered}
-use Rattle.borsh_json.specs.declared.order.Ordered.TheVariants.{Text, Number as NumberOrder}
-use Rattle.borsh_json.specs.Forms.{Form, primitive, sequence, HasNoBytes, IsList, IsMap}
-use Rattle.borsh_json.specs.Found.{IsCollection, IsSetName}
-use Rattle.borsh_json.specs.Ordered.{numbers, text, HasOrder}
-use Rattle.borsh_json.specs.Orders.{FindsOrder, AreOrders, KeysAscend, HasKeyOrder, KindHasOrder, KnowsNoOrder, KindTellsOrder, IsFoundKind, AreFoundKinds}
-use Rattle.borsh_json.specs.Places.{AreKeysOf, IsAt, IsKindAt}
-use Rattle.borsh_json.specs.Table.{Keys, AreKeys, whole, primitive_kind, HasKind, DefinedKind, texts, numbers as number_keys}
-use Rattle.borsh_json.proofs.FoundLaws.{full_list}
-use Rattle.borsh_json.proofs.PlaceLaws.{get_pushed}
+use Rattle.borsh_json.specs.{declared.formats.Collection.TheVariants.{List as Elements, Set}, declared.kinds.KeyKind.TheVariants.{Text as TextKeys, Number as NumberKeys}, declared.kinds.Kind.{Kind}, declared.numbers.Number.{Number as FoundNumber}, declared.order.Ordered.{Ordered}, declared.order.Ordered.TheVariants.{Text, Number as NumberOrder}, Forms.{Form, primitive, sequence, HasNoBytes, IsList, IsMap}, Found.{IsCollection, IsSetName}, Ordered.{numbers, text, HasOrder}, Orders.{FindsOrder, AreOrders, KeysAscend, HasKeyOrder, KindHasOrder, KnowsNoOrder, KindTellsOrder, IsFoundKind, AreFoundKinds}, Places.{AreKeysOf, IsAt, IsKindAt}, Table.{Keys, AreKeys, whole, primitive_kind, HasKind, DefinedKind, texts, numbers as number_keys}}
+use Rattle.borsh_json.proofs.{FoundLaws.{full_list}, PlaceLaws.{get_pushed}}
 
 module _ (F : List ℕ → Option Form) where
   -- ---- keys of objects

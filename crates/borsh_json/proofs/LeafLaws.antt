@@ -1,42 +1,13 @@
 -- Values that are written whole: primitives, texts and lists of primitives.
-use Rattle.std.proofs.Common.{◌≡◌, inl, inr, ℕ, suc, zero, ◌+◌, ◌-◌, ◌/◌, ◌^◌, ◌<◌, ◌≤◌, List, [], ◌∷◌, ◌++◌, length, map, Bool, true, false, true≢false, Option, Some, refl, sym, ◌∙◌, ap, subst, arith, pow-suc, bytes_eq}
-use Rattle.std.specs.Prelude.{⊤, ℤ, pos, negsuc, ◌&&◌, ◌==◌, if◌then◌else◌, codes, Result, Ok, Err, is_nan, from_bits}
-use Rattle.std.specs.Float.{Float as FloatValue, Format, binary32, binary64}
-use Rattle.std.specs.Fmt.{signed_decimal}
-use Rattle.std.specs.List.{AllByRecursion}
-use Rattle.std.proofs.Math.Nat.{pow-le-pow_right}
-use Rattle.std.proofs.lemmas.Bool.Decides.{nat_tests}
-use Rattle.json.specs.Token as token
-use Rattle.json.specs.Json.{Json, null, boolean, number, string}
-use Rattle.json.specs.Print.{IsNumber as IsNumberText}
-use Rattle.json.specs.Tree.{json_tokens, depth, HasNumbers}
+use Rattle.std.proofs.{Common.{◌≡◌, inl, inr, ℕ, suc, zero, ◌+◌, ◌-◌, ◌/◌, ◌^◌, ◌<◌, ◌≤◌, List, [], ◌∷◌, ◌++◌, length, map, Bool, true, false, true≢false, Option, Some, refl, sym, ◌∙◌, ap, subst, arith, pow-suc, bytes_eq}, Math.Nat.{pow-le-pow_right}, lemmas.Bool.Decides.{nat_tests}}
+use Rattle.std.specs.{Prelude.{⊤, ℤ, pos, negsuc, ◌&&◌, ◌==◌, if◌then◌else◌, codes, Result, Ok, Err, is_nan, from_bits}, Float.{Float as FloatValue, Format, binary32, binary64}, Fmt.{signed_decimal}, List.{AllByRecursion}}
+use Rattle.json.specs.{Token as token, Json.{Json, null, boolean, number, string}, Print.{IsNumber as IsNumberText}, Tree.{json_tokens, depth, HasNumbers}}
 use Rattle.json.proofs.Printed.Decimals.{IsNumber-decimal, IsNumber-signed_decimal}
 use Rattle.borsh_walks.specs.Container.{tag, little_endian}
-use Rattle.borsh_values.specs.Nodes.{Opens}
-use Rattle.borsh_values.specs.Tags.{number_of}
+use Rattle.borsh_values.specs.{Nodes.{Opens}, Tags.{number_of}}
 use Rattle.borsh_plan.specs.declared.named.Named.{Named}
-use Rattle.borsh_json.specs.declared.error.Refusal.TheVariants.{Zero}
-use Rattle.borsh_json.specs.declared.error.WriteError.{WriteError}
-use Rattle.borsh_json.specs.declared.kinds.Kind.{Kind as Found}
-use Rattle.borsh_json.specs.declared.kinds.Kind.TheVariants.{Number, Bool as Truth, Bytes, Float}
-use Rattle.borsh_json.specs.declared.numbers.Number.{Number as NumberOf}
-use Rattle.borsh_json.specs.declared.output.LongNumbers.{LongNumbers}
-use Rattle.borsh_json.specs.declared.output.LongNumbers.TheVariants.{Plain, Quoted}
-use Rattle.borsh_json.specs.declared.output.Output.{Output}
-use Rattle.borsh_json.specs.Forms.{Form, primitive, sequence, tuple, choice, named, unnamed, no_fields, shape_of_form, shapes}
-use Rattle.borsh_json.specs.Found.{IsPrimitiveKind}
-use Rattle.borsh_json.specs.Integers.{IsEncoded}
-use Rattle.borsh_json.specs.Leaves.{Adds, HasSize, IsOpenedAs, IsWritten, RefusesValue, WritesHex, WritesLeaf, long_of, long_token}
-use Rattle.borsh_json.specs.NoJson.{IsNoJson, RefusesOwn}
-use Rattle.borsh_json.specs.Places.{IsKindOf}
-use Rattle.borsh_json.specs.Represents.{SaysFirst, HaveBytes}
-use Rattle.borsh_json.specs.Table.{Kind, no_bytes, truth, whole, float, float_size, raw, a_text, some_bytes, an_object, some_elements, nullable, by_name, number_types, number_kind, primitive_kind, DefinedKind, HasKind, InRange, IsFloat, IsHex, IsNumber, Part, Says}
-use Rattle.borsh_json.specs.Floats.{IsNan}
-use Rattle.borsh_json.proofs.FloatLaws.{format_one}
-use Rattle.borsh_json.proofs.FormKinds.{unnamed_is}
-use Rattle.borsh_json.proofs.ReaderLaws.{uncons}
-use Rattle.borsh_json.proofs.RepresentsLaws.{kind_one}
-use Rattle.borsh_json.proofs.WrittenLaws.{IsFormed, next_written}
+use Rattle.borsh_json.specs.{declared.error.Refusal.TheVariants.{Zero}, declared.error.WriteError.{WriteError}, declared.kinds.Kind.{Kind as Found}, declared.kinds.Kind.TheVariants.{Number, Bool as Truth, Bytes, Float}, declared.numbers.Number.{Number as NumberOf}, declared.output.LongNumbers.{LongNumbers}, declared.output.LongNumbers.TheVariants.{Plain, Quoted}, declared.output.Output.{Output}, Forms.{Form, primitive, sequence, tuple, choice, named, unnamed, no_fields, shape_of_form, shapes}, Found.{IsPrimitiveKind}, Integers.{IsEncoded}, Leaves.{Adds, HasSize, IsOpenedAs, IsWritten, RefusesValue, WritesHex, WritesLeaf, long_of, long_token}, NoJson.{IsNoJson, RefusesOwn}, Places.{IsKindOf}, Represents.{SaysFirst, HaveBytes}, Table.{Kind, no_bytes, truth, whole, float, float_size, raw, a_text, some_bytes, an_object, some_elements, nullable, by_name, number_types, number_kind, primitive_kind, DefinedKind, HasKind, InRange, IsFloat, IsHex, IsNumber, Part, Says}, Floats.{IsNan}}
+use Rattle.borsh_json.proofs.{FloatLaws.{format_one}, FormKinds.{unnamed_is}, ReaderLaws.{uncons}, RepresentsLaws.{kind_one}, WrittenLaws.{IsFormed, next_written}}
 use Rattle.borsh_walks.proofs.Laws.{length-tag}
 
 -- ---- lists and bytes

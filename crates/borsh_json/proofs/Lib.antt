@@ -33,6 +33,8 @@ pub mod FallLaws
 pub mod CheckedLaws
 pub mod Lockstep
 pub mod NoJsonLaws
+pub mod ReachedLaws
+pub mod FreeLaws
 pub mod DescentJson
 pub mod CompleteLaws
 pub mod WriterLaws
@@ -61,7 +63,6 @@ pub mod CopyLaws
 pub mod KeyRanks
 pub mod WrittenLaws
 pub mod InOrderLaws
-pub mod AscentLaws
 pub mod PackedDescent
 pub mod UnitLaws
 pub mod WordLaws

@@ -1,17 +1,8 @@
 -- JSON without white space is one line.
-use Rattle.std.proofs.Common.{◌≡◌, inl, inr, ℕ, suc, zero, ◌+◌, ◌-◌, ◌/◌, ◌%◌, ◌<◌, ◌≤◌, Bool, true, false, cond, ◌&&◌, ◌||◌, ◌==◌, nat_le, ltb, List, [], ◌∷◌, ◌++◌, encode_utf8, All, refl, sym, ◌∙◌, ap, subst, arith}
-use Rattle.std.specs.List.{list_all}
-use Rattle.std.specs.Char.{digit_char}
-use Rattle.std.proofs.lemmas.Bool.{and_from, and_parts, or_right, cases_eq, cases_lt}
-use Rattle.std.proofs.lemmas.Bool.Decides.{nat_tests}
-use Rattle.std.proofs.lemmas.List.Elements.{All-nil, All-cons, All-head, All-tail, All-append}
-use Rattle.std.proofs.lemmas.Str.{encode_ascii}
-use Rattle.json.specs.Token.{Token, begin_object, end_object, begin_array, end_array, key, string, number, boolean, null, bad}
-use Rattle.json.specs.Json.{Json}
-use Rattle.json.specs.Print.{ArePrintable, IsPrintable, ends, escape, escape_byte, print, print_from, separator, token_text}
-use Rattle.json.specs.Tree.{HasNumbers, json_tokens}
-use Rattle.json.proofs.Printed.Strings.{escape_byte_plain}
-use Rattle.json.proofs.Printed.Trees.{ArePrintable-json_tokens}
+use Rattle.std.proofs.{Common.{◌≡◌, inl, inr, ℕ, suc, zero, ◌+◌, ◌-◌, ◌/◌, ◌%◌, ◌<◌, ◌≤◌, Bool, true, false, cond, ◌&&◌, ◌||◌, ◌==◌, nat_le, ltb, List, [], ◌∷◌, ◌++◌, encode_utf8, All, refl, sym, ◌∙◌, ap, subst, arith}, lemmas.Bool.{and_from, and_parts, or_right, cases_eq, cases_lt}, lemmas.Bool.Decides.{nat_tests}, lemmas.List.Elements.{All-nil, All-cons, All-head, All-tail, All-append}, lemmas.Str.{encode_ascii}}
+use Rattle.std.specs.{List.{list_all}, Char.{digit_char}}
+use Rattle.json.specs.{Token.{Token, begin_object, end_object, begin_array, end_array, key, string, number, boolean, null, bad}, Json.{Json}, Print.{ArePrintable, IsPrintable, ends, escape, escape_byte, print, print_from, separator, token_text}, Tree.{HasNumbers, json_tokens}}
+use Rattle.json.proofs.{Printed.Strings.{escape_byte_plain}, Printed.Trees.{ArePrintable-json_tokens}}
 use Rattle.borsh_json.specs.Ascii.{IsInLine, IsPlain, character_text, is_plain, is_printable, unit_text}
 use Rattle.borsh_json.proofs.WordLaws.{number_printed}
 

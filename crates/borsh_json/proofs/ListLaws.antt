@@ -1,39 +1,13 @@
 -- Texts, and lists of primitives.
-use Rattle.std.proofs.Common.{◌≡◌, ◌⊎◌, inl, inr, ℕ, suc, zero, ◌+◌, ◌*◌, ◌^◌, ◌<◌, ◌≤◌, List, [], ◌∷◌, ◌++◌, length, drop, Option, Some, refl, sym, ◌∙◌, ap, subst, arith, append_assoc, append-nil, length-append, option_map}
-use Rattle.std.proofs.Math.Nat.{le_of_mul-le-mul_right, mul-le-mul_left, mul-le-mul_right, suc-mul}
+use Rattle.std.proofs.{Common.{◌≡◌, ◌⊎◌, inl, inr, ℕ, suc, zero, ◌+◌, ◌*◌, ◌^◌, ◌<◌, ◌≤◌, List, [], ◌∷◌, ◌++◌, length, drop, Option, Some, refl, sym, ◌∙◌, ap, subst, arith, append_assoc, append-nil, length-append, option_map}, Math.Nat.{le_of_mul-le-mul_right, mul-le-mul_left, mul-le-mul_right, suc-mul}, lemmas.Bool.{cases_lt}}
 use Rattle.std.specs.Prelude.{⊤, pos, IsUtf8}
-use Rattle.std.proofs.lemmas.Bool.{cases_lt}
-use Rattle.json.specs.Token.{Token}
-use Rattle.json.specs.Token as token
-use Rattle.json.specs.Json.{Json, string, array, Items, no_items, item}
-use Rattle.json.specs.Tree.{json_tokens, items_tokens, items_depth, ItemsHaveNumbers}
-use Rattle.borsh_walks.specs.Container.{Shape, tag}
-use Rattle.borsh_walks.specs.Container as shape
-use Rattle.borsh_walks.specs.Definitions.{shape_of}
-use Rattle.borsh_walks.specs.declared.definition.Definition.{Definition}
-use Rattle.borsh_values.specs.Nodes.{AreElementsOf, Opens, OpensElements, packed_size}
-use Rattle.borsh_values.specs.Walks.{IsCounted}
+use Rattle.json.specs.{Token.{Token}, Token as token, Json.{Json, string, array, Items, no_items, item}, Tree.{json_tokens, items_tokens, items_depth, ItemsHaveNumbers}}
+use Rattle.borsh_walks.specs.{Container.{Shape, tag}, Container as shape, Definitions.{shape_of}, declared.definition.Definition.{Definition}}
+use Rattle.borsh_values.specs.{Nodes.{AreElementsOf, Opens, OpensElements, packed_size}, Walks.{IsCounted}}
 use Rattle.borsh_plan.specs.declared.named.Named.{Named}
-use Rattle.borsh_json.specs.declared.error.WriteError.{WriteError}
-use Rattle.borsh_json.specs.declared.error.WriteError.TheVariants.{OutOfMemory, Refused, Element}
-use Rattle.borsh_json.specs.declared.kinds.Elements.{Elements}
-use Rattle.borsh_json.specs.declared.kinds.Kind.TheVariants.{Numbers}
-use Rattle.borsh_json.specs.declared.output.LongNumbers.{LongNumbers}
-use Rattle.borsh_json.specs.declared.output.Output.{Output}
-use Rattle.borsh_json.specs.Forms.{Form, primitive, sequence, tuple, choice, named, unnamed, no_fields, form_of, shape_of_form, shapes, IsByte}
-use Rattle.borsh_json.specs.Leaves.{Adds, HasSize, Holds, IsOpenedAs, RefusesAt, RefusesValue, WritesLeaf, long_of, AreWritten}
-use Rattle.borsh_json.specs.NoJson.{IsNoJson}
-use Rattle.borsh_json.specs.Places.{IsAt, IsKindOf, IsListOf, lengths_of}
-use Rattle.borsh_json.specs.Represents.{SaysFirst, HaveBytes}
-use Rattle.borsh_json.specs.Table.{Lengths, Kind, truth, whole, float, raw, utf8, byte_list, list, a_text, some_bytes, an_object, some_elements, nullable, by_name, primitive_kind, DefinedKind, HasKind, IsHex, IsPrefixed, Part, Says, list_parts}
-use Rattle.borsh_json.proofs.FormKinds.{unnamed_is}
-use Rattle.borsh_walks.proofs.Forms.{shape_is}
-use Rattle.borsh_json.proofs.FoundLaws.{full_primitive}
-use Rattle.borsh_json.proofs.LeafLaws.{defined, float_length, front_one, no_json, primitive_sized, tag_one}
-use Rattle.borsh_json.proofs.ReaderLaws.{uncons}
-use Rattle.borsh_json.proofs.RepresentsLaws.{kind_one}
-use Rattle.borsh_json.proofs.WrittenLaws.{next_written}
-use Rattle.borsh_walks.proofs.Laws.{length-tag}
+use Rattle.borsh_json.specs.{declared.error.WriteError.{WriteError}, declared.error.WriteError.TheVariants.{OutOfMemory, Refused, Element}, declared.kinds.Elements.{Elements}, declared.kinds.Kind.TheVariants.{Numbers}, declared.output.LongNumbers.{LongNumbers}, declared.output.Output.{Output}, Forms.{Form, primitive, sequence, tuple, choice, named, unnamed, no_fields, form_of, shape_of_form, shapes, IsByte}, Leaves.{Adds, HasSize, Holds, IsOpenedAs, RefusesAt, RefusesValue, WritesLeaf, long_of, AreWritten}, NoJson.{IsNoJson}, Places.{IsAt, IsKindOf, IsListOf, lengths_of}, Represents.{SaysFirst, HaveBytes}, Table.{Lengths, Kind, truth, whole, float, raw, utf8, byte_list, list, a_text, some_bytes, an_object, some_elements, nullable, by_name, primitive_kind, DefinedKind, HasKind, IsHex, IsPrefixed, Part, Says, list_parts}}
+use Rattle.borsh_json.proofs.{FormKinds.{unnamed_is}, FoundLaws.{full_primitive}, LeafLaws.{defined, float_length, front_one, no_json, primitive_sized, tag_one}, ReaderLaws.{uncons}, RepresentsLaws.{kind_one}, WrittenLaws.{next_written}}
+use Rattle.borsh_walks.proofs.{Forms.{shape_is}, Laws.{length-tag}}
 
 drop_front : (xs ys : List ℕ) (n : ℕ) → length xs ≡ n → drop n (xs ++ ys) ≡ ys
 drop_front [] ys zero e = refl

@@ -1,37 +1,12 @@
 -- JSON that says bytes is in order if they were checked: it has the parts that are due, in the same order.
-use Rattle.std.proofs.Common.{◌≡◌, inl, inr, ℕ, suc, zero, ◌-◌, ◌*◌, ◌<◌, ◌≤◌, List, [], ◌∷◌, ◌++◌, length, map, replicate, drop, Option, Some, None, refl, sym, ◌∙◌, ap, subst, arith, append_assoc, append-nil, length-append}
-use Rattle.std.specs.Prelude.{ℤ, pos, codes, All, IfSome}
-use Rattle.std.specs.List.{AllByRecursion}
-use Rattle.std.proofs.Math.Nat.{suc-mul, zero-mul}
-use Rattle.std.proofs.lemmas.List.{length-replicate}
+use Rattle.std.proofs.{Common.{◌≡◌, inl, inr, ℕ, suc, zero, ◌-◌, ◌*◌, ◌<◌, ◌≤◌, List, [], ◌∷◌, ◌++◌, length, map, replicate, drop, Option, Some, None, refl, sym, ◌∙◌, ap, subst, arith, append_assoc, append-nil, length-append}, Math.Nat.{suc-mul, zero-mul}, lemmas.List.{length-replicate}}
+use Rattle.std.specs.{Prelude.{ℤ, pos, codes, All, IfSome}, List.{AllByRecursion}}
 use Rattle.json.specs.Json.{Json, array, string, Items, no_items, item, Members}
-use Rattle.borsh_walks.specs.Container.{Shape, first, later, zeroed, IsListedVariant, first_variant, later_variant, tag}
-use Rattle.borsh_walks.specs.Container as shape
-use Rattle.borsh_values.specs.Nodes.{packed_size, OpensElements, Opens}
-use Rattle.borsh_values.specs.Cursor.{OpensOnce}
+use Rattle.borsh_walks.specs.{Container.{Shape, first, later, IsListedVariant, first_variant, later_variant, tag}, Container as shape}
+use Rattle.borsh_values.specs.{Nodes.{packed_size, OpensElements, Opens}, Cursor.{OpensOnce}}
 use Rattle.borsh_values.proofs.MemberLaws.{same_front}
-use Rattle.borsh_json.specs.Checked.{Due, one, ascending, IsOnly, AreChecked, empty, plain, collection, packed, elements_end, next_element}
-use Rattle.borsh_json.specs.Descents.{HasKeys, PrimitivesDescend}
-use Rattle.borsh_json.specs.Forms.{Form, primitive, sequence, tuple, choice, named, unnamed, no_fields, shape_of_form, shapes, HasNoBytes, IsList, IsByte}
-use Rattle.borsh_json.specs.Found.{IsSet}
-use Rattle.borsh_json.specs.Frames.{AreInOrder, IsListKind}
-use Rattle.borsh_json.specs.InOrder.{DigitsFall, ItemsFall, Falls, InOrder}
-use Rattle.borsh_json.specs.Leaves.{HasSize}
-use Rattle.borsh_json.specs.Ordered.{Compared, a_value, IsAtLeast, all_equal, first_above, first_equal}
-use Rattle.borsh_json.specs.Represents.{SaysFirst, HaveBytes, none_left, next_part}
-use Rattle.borsh_json.specs.Table.{Lengths, Keys, Kind, no_bytes, truth, whole, float, raw, utf8, byte_list, list, row, inner, fields, optional, variants, entries, primitive_kind, a_text, some_bytes, an_object, some_elements, nullable, by_name, DefinedKind, HasKind, IsPrefixed, Part, row_parts, list_parts, field_parts, IsVariant, this, that, Entry, entry_parts, IsArray, Says}
-use Rattle.borsh_json.proofs.BytesFall.{bytes_descend}
-use Rattle.borsh_json.proofs.DescentLaws.{all_left, all_right, packed_alone}
-use Rattle.borsh_json.proofs.FormKinds.{map_elements, form_known, shaped}
-use Rattle.borsh_json.proofs.FoundLaws.{full_list, full_primitive, list_element, zero_part}
-use Rattle.borsh_json.proofs.InOrderLaws.{items_said, keys_one, whole_in_order}
-use Rattle.borsh_json.proofs.WrittenLaws.{divided}
-use Rattle.borsh_json.proofs.LeafLaws.{primitive_sized, float_length}
-use Rattle.borsh_json.proofs.NameLaws.{keys_full, packed_primitive}
-use Rattle.borsh_json.proofs.OrderLaws.{clash, moved}
-use Rattle.borsh_json.proofs.OrderNumbers.{long_tag}
-use Rattle.borsh_json.proofs.ReaderLaws.{mapped, field_front, uncons, split, no_parts}
-use Rattle.borsh_json.proofs.RepresentsLaws.{hex_one, kind_one, bytes_one}
+use Rattle.borsh_json.specs.{Checked.{Due, one, ascending, IsOnly, AreChecked, empty, plain, collection, packed, elements_end, next_element}, Descents.{HasKeys, PrimitivesDescend}, Forms.{Form, primitive, sequence, tuple, choice, named, unnamed, no_fields, shape_of_form, shapes, HasNoBytes, IsList, IsByte}, Found.{IsSet}, Frames.{AreInOrder, IsListKind}, InOrder.{DigitsFall, ItemsFall, Falls, InOrder}, Leaves.{HasSize}, Ordered.{Compared, a_value, IsAtLeast, all_equal, first_above, first_equal}, Represents.{SaysFirst, HaveBytes, none_left, next_part}, Table.{Lengths, Keys, Kind, no_bytes, truth, whole, float, raw, utf8, byte_list, list, row, inner, fields, optional, variants, entries, primitive_kind, a_text, some_bytes, an_object, some_elements, nullable, by_name, DefinedKind, HasKind, IsPrefixed, Part, row_parts, list_parts, field_parts, IsVariant, this, that, Entry, entry_parts, IsArray, Says}}
+use Rattle.borsh_json.proofs.{BytesFall.{bytes_descend}, DescentLaws.{all_left, all_right, packed_alone}, FormKinds.{map_elements, form_known, shaped}, FoundLaws.{full_list, full_primitive, list_element, zero_part}, InOrderLaws.{items_said, keys_one, whole_in_order}, WrittenLaws.{divided}, LeafLaws.{primitive_sized, float_length}, NameLaws.{keys_full, packed_primitive}, OrderLaws.{clash, moved}, OrderNumbers.{long_tag}, ReaderLaws.{mapped, field_front, uncons, split, no_parts}, RepresentsLaws.{hex_one, kind_one, bytes_one}}
 
 -- all bytes are below 256
 abbrev pub AreBytes : List ℕ → Type 0
@@ -66,7 +41,7 @@ named_front e [] rs h = tt
 named_front e (q ∷ qs) rs h = (h.0, named_front e qs rs h.1)
 
 -- parts of a row, one after another
-row_front : (x : List ℕ) (xs : List (List ℕ)) (js : Items) (qs : List Part) → row_parts (x ∷ xs) js ≡ Some qs → (j : Json) × (is : Items) × (ps : List Part) × (row_parts xs is ≡ Some ps) × (qs ≡ (x, j) ∷ ps)
+pub row_front : (x : List ℕ) (xs : List (List ℕ)) (js : Items) (qs : List Part) → row_parts (x ∷ xs) js ≡ Some qs → (j : Json) × (is : Items) × (ps : List Part) × (row_parts xs is ≡ Some ps) × (qs ≡ (x, j) ∷ ps)
 row_front x xs no_items qs e = cc
 row_front x xs (item j js) qs e = let m = mapped (λ ps. (x, j) ∷ ps) (row_parts xs js) e in (j, js, m.0, m.1, sym m.2)
 
@@ -256,7 +231,7 @@ module _ (F : List ℕ → Option Form) where
         let s = behind (tag w (pos k)) cs (subst (λ b. AreBytes b) o small) in
         (k, cs, low, high, o, subst (λ m. OpensElements m e k cs []) (sym (ap (λ d. packed_size d) (shaped (F e) c))) (l, s, refl))
 
-    elements_open : (k : ℕ) (own : List ℕ) → packed_size (C e) ≡ 0 → lo ≤ k → k ≤ hi → own ≡ tag w (pos k) ++ [] → Opens C (shape.sequence w lo hi e) own (replicate k e)
+    pub elements_open : (k : ℕ) (own : List ℕ) → packed_size (C e) ≡ 0 → lo ≤ k → k ≤ hi → own ≡ tag w (pos k) ++ [] → Opens C (shape.sequence w lo hi e) own (replicate k e)
     elements_open k own z low high o = (k, [], low, high, o, subst (λ m. OpensElements m e k [] (replicate k e)) (sym z) (refl, refl))
 
     abbrev lengths : Lengths
@@ -418,7 +393,7 @@ module _ (F : List ℕ → Option Form) where
       ]
 
   -- ---- nothing falls
-  falls_list : {x : List ℕ} {j : Json} {index : ℕ} → Falls F x j index → (e : List ℕ) × IsList F x e
+  pub falls_list : {x : List ℕ} {j : Json} {index : ℕ} → Falls F x j index → (e : List ℕ) × IsList F x e
   falls_list (inl d) = (d.1, d.7.0)
   falls_list (inr f) = (f.e, f.keys.0)
 

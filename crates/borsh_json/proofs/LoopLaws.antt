@@ -1,34 +1,10 @@
 -- The reader's next part.
-use Rattle.std.proofs.Common.{◌≡◌, inl, inr, ℕ, suc, zero, ◌+◌, ◌-◌, ◌<◌, List, [], ◌∷◌, ◌++◌, length, map, false, Option, Some, None, refl, sym, ◌∙◌, ap, subst, arith, append_assoc, append-nil, length-append, IsSome, MatchOption, Result, Ok, Err, MatchResult, slice_get, Bor, bytes_eq}
+use Rattle.std.proofs.Common.{◌≡◌, inl, ℕ, suc, zero, ◌+◌, ◌-◌, ◌<◌, List, [], ◌∷◌, ◌++◌, length, map, false, Option, Some, None, refl, sym, ◌∙◌, ap, subst, arith, append_assoc, append-nil, length-append, IsSome, MatchOption, Result, Ok, Err, MatchResult, slice_get, Bor, bytes_eq}
 use Rattle.std.specs.List.{IsDistinct, list_any}
-use Rattle.json.specs.Token.{Token}
-use Rattle.json.specs.Json.{Json, object, Items, no_items, item, Members}
-use Rattle.json.specs.Find.{BeginsWith, get_member}
+use Rattle.json.specs.{Token.{Token}, Json.{Json, object, Items, no_items, item, Members}, Find.{BeginsWith, get_member}}
 use Rattle.borsh_plan.specs.declared.named.Named.{Named}
-use Rattle.borsh_json.specs.declared.error.ReadError.{ReadError}
-use Rattle.borsh_json.specs.declared.kinds.Entries.{Entries as FoundEntries}
-use Rattle.borsh_json.specs.declared.order.Ascent.{Ascent}
-use Rattle.borsh_json.specs.declared.parts.Next.{Next}
-use Rattle.borsh_json.specs.declared.parts.Next.TheVariants.{Part, Missing, End}
-use Rattle.borsh_json.specs.declared.position.Key.{Key}
-use Rattle.borsh_json.specs.declared.position.Key.TheVariants.{None as NoKey, Name, Entry as EntryOf}
-use Rattle.borsh_json.specs.declared.position.Parts.{Parts}
-use Rattle.borsh_json.specs.declared.position.Parts.TheVariants.{Root, List as Elements, Row, Object, Entries as MapEntries, Newtype, Some as Present, Variant}
-use Rattle.borsh_json.specs.declared.position.Part.{Part as FoundPart}
-use Rattle.borsh_json.specs.declared.position.Place.{Place}
-use Rattle.borsh_json.specs.declared.sources.Source.{Source}
-use Rattle.borsh_json.specs.Forms.{Form, form_of, field_bytes}
-use Rattle.borsh_json.specs.Frames.{FailsRead, name_step, first_steps, last_steps, steps_at, Left, items_left, fields_left, entries_left, Wanted, IsWanted, IsObject, IsMapPlace, IsKey, HasItems, HasFields, HasEntries, NoneLeft, IsLeft, AreEntriesOf, HasLeft, SaysOn, IsPlaceOf, IsPlaceIn, AscendIn, IsDoing, SaysAll, IsNext, DeniesKey, IsNextEntry}
-use Rattle.borsh_json.specs.InOrder.{field as field_step, place as place_step, element as element_step, AreSteps}
-use Rattle.borsh_json.specs.NoValue.{SaysOwn, LacksField, HasOther}
-use Rattle.borsh_json.specs.Places.{IsAt, AreKeysOf}
-use Rattle.borsh_json.specs.Represents.{SaysFirst, HaveBytes, none_left, next_part}
-use Rattle.borsh_json.specs.Table.{Keys, Kind, inner, fields, HasKind, Part as JsonPart, row_parts, field_parts, Entry, key_json, entry_parts, Says}
-use Rattle.borsh_json.proofs.EachLaws.{fields_only}
-use Rattle.borsh_json.proofs.InOrderLaws.{key_in_order}
-use Rattle.borsh_json.proofs.ReaderLaws.{object_one, fields_joined, fields_count}
-use Rattle.borsh_json.proofs.RepresentsLaws.{kind_one}
-use Rattle.borsh_json.proofs.StepLaws.{item_front, fields_end, left_there, items_left_none, entries_left_none, no_row, no_entries}
+use Rattle.borsh_json.specs.{declared.error.ReadError.{ReadError}, declared.kinds.Entries.{Entries as FoundEntries}, declared.parts.Next.{Next}, declared.parts.Next.TheVariants.{Part, Missing, End}, declared.position.Key.{Key}, declared.position.Key.TheVariants.{None as NoKey, Name, Entry as EntryOf}, declared.position.Parts.{Parts}, declared.position.Parts.TheVariants.{Root, List as Elements, Row, Object, Entries as MapEntries, Newtype, Some as Present, Variant}, declared.position.Part.{Part as FoundPart}, declared.position.Place.{Place}, declared.sources.Source.{Source}, Forms.{Form, form_of, field_bytes}, Frames.{FailsRead, name_step, first_steps, last_steps, steps_at, Left, items_left, fields_left, entries_left, Wanted, IsWanted, IsObject, IsMapPlace, IsKey, HasItems, HasFields, HasEntries, NoneLeft, IsLeft, AreEntriesOf, HasLeft, SaysOn, IsPlaceOf, IsPlaceIn, IsDoing, SaysAll, IsNext, DeniesKey, IsNextEntry}, InOrder.{field as field_step, place as place_step, element as element_step, AreSteps}, NoValue.{SaysOwn, LacksField, HasOther}, Places.{IsAt, AreKeysOf}, Represents.{SaysFirst, HaveBytes, none_left, next_part}, Table.{Keys, Kind, inner, fields, HasKind, Part as JsonPart, row_parts, field_parts, Entry, key_json, entry_parts, Says}}
+use Rattle.borsh_json.proofs.{EachLaws.{fields_only}, ReaderLaws.{object_one, fields_joined, fields_count}, RepresentsLaws.{kind_one}, StepLaws.{item_front, fields_end, left_there, items_left_none, entries_left_none, no_row, no_entries}}
 
 -- a key that isn't that of an entry is of no map
 no_map : (p : Parts) (key : Key) (f : List ℕ) → ((es : FoundEntries) → key ≡ EntryOf es → ⊥) → IsKey p key f → IsMapPlace p → ⊥
@@ -189,11 +165,7 @@ module _ (F : List ℕ → Option Form) (ns : List Named) (d : ℕ) (x : List �
 
   module _ (out : List ℕ) (p q : Place) (s t : Source) (part : FoundPart)
       (wanted : (ws : List Wanted) → IsWanted F ns p.parts p.begun ws → (w : Wanted) × (rest : List Wanted) × (ws ≡ w ∷ rest) × IsAt ns part.at w.1 × IsKey p.parts part.key w.0 × IsWanted F ns q.parts q.begun rest)
-      (same : q.parts ≡ p.parts) (begun : q.begun ≡ p.begun + 1) (order : q.ascent ≡ p.ascent)
-      (ascends : AscendIn F ns p.ascent p.parts x i) where
-    still_ascends : AscendIn F ns q.ascent q.parts x i
-    still_ascends = subst (λ (a : Option Ascent). AscendIn F ns a q.parts x i) (sym order) (subst (λ (r : Parts). AscendIn F ns p.ascent r x i) (sym same) ascends)
-
+      (same : q.parts ≡ p.parts) (begun : q.begun ≡ p.begun + 1) where
     module _ (field : List ℕ) (name : (name : Bor (List ℕ)) → part.key ≡ Name name → field ≡ name.now) (single : (es : FoundEntries) → part.key ≡ EntryOf es → ⊥) where
       pub part_next : (o : Option (List Token)) (n : Next)
           → ((js : Items) → HasItems s js → MatchOption o (js ≡ no_items) (λ e. (i : Json) × (rest : Items) × (js ≡ item i rest) × BeginsWith e i × HasItems t rest))
@@ -220,9 +192,8 @@ module _ (F : List ℕ → Option Form) (ns : List Named) (d : ℕ) (x : List �
             kind = kind;
             says = more;
             is_place = part_begun F ns d p q x kind i ds (w.0.1, m.0) same begun h.6 is;
-            ascends = still_ascends;
           } in
-          subst (λ (n : Next). IsNext F ns d x i own ds q t out out n) (sym found) ([], [], w.0.1, m.0, none_left, sym (append-nil out), w.3, m.3, doing, inl refl, tt)
+          subst (λ (n : Next). IsNext F ns d x i own ds q t out out n) (sym found) ([], [], w.0.1, m.0, none_left, sym (append-nil out), w.3, m.3, doing)
       part_next None n of_items of_fields found (fields_left gs fs ms c) h says is =
           let w = wanted fs h.1 in
           let f = field_is p.parts part.key w.0.0 field name h.0 w.4 in
@@ -247,9 +218,8 @@ module _ (F : List ℕ → Option Form) (ns : List Named) (d : ℕ) (x : List �
             kind = kind;
             says = fields_more F ns kind i own ds gs w.0 w.1 ms c g.1 g.0 g.2 g.4 (subst (λ (l : List Wanted). SaysOn F ns kind i own ds (fields_left gs l ms c)) w.2 says);
             is_place = part_begun F ns d p q x kind i ds (w.0.1, g.0) same begun (object_or_map p.parts h.0) is;
-            ascends = still_ascends;
           } in
-          subst (λ (n : Next). IsNext F ns d x i own ds q t out out n) (sym found) ([], [], w.0.1, g.0, none_left, sym (append-nil out), w.3, g.3, doing, inl refl, tt)
+          subst (λ (n : Next). IsNext F ns d x i own ds q t out out n) (sym found) ([], [], w.0.1, g.0, none_left, sym (append-nil out), w.3, g.3, doing)
       part_next o n of_items of_fields found (entries_left keys k v es) h says is =
           let w = wanted h.0 h.1 in
           absurd (no_map p.parts part.key w.0.0 single w.4 (map_place F ns p.parts s keys k v es h.3))
@@ -298,6 +268,5 @@ module _ (F : List ℕ → Option Form) (ns : List Named) (d : ℕ) (x : List �
             kind = kind;
             says = entries_more F ns kind i own ds keys k v a.0 a.1 a.2 says2;
             is_place = entry_begun F ns d p q x kind i ds (k, key_json keys a.0) (v, a.1) same begun (of_map p.parts part.key w.0.0 m key w.4) is;
-            ascends = still_ascends;
           } in
-          ((k, key_json keys a.0) ∷ [], a.3, v, a.1, alone F ns k (key_json keys a.0) a.3 a.8, a.9, a.5, a.6, doing, inr (subst IsMapPlace (sym same) (of_map p.parts part.key w.0.0 m key w.4)), (key_in_order F ns d p x kind i own ds ((v, a.1) ∷ entry_parts keys k v a.2) k (key_json keys a.0) a.3 (of_map p.parts part.key w.0.0 m key w.4) is says2 a.8, tt))
+          ((k, key_json keys a.0) ∷ [], a.3, v, a.1, alone F ns k (key_json keys a.0) a.3 a.8, a.9, a.5, a.6, doing)

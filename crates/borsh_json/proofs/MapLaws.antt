@@ -1,39 +1,11 @@
 -- Maps whose values are objects.
-use Rattle.std.proofs.Common.{◌≡◌, ◌⊎◌, ℕ, suc, zero, ◌+◌, ◌-◌, ◌≤◌, List, [], ◌∷◌, ◌++◌, inl, inr, length, replicate, false, Option, Some, None, refl, sym, ◌∙◌, ap, subst, arith, append-nil, append_assoc, length-append, Ok, pos, nat_le, Bor, nat_cmp, is_ge, Ordering, Less, Equal, Greater}
-use Rattle.std.specs.Option.{option_cmp}
-use Rattle.std.specs.BTreeMap.{BTreeMap, IsOrdered, btree_map_len}
-use Rattle.std.specs.Cmp.Lexicographic.{slice_cmp}
-use Rattle.std.specs.List.{AllByRecursion}
-use Rattle.std.specs.List.Sorted.{IsPermutation, IsStrictlySortedBy}
-use Rattle.std.proofs.lemmas.Cmp.{nat_list_cmp_total}
-use Rattle.std.proofs.lemmas.List.Sorted.{IsPermutation-refl, length_permutation}
-use Rattle.json.specs.Token.{Token}
-use Rattle.json.specs.Json.{Json, object, Members, no_members, member}
-use Rattle.json.specs.Find.{BeginsWith, InMembers}
+use Rattle.std.proofs.{Common.{◌≡◌, ◌⊎◌, ℕ, suc, zero, ◌+◌, ◌-◌, ◌≤◌, List, [], ◌∷◌, ◌++◌, inl, inr, length, replicate, false, Option, Some, None, refl, sym, ◌∙◌, ap, subst, arith, append-nil, append_assoc, length-append, Ok, pos, nat_le, Bor, nat_cmp, is_ge, Ordering, Less, Equal, Greater}, lemmas.Cmp.{nat_list_cmp_total}, lemmas.List.Sorted.{IsPermutation-refl, length_permutation}}
+use Rattle.std.specs.{Option.{option_cmp}, BTreeMap.{BTreeMap, IsOrdered, btree_map_len}, Cmp.Lexicographic.{slice_cmp}, List.{AllByRecursion}, List.Sorted.{IsPermutation, IsStrictlySortedBy}}
+use Rattle.json.specs.{Token.{Token}, Json.{Json, object, Members, no_members, member}, Find.{BeginsWith, InMembers}}
 use Rattle.borsh_walks.specs.Container.{tag}
 use Rattle.borsh_plan.specs.declared.named.Named.{Named}
-use Rattle.borsh_json.specs.declared.error.ReadError.{ReadError}
-use Rattle.borsh_json.specs.declared.kinds.Entries.{Entries as FoundEntries}
-use Rattle.borsh_json.specs.declared.kinds.KeyKind.{KeyKind}
-use Rattle.borsh_json.specs.declared.kinds.KeyKind.TheVariants.{Text as TextKeys, Number as NumberKeys}
-use Rattle.borsh_json.specs.declared.numbers.Number.{Number}
-use Rattle.borsh_json.specs.declared.position.Parts.TheVariants.{Entries as MapEntries}
-use Rattle.borsh_json.specs.declared.position.Place.{Place}
-use Rattle.borsh_json.specs.declared.sources.Source.{Source}
-use Rattle.borsh_json.specs.declared.sources.Source.TheVariants.{Entries as InPlace, Texts, Ranks}
-use Rattle.borsh_json.specs.Forms.{Form, form_of}
-use Rattle.borsh_json.specs.Frames.{ShowsRead, DeniesRead, FailsRead, Wanted, IsText, IsRank, AreKeyed, HasEntries, HaveOneEach, HasNoNumber, AreSorted, HasLeft, IsOpened, entries_left, IsKeyReason, IsUnexpected}
-use Rattle.borsh_json.specs.Places.{IsAt, AreKeysOf}
-use Rattle.borsh_json.specs.Represents.{HaveBytes, SaysSome}
-use Rattle.borsh_json.specs.Table.{Lengths, Keys, texts, numbers, whole, entries, HasKind, IsNumber, IsWhole, Part, Entry, entries_of, entry_parts, key_order, key_json, Says}
-use Rattle.borsh_json.proofs.EachLaws.{sorted_each}
-use Rattle.borsh_json.proofs.KeyJson.{key_number, tells}
-use Rattle.borsh_json.proofs.MemberLaws.{keyed_length, sorted_keyed, text_cmp}
-use Rattle.borsh_json.proofs.NumberLaws.{ranks_compare}
-use Rattle.borsh_json.proofs.OpeningLaws.{key_why, no_ascent, framed, said, shows_or, refuses_plain}
-use Rattle.borsh_json.proofs.ReaderLaws.{split, uncons, object_one}
-use Rattle.borsh_json.proofs.RepresentsLaws.{IsAmong, moved, kind_one, number_one}
-use Rattle.borsh_json.specs.NoValue.{SaysOwn, FailsHere}
+use Rattle.borsh_json.specs.{declared.error.ReadError.{ReadError}, declared.kinds.Entries.{Entries as FoundEntries}, declared.kinds.KeyKind.{KeyKind}, declared.kinds.KeyKind.TheVariants.{Text as TextKeys, Number as NumberKeys}, declared.numbers.Number.{Number}, declared.position.Parts.TheVariants.{Entries as MapEntries}, declared.position.Place.{Place}, declared.sources.Source.{Source}, declared.sources.Source.TheVariants.{Entries as InPlace, Texts, Ranks}, Forms.{Form, form_of}, Frames.{ShowsRead, DeniesRead, FailsRead, Wanted, IsText, IsRank, AreKeyed, HasEntries, HaveOneEach, HasNoNumber, AreSorted, HasLeft, IsOpened, entries_left, IsKeyReason, IsUnexpected}, Places.{IsAt, AreKeysOf}, Represents.{HaveBytes, SaysSome}, Table.{Lengths, Keys, texts, numbers, whole, entries, HasKind, IsNumber, IsWhole, Part, Entry, entries_of, entry_parts, key_order, key_json, Says}, NoValue.{SaysOwn, FailsHere}}
+use Rattle.borsh_json.proofs.{EachLaws.{sorted_each}, KeyJson.{key_number, tells}, MemberLaws.{keyed_length, sorted_keyed, text_cmp}, NumberLaws.{ranks_compare}, OpeningLaws.{key_why, framed, said, shows_read, refuses_plain}, ReaderLaws.{split, uncons, object_one}, RepresentsLaws.{IsAmong, moved, kind_one, number_one}}
 
 among_middle : (e : Entry) (xs ys : List Entry) → IsAmong e (xs ++ e ∷ ys)
 among_middle e [] ys = inl refl
@@ -156,7 +128,7 @@ module _ (F : List ℕ → Option Form) (ns : List Named) (x : List ℕ) (j : Js
         (g.0, subst (λ (s : List ℕ). IsWhole n.size n.is_signed n.is_non_zero s g.0) (number_one n.size g.2.0 s (key_json keys s) g.2.1 a) g.2.2)
 
     pub numbers_fail : (e : ReadError) → ShowsRead (IsKeyReason j) e ((((ms : Members) × (j ≡ object ms) × HaveOneEach (entries_of ms)) → ⊥) ⊎ HasNoNumber n j) → FailsRead F x j e
-    numbers_fail e d = shows_or e (key_why F ns x j) fails (λ i z. z) d
+    numbers_fail e d = shows_read e (key_why F ns x j) fails d
       where
         fails : (((ms : Members) × (j ≡ object ms) × HaveOneEach (entries_of ms)) → ⊥) ⊎ HasNoNumber n j → FailsHere F x j
         fails (inl g) = inl (λ s. g (texts_said s))
@@ -164,8 +136,8 @@ module _ (F : List ℕ → Option Form) (ns : List Named) (x : List ℕ) (j : Js
 
   -- ---- its frame
   module _ (kind : KeyKind) (s : Source) (n : ℕ) (t : AreSorted keys kind j (s, n)) where
-    pub map_opened : (m : FoundEntries) (place : Place) (old new : List ℕ) → IsAt ns m.key k → IsAt ns m.value v → AreKeysOf F ns k (form_of m.key_definition.now) m.key_kind keys → m.key_kind ≡ kind → place.parts ≡ MapEntries m n → place.begun ≡ 0 → l.least ≤ n → n ≤ l.greatest → new ≡ old ++ tag l.width (pos n) → place.ascent ≡ None → IsOpened F ns x j old new (Ok (Some (record { place = place; source = s })))
-    map_opened m place old new a b c d p g low high o none =
+    pub map_opened : (m : FoundEntries) (place : Place) (old new : List ℕ) → IsAt ns m.key k → IsAt ns m.value v → AreKeysOf F ns k (form_of m.key_definition.now) m.key_kind keys → m.key_kind ≡ kind → place.parts ≡ MapEntries m n → place.begun ≡ 0 → l.least ≤ n → n ≤ l.greatest → new ≡ old ++ tag l.width (pos n) → IsOpened F ns x j old new (Ok (Some (record { place = place; source = s })))
+    map_opened m place old new a b c d p g low high o =
         let es = t.1 in
         let z = t.6 in
         let ps = entry_parts keys k v es in
@@ -175,7 +147,7 @@ module _ (F : List ℕ → Option Form) (ns : List Named) (x : List ℕ) (j : Js
         let w : Wanted = ([], v) in
         let there : HasLeft F ns (MapEntries m n) 0 s left = (replicate n w, (v, b, ap (λ (i : ℕ). replicate i w) least), copies_length n w ∙ z, (a, b, c, subst (λ (kind : KeyKind). HasEntries kind s es) (sym d) t.5)) in
         let q : own ≡ tag l.width (pos n) = append-nil (tag l.width (pos (length es))) ∙ ap (λ i. tag l.width (pos i)) (sym z) in
-        (own, o ∙ ap (λ y. old ++ y) (sym q), framed F ns x j place s (MapEntries m n) (entries l keys k v) own left p g h there (t.0, es, t.2, t.3, t.4, (omega (arith, z, low), omega (arith, z, high), refl), refl) (l, keys, k, v, refl, refl) (no_ascent F ns x j place (MapEntries m n) (λ z. absurd (let q = z.2 in cc)) none))
+        (own, o ∙ ap (λ y. old ++ y) (sym q), framed F ns x j place s (MapEntries m n) (entries l keys k v) own left p g h there (t.0, es, t.2, t.3, t.4, (omega (arith, z, low), omega (arith, z, high), refl), refl) (l, keys, k, v, refl, refl))
 
     pub map_range : (e : ReadError) → DeniesRead IsUnexpected e ((l.least ≤ n) × (n ≤ l.greatest)) → FailsRead F x j e
     map_range e d = refuses_plain F ns x j e (λ y.

@@ -1,21 +1,9 @@
 -- The members of an object, one after another, and maps of them by their keys.
-use Rattle.std.proofs.Common.{◌≡◌, ◌⊎◌, inl, inr, ℕ, suc, List, [], ◌∷◌, ◌++◌, length, Bool, true, false, Option, Some, None, refl, sym, ◌∙◌, ap, subst, append-nil, append_assoc, cond, is_some, ◌||◌, Bor, bytes_eq, Ordering, Less, Equal, Greater}
-use Rattle.std.specs.BTreeMap.{BTreeMap, UpdatesBy, insert_entry, is_at}
-use Rattle.std.specs.Cmp.Lexicographic.{slice_cmp}
-use Rattle.std.specs.List.{AllByRecursion, list_any}
-use Rattle.std.specs.List.Sorted.{IsPermutation, IsStrictlySortedBy}
-use Rattle.std.specs.Map.{keys_of, lookup}
-use Rattle.std.specs.Ordering.{nat_cmp, is_eq, match_ordering}
-use Rattle.std.proofs.lemmas.List.Sorted.{IsPermutation-refl, IsPermutation-cons, IsPermutation-middle, IsPermutation-trans, IsPermutation-push_more, list_any-IsPermutation}
-use Rattle.std.proofs.lemmas.Map.Text.{btree_map_updates_str, is_eq-slice_cmp}
-use Rattle.std.proofs.lemmas.Slice.Eq.{bytes_eq-Decides}
-use Rattle.json.specs.Token.{Token}
-use Rattle.json.specs.Json.{Json, Members, no_members, member, object}
-use Rattle.json.specs.Find.{BeginsWith, InMembers, get_member, later_or, Finds}
+use Rattle.std.proofs.{Common.{◌≡◌, ◌⊎◌, inl, inr, ℕ, suc, List, [], ◌∷◌, ◌++◌, length, Bool, true, false, Option, Some, None, refl, sym, ◌∙◌, ap, subst, append-nil, append_assoc, cond, is_some, ◌||◌, Bor, bytes_eq, Ordering, Less, Equal, Greater}, lemmas.List.Sorted.{IsPermutation-refl, IsPermutation-cons, IsPermutation-middle, IsPermutation-trans, IsPermutation-push_more, list_any-IsPermutation}, lemmas.Map.Text.{btree_map_updates_str, is_eq-slice_cmp}, lemmas.Slice.Eq.{bytes_eq-Decides}}
+use Rattle.std.specs.{BTreeMap.{BTreeMap, UpdatesBy, insert_entry, is_at}, Cmp.Lexicographic.{slice_cmp}, List.{AllByRecursion, list_any}, List.Sorted.{IsPermutation, IsStrictlySortedBy}, Map.{keys_of, lookup}, Ordering.{nat_cmp, is_eq, match_ordering}}
+use Rattle.json.specs.{Token.{Token}, Json.{Json, Members, no_members, member, object}, Find.{BeginsWith, InMembers, get_member, later_or, Finds}}
 use Rattle.borsh_walks.specs.Tables.{mark_of}
-use Rattle.borsh_json.specs.Frames.{IsText, AreKeyed, HaveOneEach}
-use Rattle.borsh_json.specs.Table.{Entry, entries_of}
-use Rattle.borsh_json.specs.NoValue.{RepeatsKey}
+use Rattle.borsh_json.specs.{Frames.{IsText, AreKeyed, HaveOneEach}, Table.{Entry, entries_of}, NoValue.{RepeatsKey}}
 
 -- ---- entries by the keys of a map
 there_case : (b : Bool) (t : List Token) (o : Option (List Token)) → is_some (cond b (Some t) o) ≡ true → (b ≡ true) ⊎ (is_some o ≡ true)

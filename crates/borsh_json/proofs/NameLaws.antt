@@ -1,25 +1,11 @@
 -- The kinds of names.
-use Rattle.std.proofs.Common.{◌≡◌, ◌⊎◌, inl, inr, ℕ, suc, zero, ◌<◌, List, [], ◌∷◌, Bool, true, false, Option, Some, None, refl, sym, ◌∙◌, ap, subst, arith, map, ◌==◌, ◌&&◌, ◌||◌, if◌then◌else◌, codes, not, option_map, ℤ, bytes_eq}
+use Rattle.std.proofs.{Common.{◌≡◌, ◌⊎◌, inl, inr, ℕ, suc, zero, ◌<◌, List, [], ◌∷◌, Bool, true, false, Option, Some, None, refl, sym, ◌∙◌, ap, subst, arith, map, ◌==◌, ◌&&◌, ◌||◌, if◌then◌else◌, codes, not, option_map, ℤ, bytes_eq}, lemmas.Bool.{or_cases}, lemmas.Bool.Decides.{nat_tests}, lemmas.Slice.Eq.{bytes_eq-Decides}}
 use Rattle.borsh_walks.specs.Container.{first, zeroed}
-use Rattle.std.specs.Float.{Format, binary32, binary64}
-use Rattle.std.specs.List.{AllByRecursion, IsDistinct}
-use Rattle.std.proofs.lemmas.Bool.{or_cases}
-use Rattle.std.proofs.lemmas.Bool.Decides.{nat_tests}
-use Rattle.std.proofs.lemmas.Slice.Eq.{bytes_eq-Decides}
+use Rattle.std.specs.{Float.{Format, binary32, binary64}, List.{AllByRecursion, IsDistinct}}
 use Rattle.borsh_plan.specs.declared.named.Named.{Named}
-use Rattle.borsh_json.specs.declared.formats.Collection.{Collection}
-use Rattle.borsh_json.specs.declared.formats.Collection.TheVariants.{List as AList, Set, Map}
+use Rattle.borsh_json.specs.{declared.formats.Collection.{Collection}, declared.formats.Collection.TheVariants.{List as AList, Set, Map}, declared.kinds.Elements.{Elements}, declared.kinds.Kind.TheVariants.{Numbers, List as ElementList}, declared.numbers.Number.{Number}, Forms.{Form, primitive, sequence, choice, named, unnamed, HasNoBytes, IsByte, IsOption, IsMap, shape_of_form, shapes}, Table.{Lengths, IsString, Keys, texts, numbers, Kind, truth, whole, float, float_size, utf8, byte_list, list, fields, variants, optional, entries, inner, DefinedKind, number_types, number_kind, primitive_kind, AreKeys, SequenceKind, a_text, some_bytes, an_object, some_elements, nullable, by_name, HasKind, IsNullable, MayBeNull, without_bytes, an_option, in_newtype, Says, ComesTwice, HasEmptyElements, RepeatsName}, Ranks.{number_found}, Places.{IsAt, IsKindOf, IsUnsayable, lengths_of}, Found.{IsCollection}}
 use Rattle.borsh_values.specs.Nodes.{packed_size}
-use Rattle.borsh_json.specs.declared.kinds.Elements.{Elements}
-use Rattle.borsh_json.specs.declared.kinds.Kind.TheVariants.{Numbers, List as ElementList}
-use Rattle.borsh_json.specs.declared.numbers.Number.{Number}
-use Rattle.borsh_json.specs.Forms.{Form, primitive, sequence, choice, named, unnamed, HasNoBytes, IsByte, IsOption, IsMap, shape_of_form, shapes}
-use Rattle.borsh_json.specs.Table.{Lengths, IsString, Keys, texts, numbers, Kind, truth, whole, float, float_size, utf8, byte_list, list, fields, variants, optional, entries, inner, DefinedKind, number_types, number_kind, primitive_kind, AreKeys, SequenceKind, a_text, some_bytes, an_object, some_elements, nullable, by_name, HasKind, IsNullable, MayBeNull, without_bytes, an_option, in_newtype, Says, ComesTwice, HasEmptyElements, RepeatsName}
-use Rattle.borsh_json.specs.Ranks.{number_found}
-use Rattle.borsh_json.specs.Places.{IsAt, IsKindOf, IsUnsayable, lengths_of}
-use Rattle.borsh_json.specs.Found.{IsCollection}
-use Rattle.borsh_json.proofs.FoundLaws.{full_primitive, full_list, byte_full, zero_part}
-use Rattle.borsh_json.proofs.RepresentsLaws.{byte_or_map, kind_one, map_one}
+use Rattle.borsh_json.proofs.{FoundLaws.{full_primitive, full_list, byte_full, zero_part}, RepresentsLaws.{byte_or_map, kind_one, map_one}}
 
 -- ---- tests
 pub and_true : (a b : Bool) → (a && b) ≡ true → (a ≡ true) × (b ≡ true)

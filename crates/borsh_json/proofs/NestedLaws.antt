@@ -3,13 +3,7 @@ use Rattle.std.proofs.Common.{◌≡◌, ℕ, suc, ◌+◌, ◌<◌, ◌≤◌, 
 use Rattle.borsh_walks.specs.Container.{IsIn, first, later, Member, Members}
 use Rattle.borsh_walks.proofs.Laws.{zero_member}
 use Rattle.borsh_values.proofs.MemberLaws.{members_head}
-use Rattle.borsh_json.specs.declared.position.Place.{Place}
-use Rattle.borsh_json.specs.Forms.{Form, shapes, HasNoBytes}
-use Rattle.borsh_json.specs.Frames.{first_steps, last_steps, steps_at, steps_through}
-use Rattle.borsh_json.specs.InOrder.{Step, place as place_step}
-use Rattle.borsh_json.specs.Inside.{IsInside, LeadTo, outermost, inside}
-use Rattle.borsh_json.specs.Only.{IsOpened, AreOnly, none_only, empty_only}
-use Rattle.borsh_json.specs.Writes.{Rest, names_of_rest, Progress, one_more, Level, opened, steps_to, AreCalled, Nested, unread, entered, passed, Mark, AreEach, AreLevels, no_levels, level, entry_level}
+use Rattle.borsh_json.specs.{declared.position.Place.{Place}, Forms.{Form, shapes, HasNoBytes}, Frames.{first_steps, last_steps, steps_at, steps_through}, InOrder.{Step, place as place_step}, Inside.{IsInside, LeadTo, outermost, inside}, Only.{IsOpened, AreOnly, none_only, empty_only}, Writes.{Rest, names_of_rest, Progress, one_more, Level, opened, steps_to, AreCalled, Nested, unread, entered, passed, Mark, AreEach, AreLevels, no_levels, level, entry_level}}
 use Rattle.borsh_json.proofs.OnlyLaws.{value_only, only_joined}
 
 -- the name is the only one, or comes later

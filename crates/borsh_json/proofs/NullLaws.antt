@@ -1,11 +1,8 @@
 -- JSON `null` says only values of names whose JSON may be `null`.
 use Rattle.std.proofs.Common.{inl, inr, ℕ, suc, zero, List, ◌∷◌, ◌++◌, Option, Some, ◌∙◌, ap, subst}
 use Rattle.json.specs.Json.{null}
-use Rattle.borsh_json.specs.Forms.{Form, HasNoBytes}
-use Rattle.borsh_json.specs.Table.{Kind, no_bytes, truth, whole, float, raw, utf8, byte_list, list, row, inner, fields, optional, variants, entries, MayBeNull, too_far, without_bytes, an_option, in_newtype, HasKind, IsNumber, Part, Says}
-use Rattle.borsh_json.specs.Represents.{HaveBytes}
-use Rattle.borsh_json.proofs.FormKinds.{formed, form_found}
-use Rattle.borsh_json.proofs.ReaderLaws.{uncons}
+use Rattle.borsh_json.specs.{Forms.{Form, HasNoBytes}, Table.{Kind, no_bytes, truth, whole, float, raw, utf8, byte_list, list, row, inner, fields, optional, variants, entries, MayBeNull, too_far, without_bytes, an_option, in_newtype, HasKind, IsNumber, Part, Says}, Represents.{HaveBytes}}
+use Rattle.borsh_json.proofs.{FormKinds.{formed, form_found}, ReaderLaws.{uncons}}
 
 not_number : (n : ℕ) (s : List ℕ) → IsNumber n s null → ⊥
 not_number n s (inl i) = let e = i.1 in cc

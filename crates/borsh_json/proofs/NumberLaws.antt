@@ -1,21 +1,9 @@
 -- Whole numbers below a power of 256, and their bytes.
-use Rattle.std.proofs.Common.{◌≡◌, ℕ, suc, zero, ◌+◌, ◌-◌, ◌*◌, ◌/◌, ◌%◌, ◌<◌, ◌≤◌, ◌^◌, List, [], ◌∷◌, ◌++◌, map, take, min, replicate, inl, inr, Bool, true, false, refl, sym, ◌∙◌, ap, subst, arith, append_assoc, SFits, ℤ, pos, negsuc, neg_ℤ, ◌<ℤ◌, Result, Ok, Err, OnOk, FitsSigned, pow-add, pow_pos, Ordering, Less, Equal, Greater, append-nil}
-use Rattle.std.specs.Int.Signed.{lt_z}
-use Rattle.std.specs.Int.{byte_at, bytes_low_first, cast_signed, cast_unsigned, to_le_bytes, w64, w128}
-use Rattle.std.specs.Ordering.{nat_cmp, int_cmp, is_eq, MatchOrdering}
-use Rattle.std.specs.Cmp.{nat_cmp_is, int_ranks, Equal-is}
-use Rattle.std.specs.Fmt.{decimal, signed_decimal}
-use Rattle.std.specs.Str.Parse.{signed_digits_value}
-use Rattle.std.proofs.lemmas.Fmt.{decimal_digit, decimal_is_IsNumeral_wide}
-use Rattle.std.proofs.Math.Nat.{pow-suc, div-lt_iff_lt-mul, div-div-eq-div-mul}
+use Rattle.std.proofs.{Common.{◌≡◌, ℕ, suc, zero, ◌+◌, ◌-◌, ◌*◌, ◌/◌, ◌%◌, ◌<◌, ◌≤◌, ◌^◌, List, [], ◌∷◌, ◌++◌, map, take, min, replicate, inl, inr, Bool, true, false, refl, sym, ◌∙◌, ap, subst, arith, append_assoc, SFits, ℤ, pos, negsuc, neg_ℤ, ◌<ℤ◌, Result, Ok, Err, OnOk, FitsSigned, pow-add, pow_pos, Ordering, Less, Equal, Greater, append-nil}, lemmas.Fmt.{decimal_digit, decimal_is_IsNumeral_wide}, Math.Nat.{pow-suc, div-lt_iff_lt-mul, div-div-eq-div-mul}, lemmas.Int.{ints, to_z-of_z}, lemmas.Bool.{cases_lt}, lemmas.Bool.Decides.{nat_tests}}
+use Rattle.std.specs.{Int.Signed.{lt_z}, Int.{byte_at, bytes_low_first, cast_signed, cast_unsigned, to_le_bytes, w64, w128}, Ordering.{nat_cmp, int_cmp, is_eq, MatchOrdering}, Cmp.{nat_cmp_is, int_ranks, Equal-is}, Fmt.{decimal, signed_decimal}, Str.Parse.{signed_digits_value}}
 use Rattle.borsh_walks.specs.Container.{tag, little_endian}
-use Rattle.borsh_json.specs.Table.{InRange, IsWhole}
-use Rattle.borsh_json.specs.Ranks.{rank_of, HasRank}
-use Rattle.std.proofs.lemmas.Int.{ints, to_z-of_z}
-use Rattle.std.proofs.lemmas.Bool.{cases_lt}
-use Rattle.std.proofs.lemmas.Bool.Decides.{nat_tests}
-use Rattle.borsh_json.proofs.DecimalLaws.{numeral_value}
-use Rattle.borsh_json.proofs.RepresentsLaws.{IsShort, decimal_one, power_most, short}
+use Rattle.borsh_json.specs.{Table.{InRange, IsWhole}, Ranks.{rank_of, HasRank}}
+use Rattle.borsh_json.proofs.{DecimalLaws.{numeral_value}, RepresentsLaws.{IsShort, decimal_one, power_most, short}}
 
 byte_power : (s : ℕ) → 2 ^ (8 * s) ≡ 256 ^ s
 byte_power zero = refl

@@ -1,7 +1,6 @@
 -- Where JSON has the text of a number.
 use Rattle.std.proofs.Common.{◌≡◌, inl, inr, ℕ, ◌<◌, List, Option, Some, None, sym, ap, arith, option_map, MatchOption, Bor}
-use Rattle.json.specs.Json.{Json}
-use Rattle.json.specs.Find.{as_str, as_number}
+use Rattle.json.specs.{Json.{Json}, Find.{as_str, as_number}}
 use Rattle.borsh_json.specs.Table.{IsNumber}
 use Rattle.borsh_json.proofs.OpeningLaws.{string_is, number_is}
 

@@ -1,13 +1,10 @@
 -- Values whose definitions go with their bytes in one way only, one after another.
 use Rattle.std.proofs.Common.{◌≡◌, ℕ, suc, zero, List, [], ◌∷◌, ◌++◌, replicate, Option, Some, refl, sym, subst, append_assoc, append-nil}
-use Rattle.borsh_walks.specs.Container.{Members}
-use Rattle.borsh_walks.specs.Container as shape
+use Rattle.borsh_walks.specs.{Container.{Members}, Container as shape}
 use Rattle.borsh_values.specs.Nodes.{Opens}
 use Rattle.borsh_values.proofs.MemberLaws.{member_as, members_head, no_more, opens_once}
-use Rattle.borsh_json.specs.Forms.{Form, primitive, shapes}
-use Rattle.borsh_json.specs.Only.{IsOpened, AreOnly, none_only, empty_only, opened_only}
-use Rattle.borsh_json.proofs.FormKinds.{shaped}
-use Rattle.borsh_json.proofs.FoundLaws.{full_primitive}
+use Rattle.borsh_json.specs.{Forms.{Form, primitive, shapes}, Only.{IsOpened, AreOnly, none_only, empty_only, opened_only}}
+use Rattle.borsh_json.proofs.{FormKinds.{shaped}, FoundLaws.{full_primitive}}
 
 module _ (F : List ℕ → Option Form) where
   -- a value, with its parts
@@ -27,4 +24,4 @@ module _ (F : List ℕ → Option Form) where
       let own = h.0 in
       let a = member_as (shapes F) (shape.primitive (suc n)) (shaped (F e) c) h.2 in
       let o : Opens (shapes F) (shape.primitive (suc n)) own [] = (a.0, a.1, refl) in
-      subst (λ b. AreOnly F (e ∷ replicate k e) b) (sym h.4) (opened_only (primitive (suc n)) own [] (full_primitive F c, c, o, opens_once (shapes F) (shape.primitive (suc n)) own [] tt o, tt) (copies_only n k c h.3))
+      subst (λ b. AreOnly F (e ∷ replicate k e) b) (sym h.4) (opened_only (primitive (suc n)) own [] (full_primitive F c, c, o, opens_once (shapes F) (shape.primitive (suc n)) own [] tt o, tt, tt) (copies_only n k c h.3))

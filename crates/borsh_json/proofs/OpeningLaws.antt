@@ -1,31 +1,9 @@
 -- What JSON of a kind opens.
 use Rattle.std.proofs.Common.{◌≡◌, inl, inr, ℕ, suc, zero, List, [], ◌∷◌, ◌++◌, length, map, replicate, drop, Bool, true, Option, Some, None, refl, sym, ◌∙◌, ap, subst, arith, append-nil, Result, Ok, Err, ℤ, slice_get, MatchOption, String, string_bytes, Global}
-use Rattle.json.specs.Token.{Token}
-use Rattle.json.specs.Json.{Json, null, boolean, number, string, Items, no_items, item}
-use Rattle.json.specs.Find.{BeginsWith, is_null, as_bool, as_str, as_number}
+use Rattle.json.specs.{Token.{Token}, Json.{Json, null, boolean, number, string, Items, no_items, item}, Find.{BeginsWith, is_null, as_bool, as_str, as_number}}
 use Rattle.borsh_plan.specs.declared.named.Named.{Named}
-use Rattle.borsh_json.specs.declared.error.ReadError.{ReadError}
-use Rattle.borsh_json.specs.declared.error.ReadError.TheVariants.{OutOfMemory, Refused, Descends as DescendsAt}
-use Rattle.borsh_json.specs.declared.error.Refusal.{Refusal}
-use Rattle.borsh_json.specs.declared.error.Refusal.TheVariants.{RepeatedName, EmptyElements, Expected, RepeatedKey}
-use Rattle.borsh_json.specs.declared.kinds.Flaw.{Flaw}
-use Rattle.borsh_json.specs.declared.kinds.Flaw.TheVariants.{RepeatedName as NameTwice, EmptyElements as NoElements}
-use Rattle.borsh_json.specs.declared.opening.Frame.{Frame}
-use Rattle.borsh_json.specs.declared.order.Ascent.{Ascent}
-use Rattle.borsh_json.specs.declared.position.Parts.{Parts}
-use Rattle.borsh_json.specs.declared.position.Place.{Place}
-use Rattle.borsh_json.specs.declared.sources.Source.{Source}
-use Rattle.borsh_json.specs.declared.sources.Source.TheVariants.{One}
-use Rattle.borsh_json.specs.Forms.{Form}
-use Rattle.borsh_json.specs.Frames.{ShowsOr, ShowsRead, DeniesRead, FailsRead, Left, items_left, IsExpected, SaysOn, IsPlaceOf, AscendIn, IsUnbegun, IsFound, IsOpened, IsOpenedOrFalls, HasLeft, IsWanted, IsListPlace, IsMapPlace, Wanted, DeniesOr, IsUnexpected, IsKeyReason}
-use Rattle.borsh_json.specs.InOrder.{DigitsFall, ItemsFall}
-use Rattle.borsh_json.specs.NoValue.{SaysOwn, FailsHere, Why}
-use Rattle.borsh_json.specs.Places.{HasFlaw, IsRefusalOf}
-use Rattle.borsh_json.specs.Table.{Lengths, Kind, byte_list, HasEmptyElements, HasKind, Part, row_parts, list_parts, IsVariant, RepeatsName, this, that, Says}
-use Rattle.borsh_json.proofs.FrameLaws.{drop_at}
-use Rattle.borsh_json.proofs.ReaderLaws.{mapped}
-use Rattle.borsh_json.proofs.RepresentsLaws.{kind_one}
-use Rattle.borsh_json.proofs.StepLaws.{item_back}
+use Rattle.borsh_json.specs.{declared.error.ReadError.{ReadError}, declared.error.ReadError.TheVariants.{OutOfMemory, Refused}, declared.error.Refusal.{Refusal}, declared.error.Refusal.TheVariants.{RepeatedName, EmptyElements, Expected, RepeatedKey}, declared.kinds.Flaw.{Flaw}, declared.kinds.Flaw.TheVariants.{RepeatedName as NameTwice, EmptyElements as NoElements}, declared.opening.Frame.{Frame}, declared.position.Parts.{Parts}, declared.position.Place.{Place}, declared.sources.Source.{Source}, declared.sources.Source.TheVariants.{One}, Forms.{Form}, Frames.{ShowsRead, DeniesRead, FailsRead, Left, items_left, IsExpected, SaysOn, IsPlaceOf, IsFound, IsOpened, HasLeft, IsWanted, IsMapPlace, Wanted, IsUnexpected, IsKeyReason}, NoValue.{SaysOwn, Why}, Places.{HasFlaw, IsRefusalOf}, Table.{Kind, HasEmptyElements, HasKind, Part, row_parts, list_parts, IsVariant, RepeatsName, this, that, Says}}
+use Rattle.borsh_json.proofs.{FrameLaws.{drop_at}, ReaderLaws.{mapped}, RepresentsLaws.{kind_one}, StepLaws.{item_back}}
 
 -- ---- names without JSON
 -- the refusal for a flaw of a name is right where that for each flaw is
@@ -51,17 +29,16 @@ number_is (number t) s e = (let q : t ≡ s = cc in ap (λ t. number t) q)
 number_is json s e = cc
 
 -- ---- errors
-pub shows_or : {D E : ℕ → Type 0} {Reason Other : Refusal → Type 0} (e : ReadError) {P Q : Type 0} → ((r : Refusal) → Reason r → Other r) → (P → Q) → ((i : ℕ) → D i → E i) → ShowsOr D Reason e P → ShowsOr E Other e Q
-shows_or OutOfMemory w f g d = tt
-shows_or (Refused r) w f g d = (w r d.0, f d.1)
-shows_or (DescendsAt i) w f g d = g i d
+pub shows_read : {Reason Other : Refusal → Type 0} (e : ReadError) {P Q : Type 0} → ((r : Refusal) → Reason r → Other r) → (P → Q) → ShowsRead Reason e P → ShowsRead Other e Q
+shows_read OutOfMemory w f d = tt
+shows_read (Refused r) w f d = (w r d.0, f d.1)
 
 pub shows_expected : (Reason : Refusal → Type 0) → ((wanted : String Global) → Reason (Expected wanted)) → (e : ReadError) {P : Type 0} → IsExpected e → P → ShowsRead Reason e P
 shows_expected Reason w e {P} (inl i) d = subst (λ (e : ReadError). ShowsRead Reason e P) (sym i) tt
 shows_expected Reason w e {P} (inr i) d = subst (λ (e : ReadError). ShowsRead Reason e P) (sym i.1) (w i.0, d)
 
 pub denies_read : (Reason : Refusal → Type 0) (e : ReadError) {P Q : Type 0} → (Q → P) → DeniesRead Reason e P → DeniesRead Reason e Q
-denies_read Reason e {P} f d = shows_or e (λ r w. w) (λ (n : P → ⊥) q. n (f q)) (λ i z. z) d
+denies_read Reason e {P} f d = shows_read e (λ r w. w) (λ (n : P → ⊥) q. n (f q)) d
 
 pub denies_expected : (Reason : Refusal → Type 0) → ((wanted : String Global) → Reason (Expected wanted)) → (e : ReadError) {P : Type 0} → IsExpected e → (P → ⊥) → DeniesRead Reason e P
 denies_expected Reason w e i d = shows_expected Reason w e i d
@@ -77,14 +54,11 @@ module _ (F : List ℕ → Option Form) (ns : List Named) (x : List ℕ) (j : Js
   key_why (RepeatedKey name) p = p
   key_why refusal p = absurd p
 
-  pub refuses_or : {D E : ℕ → Type 0} (e : ReadError) {P : Type 0} → (SaysOwn F x j → P) → ((i : ℕ) → D i → E i) → DeniesOr D IsUnexpected e P → ShowsOr E (Why F x j) e (FailsHere F x j)
-  refuses_or e {P} f g d = shows_or e plain_why (λ (n : P → ⊥). inl (λ s. n (f s))) g d
-
   pub refuses_plain : (e : ReadError) {P : Type 0} → (SaysOwn F x j → P) → DeniesRead IsUnexpected e P → FailsRead F x j e
-  refuses_plain e f d = refuses_or e f (λ i z. z) d
+  refuses_plain e {P} f d = shows_read e plain_why (λ (n : P → ⊥). inl (λ s. n (f s))) d
 
   pub refuses_keys : (e : ReadError) {P : Type 0} → (SaysOwn F x j → P) → DeniesRead (IsKeyReason j) e P → FailsRead F x j e
-  refuses_keys e {P} f d = shows_or e key_why (λ (n : P → ⊥). inl (λ s. n (f s))) (λ i z. z) d
+  refuses_keys e {P} f d = shows_read e key_why (λ (n : P → ⊥). inl (λ s. n (f s))) d
 
   pub refuses_expected : (e : ReadError) → IsExpected e → (SaysOwn F x j → ⊥) → FailsRead F x j e
   refuses_expected e i d = shows_expected (Why F x j) (λ w. tt) e i (inl d)
@@ -99,33 +73,17 @@ module _ (F : List ℕ → Option Form) (ns : List Named) (x : List ℕ) (j : Js
 
 module _ (F : List ℕ → Option Form) (ns : List Named) (x : List ℕ) (j : Json) where
   -- the frame of a place whose value was opened
-  pub framed : (place : Place) (t : Source) (p : Parts) (kind : Kind) (own : List ℕ) (l : Left) → place.parts ≡ p → place.begun ≡ 0 → HasKind F x kind → HasLeft F ns p 0 t l → SaysOn F ns kind j own [] l → IsPlaceOf F ns p 0 kind j [] → AscendIn F ns place.ascent p x j × IsUnbegun place.ascent → IsFound F ns x j own (Some (record { place = place; source = t }))
-  framed place t p kind own l e b h there says is a = (
-    record {
-      left = l;
-      here = subst (λ (q : Parts). HasLeft F ns q place.begun t l) (sym e) (subst (λ (k : ℕ). HasLeft F ns p k t l) (sym b) there);
-      kind = kind;
-      says = says;
-      is_place = (h, subst (λ (q : Parts). IsPlaceOf F ns q place.begun kind j []) (sym e) (subst (λ (k : ℕ). IsPlaceOf F ns p k kind j []) (sym b) is));
-      ascends = subst (λ (q : Parts). AscendIn F ns place.ascent q x j) (sym e) a.0;
-    },
-    a.1,
-  )
+  pub framed : (place : Place) (t : Source) (p : Parts) (kind : Kind) (own : List ℕ) (l : Left) → place.parts ≡ p → place.begun ≡ 0 → HasKind F x kind → HasLeft F ns p 0 t l → SaysOn F ns kind j own [] l → IsPlaceOf F ns p 0 kind j [] → IsFound F ns x j own (Some (record { place = place; source = t }))
+  framed place t p kind own l e b h there says is = record {
+    left = l;
+    here = subst (λ (q : Parts). HasLeft F ns q place.begun t l) (sym e) (subst (λ (k : ℕ). HasLeft F ns p k t l) (sym b) there);
+    kind = kind;
+    says = says;
+    is_place = (h, subst (λ (q : Parts). IsPlaceOf F ns q place.begun kind j []) (sym e) (subst (λ (k : ℕ). IsPlaceOf F ns p k kind j []) (sym b) is));
+  }
 
-  -- parts that need not ascend
-  pub no_ascent : (place : Place) (p : Parts) → (IsListPlace p → (index : ℕ) → ItemsFall F x j index → ⊥) → place.ascent ≡ None → AscendIn F ns place.ascent p x j × IsUnbegun place.ascent
-  no_ascent place p none e = subst (λ (a : Option Ascent). AscendIn F ns a p x j × IsUnbegun a) (sym e) (none, tt)
-
-  pub opened_digits : (kind : Kind) (old new own : List ℕ) → HasKind F x kind → ((index : ℕ) → DigitsFall F x j index → ⊥) → new ≡ old ++ own → Says F kind j own [] → IsOpened F ns x j old new (Ok None)
-  opened_digits kind old new own h none e s = (own, e, ((kind, h, s), none))
-
-  pub opened_leaf : (kind : Kind) → ((l : Lengths) (e : List ℕ) → kind ≡ byte_list l e → ⊥) → (old new own : List ℕ) → HasKind F x kind → new ≡ old ++ own → Says F kind j own [] → IsOpened F ns x j old new (Ok None)
-  opened_leaf kind plain old new own h e s = opened_digits kind old new own h (λ index d. plain d.0 d.1 (kind_one F h d.6)) e s
-
-  -- what is opened doesn't fall
-  pub opened : (old new : List ℕ) (r : Result (Option Frame) ReadError) → IsOpened F ns x j old new r → IsOpenedOrFalls F ns x j old new r
-  opened old new (Err (DescendsAt i)) o = absurd o
-  opened old new found o = o
+  pub opened_leaf : (kind : Kind) → (old new own : List ℕ) → HasKind F x kind → new ≡ old ++ own → Says F kind j own [] → IsOpened F ns x j old new (Ok None)
+  opened_leaf kind old new own h e s = (own, e, (kind, h, s))
 
   -- without own bytes the output may be any
   pub unmoved : (out : List ℕ) (r : Result (Option Frame) ReadError) → IsOpened F ns x j [] [] r → IsOpened F ns x j out out r
@@ -191,10 +149,10 @@ no_variant k v p vs e h = elim (subst (λ (l : List (ℤ × List ℕ × List ℕ
 -- ---- a value whose only part is another
 module _ (F : List ℕ → Option Form) (ns : List Named) (x : List ℕ) (j : Json) where
   -- where the place wants one part
-  pub only_found : (kind : Kind) (own : List ℕ) (p : Parts) (y : List ℕ) (i : Json) (e : List Token) (o : Option Frame) → MatchOption o ⊥ (λ f. (f.place.parts ≡ p) × (f.place.begun ≡ 0) × (f.source ≡ One (Some e)) × (f.place.ascent ≡ None)) → ((b : ℕ) → (z : List ℕ) × (z ≡ y) × ((ws : List Wanted) → ws ≡ drop b (([], z) ∷ []) → IsWanted F ns p b ws)) → (IsMapPlace p → ⊥) → (IsListPlace p → ⊥) → IsPlaceOf F ns p 0 kind j [] → HasKind F x kind → BeginsWith e i → Says F kind j own ((y, i) ∷ []) → IsFound F ns x j own o
-  only_found kind own p y i e None o g n nl is h b s = absurd o
-  only_found kind own p y i e (Some f) o g n nl is h b s =
+  pub only_found : (kind : Kind) (own : List ℕ) (p : Parts) (y : List ℕ) (i : Json) (e : List Token) (o : Option Frame) → MatchOption o ⊥ (λ f. (f.place.parts ≡ p) × (f.place.begun ≡ 0) × (f.source ≡ One (Some e))) → ((b : ℕ) → (z : List ℕ) × (z ≡ y) × ((ws : List Wanted) → ws ≡ drop b (([], z) ∷ []) → IsWanted F ns p b ws)) → (IsMapPlace p → ⊥) → IsPlaceOf F ns p 0 kind j [] → HasKind F x kind → BeginsWith e i → Says F kind j own ((y, i) ∷ []) → IsFound F ns x j own o
+  only_found kind own p y i e None o g n is h b s = absurd o
+  only_found kind own p y i e (Some f) o g n is h b s =
       let w = g 0 in
       let l = items_left (y ∷ []) (item i no_items) in
       let there : HasLeft F ns p 0 (One (Some e)) l = (([], y) ∷ [], w.2 (([], y) ∷ []) (ap (λ (z : List ℕ). ([], z) ∷ []) (sym w.1)), refl, (i, refl, b), (y, i) ∷ [], refl, n) in
-      framed F ns x j f.place f.source p kind own l o.0 o.1 h (subst (λ (t : Source). HasLeft F ns p 0 t l) (sym o.2) there) ((y, i) ∷ [], refl, s) is (no_ascent F ns x j f.place p (λ z. absurd (nl z)) o.3)
+      framed F ns x j f.place f.source p kind own l o.0 o.1 h (subst (λ (t : Source). HasLeft F ns p 0 t l) (sym o.2) there) ((y, i) ∷ [], refl, s) is

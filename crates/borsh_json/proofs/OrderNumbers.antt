@@ -1,11 +1,7 @@
 -- How numbers compare by their bytes.
-use Rattle.std.proofs.Common.{◌≡◌, ℕ, suc, zero, ◌-◌, ◌*◌, ◌/◌, ◌%◌, ◌<◌, ◌≤◌, ◌^◌, List, [], ◌∷◌, length, map, drop, get_or, min, Bool, true, false, leb, refl, sym, ◌∙◌, ap, arith, pow-suc, ℤ, pos, negsuc, ◌<ℤ◌, Ordering, Less, Equal, Greater}
+use Rattle.std.proofs.{Common.{◌≡◌, ℕ, suc, zero, ◌-◌, ◌*◌, ◌/◌, ◌%◌, ◌<◌, ◌≤◌, ◌^◌, List, [], ◌∷◌, length, map, drop, get_or, min, Bool, true, false, leb, refl, sym, ◌∙◌, ap, arith, pow-suc, ℤ, pos, negsuc, ◌<ℤ◌, Ordering, Less, Equal, Greater}, lemmas.Cmp.{ranked}, lemmas.Bool.Decides.{nat_tests}, lemmas.Int.{ints}}
 use mathlib.Core.Bool.{not, beq}
-use Rattle.std.specs.Ordering.{nat_cmp, int_cmp, bool_cmp, MatchOrdering}
-use Rattle.std.specs.Cmp.{nat_cmp_is, int_cmp_is, int_ranks}
-use Rattle.std.proofs.lemmas.Cmp.{ranked}
-use Rattle.std.proofs.lemmas.Bool.Decides.{nat_tests}
-use Rattle.std.proofs.lemmas.Int.{ints}
+use Rattle.std.specs.{Ordering.{nat_cmp, int_cmp, bool_cmp, MatchOrdering}, Cmp.{nat_cmp_is, int_cmp_is, int_ranks}}
 use Rattle.borsh_walks.specs.Container.{tag, little_endian}
 use Rattle.borsh_values.proofs.TagLaws.{drop_at}
 use Rattle.borsh_json.specs.Table.{InRange}

@@ -1,13 +1,8 @@
 -- The orders of names, as names and definitions tell them.
 use Rattle.std.proofs.Common.{◌≡◌, inl, inr, ℕ, suc, zero, ◌+◌, ◌<◌, List, [], ◌∷◌, ◌++◌, length, map, take, get_or, Bool, true, false, Option, Some, None, IfSome, String, refl, sym, ◌∙◌, ap, subst, arith, append_assoc, ◌==◌, codes, slice_get, string_bytes, Global, append-nil}
 use Rattle.borsh_plan.specs.declared.named.Named.{Named}
-use Rattle.borsh_json.specs.declared.order.Ordered.{Ordered}
-use Rattle.borsh_json.specs.declared.order.Ordered.TheVariants.{Number}
-use Rattle.borsh_json.specs.Forms.{Form, primitive, HasNoBytes}
-use Rattle.borsh_json.specs.Table.{primitive_kind}
+use Rattle.borsh_json.specs.{declared.order.Ordered.{Ordered}, declared.order.Ordered.TheVariants.{Number}, Forms.{Form, primitive, HasNoBytes}, Table.{primitive_kind}, Ordered.{numbers, AreNumbers}, Orders.{IsOrderOf, FindsOrder, FindsBytes}}
 use Rattle.borsh_walks.specs.TupleNames.{following, tuple_name}
-use Rattle.borsh_json.specs.Ordered.{numbers, AreNumbers}
-use Rattle.borsh_json.specs.Orders.{IsOrderOf, FindsOrder, FindsBytes}
 
 -- ---- names
 pub named_get : (ps : List (String Global)) (i : ℕ) (a : String Global) → i < length ps → a ≡ get_or ps i a → slice_get (map (λ p. string_bytes p) ps) i ≡ Some (string_bytes a)

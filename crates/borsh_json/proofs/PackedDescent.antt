@@ -3,14 +3,8 @@ use Rattle.std.proofs.Common.{◌≡◌, inl, inr, ℕ, suc, ◌-◌, ◌*◌, �
 use Rattle.borsh_walks.specs.Container.{tag}
 use Rattle.borsh_values.specs.Nodes.{packed_size, OpensElements, Opens, AreElementsOf}
 use Rattle.borsh_plan.specs.declared.named.Named.{Named}
-use Rattle.borsh_json.specs.declared.order.Ordered.{Ordered}
-use Rattle.borsh_json.specs.Descents.{PrimitivesDescend, HasKeys, HasDescent}
-use Rattle.borsh_json.specs.Forms.{Form, primitive, sequence, shape_of_form, shapes}
-use Rattle.borsh_json.specs.Found.{IsSet}
-use Rattle.borsh_json.specs.Orders.{FindsOrder, KeysAscend, ArePrimitives}
-use Rattle.borsh_json.proofs.DescentLaws.{primitives_descend}
-use Rattle.borsh_json.proofs.FormKinds.{shaped}
-use Rattle.borsh_json.proofs.OrderLaws.{clash}
+use Rattle.borsh_json.specs.{declared.order.Ordered.{Ordered}, Descents.{PrimitivesDescend, HasKeys, HasDescent}, Forms.{Form, primitive, sequence, shape_of_form, shapes}, Found.{IsSet}, Orders.{FindsOrder, KeysAscend, ArePrimitives}}
+use Rattle.borsh_json.proofs.{DescentLaws.{primitives_descend}, FormKinds.{shaped}, OrderLaws.{clash}}
 
 module _ (F : List ℕ → Option Form) (ns : List Named) where
   -- a set of primitives, with their order, and its own bytes

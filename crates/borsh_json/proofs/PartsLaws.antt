@@ -1,25 +1,11 @@
 -- Rows, lists, objects and variants that are opened.
 use Rattle.std.proofs.Common.{◌≡◌, inl, inr, ℕ, suc, zero, ◌≤◌, List, [], ◌∷◌, ◌++◌, length, map, replicate, Option, Some, None, refl, sym, ◌∙◌, ap, subst, arith, append-nil, string_bytes, IsSome, Ok, String, Vec, ℤ, pos, slice_get, ◌-◌, Bor, Global, BTreeMap, bytes_eq}
 use Rattle.std.specs.List.{IsDistinct}
-use Rattle.json.specs.Token.{Token}
-use Rattle.json.specs.Json.{Json, string, array, object, Items, Members, no_members, member}
-use Rattle.json.specs.Find.{InItems, Finds, as_str, as_array, get_member}
-use Rattle.borsh_walks.specs.Container.{tag, references, variant_names}
-use Rattle.borsh_walks.specs.Tables.{mark_of}
+use Rattle.json.specs.{Token.{Token}, Json.{Json, string, array, object, Items, Members, no_members, member}, Find.{InItems, Finds, as_str, as_array, get_member}}
+use Rattle.borsh_walks.specs.{Container.{tag, references, variant_names}, Tables.{mark_of}}
 use Rattle.borsh_plan.specs.declared.named.Named.{Named}
-use Rattle.borsh_json.specs.declared.error.ReadError.{ReadError}
-use Rattle.borsh_json.specs.declared.position.Parts.TheVariants.{List as Elements, Row, Object}
-use Rattle.borsh_json.specs.declared.position.Place.{Place}
-use Rattle.borsh_json.specs.declared.sources.Source.{Source}
-use Rattle.borsh_json.specs.declared.sources.Source.TheVariants.{Items as TheItems}
-use Rattle.borsh_json.specs.Forms.{Form, named, choice, shape_of_form, HasNoBytes, field_bytes}
-use Rattle.borsh_json.specs.Frames.{DeniesRead, FailsRead, Wanted, AreFound, AreOthers, HasFields, HasLeft, AscendIn, IsUnbegun, IsOpened, NamesVariant, items_left, fields_left, IsListKind, IsUnexpected}
-use Rattle.borsh_json.specs.NoValue.{SaysOwn, NamesNoVariant}
-use Rattle.borsh_json.specs.Places.{IsAt, IsUnsayable}
-use Rattle.borsh_json.specs.Table.{Lengths, Kind, byte_list, row, fields, variants, HasKind, Part, row_parts, list_parts, entries_of, IsVariant, IsHex, IsPrefixed, IsArray, Says}
-use Rattle.borsh_json.proofs.FormKinds.{form_found}
-use Rattle.borsh_json.proofs.RepresentsLaws.{variant_one}
-use Rattle.borsh_json.proofs.OpeningLaws.{no_ascent, denied, said, framed, row_fits, rows_there, list_row, list_length, second_map, second_copies, refuses_plain}
+use Rattle.borsh_json.specs.{declared.error.ReadError.{ReadError}, declared.position.Parts.TheVariants.{List as Elements, Row, Object}, declared.position.Place.{Place}, declared.sources.Source.{Source}, declared.sources.Source.TheVariants.{Items as TheItems}, Forms.{Form, named, choice, shape_of_form, HasNoBytes, field_bytes}, Frames.{DeniesRead, FailsRead, Wanted, AreFound, AreOthers, HasFields, HasLeft, IsOpened, NamesVariant, items_left, fields_left, IsListKind, IsUnexpected}, NoValue.{SaysOwn, NamesNoVariant}, Places.{IsAt, IsUnsayable}, Table.{Lengths, Kind, byte_list, row, fields, variants, HasKind, Part, row_parts, list_parts, entries_of, IsVariant, IsHex, IsPrefixed, IsArray, Says}}
+use Rattle.borsh_json.proofs.{FormKinds.{form_found}, RepresentsLaws.{variant_one}, OpeningLaws.{denied, said, framed, row_fits, rows_there, list_row, list_length, second_map, second_copies, refuses_plain}}
 
 array_one : (js ks : Items) → array js ≡ array ks → js ≡ ks
 array_one js ks e = cc
@@ -31,14 +17,14 @@ module _ (F : List ℕ → Option Form) (ns : List Named) (x : List ℕ) (j : Js
 
   -- ---- rows
   module _ (f : Form) (at n : ℕ) (i : IsAt ns at x) (d : F x ≡ Some f) (h : HasKind F x (row (references (shape_of_form f)))) (c : length (references (shape_of_form f)) ≡ n) where
-    pub row_opened : (place : Place) (ts : List Token) (js : Items) (k : ℕ) → place.parts ≡ Row at n → place.begun ≡ 0 → j ≡ array js → InItems ts js → k ≡ length (list_parts [] js) → k ≡ n → place.ascent ≡ None → IsOpened F ns x j [] [] (Ok (Some (record { place = place; source = TheItems ts })))
-    row_opened place ts js k p b e t l q a =
+    pub row_opened : (place : Place) (ts : List Token) (js : Items) (k : ℕ) → place.parts ≡ Row at n → place.begun ≡ 0 → j ≡ array js → InItems ts js → k ≡ length (list_parts [] js) → k ≡ n → IsOpened F ns x j [] [] (Ok (Some (record { place = place; source = TheItems ts })))
+    row_opened place ts js k p b e t l q =
         let refs = references (shape_of_form f) in
         let nameless : List ℕ → Wanted = λ y. ([], y) in
         let r = rows_there refs js k l (c ∙ sym q) in
         let left = items_left refs js in
         let there : HasLeft F ns (Row at n) 0 (TheItems ts) left = (map nameless refs, (x, f, i, d, c, refl), sym (second_map refs), t, r.0, r.1, λ z. z) in
-        ([], refl, framed F ns x j place (TheItems ts) (Row at n) (row refs) [] left p b h there (r.0, r.1, (refl, js, e, r.1)) (refs, refl, refl) (no_ascent F ns x j place (Row at n) (λ z. absurd (let q = z.2 in cc)) a))
+        ([], refl, framed F ns x j place (TheItems ts) (Row at n) (row refs) [] left p b h there (r.0, r.1, (refl, js, e, r.1)) (refs, refl, refl))
 
     pub row_count : (js : Items) (k : ℕ) → j ≡ array js → k ≡ length (list_parts [] js) → (k ≡ n → ⊥) → SaysOwn F x j → ⊥
     row_count js k e l q = denied F ns x j (row (references (shape_of_form f))) h (λ own ps s.
@@ -52,8 +38,8 @@ module _ (F : List ℕ → Option Form) (ns : List Named) (x : List ℕ) (j : Js
   module _ (kind : Kind) (l : Lengths) (e : List ℕ) (at : ℕ) (i : IsAt ns at e) (h : HasKind F x kind) (is : IsListKind kind)
       (to : (own : List ℕ) (ps : List Part) → IsArray l e j own ps → Says F kind j own ps)
       (back : (own : List ℕ) (ps : List Part) → Says F kind j own ps → IsArray l e j own ps) where
-    pub list_opened : (place : Place) (ts : List Token) (js : Items) (n : ℕ) (old new : List ℕ) → place.parts ≡ Elements at n → place.begun ≡ 0 → j ≡ array js → InItems ts js → n ≡ length (list_parts [] js) → l.least ≤ n → n ≤ l.greatest → new ≡ old ++ tag l.width (pos n) → AscendIn F ns place.ascent (Elements at n) x j × IsUnbegun place.ascent → IsOpened F ns x j old new (Ok (Some (record { place = place; source = TheItems ts })))
-    list_opened place ts js n old new p b g t c low high o a =
+    pub list_opened : (place : Place) (ts : List Token) (js : Items) (n : ℕ) (old new : List ℕ) → place.parts ≡ Elements at n → place.begun ≡ 0 → j ≡ array js → InItems ts js → n ≡ length (list_parts [] js) → l.least ≤ n → n ≤ l.greatest → new ≡ old ++ tag l.width (pos n) → IsOpened F ns x j old new (Ok (Some (record { place = place; source = TheItems ts })))
+    list_opened place ts js n old new p b g t c low high o =
         let ps = list_parts e js in
         let k : length ps ≡ n = list_length e js ∙ sym c in
         let own = tag l.width (pos (length ps)) ++ [] in
@@ -62,7 +48,7 @@ module _ (F : List ℕ → Option Form) (ns : List Named) (x : List ℕ) (j : Js
         let r : row_parts (replicate n e) js ≡ Some ps = ap (λ m. row_parts (replicate m e) js) c ∙ list_row e js in
         let there : HasLeft F ns (Elements at n) 0 (TheItems ts) left = (replicate n ([], e), (e, i, ap (λ (k : ℕ). replicate k ([], e)) least), sym (second_copies n e), t, ps, r, λ z. z) in
         let q : own ≡ tag l.width (pos n) = append-nil (tag l.width (pos (length ps))) ∙ ap (λ m. tag l.width (pos m)) k in
-        (own, o ∙ ap (λ z. old ++ z) (sym q), framed F ns x j place (TheItems ts) (Elements at n) kind own left p b h there (ps, r, to own ps (js, g, refl, (omega (arith, k, low), omega (arith, k, high), refl))) (is, refl, (js, g)) a)
+        (own, o ∙ ap (λ z. old ++ z) (sym q), framed F ns x j place (TheItems ts) (Elements at n) kind own left p b h there (ps, r, to own ps (js, g, refl, (omega (arith, k, low), omega (arith, k, high), refl))) (is, refl, (js, g)))
 
     pub no_list : as_array j ≡ None → SaysOwn F x j → ⊥
     no_list g = denied F ns x j kind h (λ own ps s. let q = back own ps s in let k = ap as_array q.1 in cc)
@@ -96,14 +82,14 @@ names_of a b [] = refl
 names_of a b (x ∷ xs) = ap (λ l. a x ∷ l) (names_of a b xs)
 
 module _ (F : List ℕ → Option Form) (ns : List Named) (x : List ℕ) (j : Json) (at : ℕ) (fs : Bor (Vec (String Global × String Global) Global)) (i : IsAt ns at x) where
-  pub object_opened : (place : Place) (s : Source) (ms : Members) (n : ℕ) → HasKind F x (fields (map field_bytes fs.now.items)) → IsDistinct bytes_eq (map (λ f. string_bytes f.0) fs.now.items) → place.parts ≡ Object at fs → place.begun ≡ 0 → j ≡ object ms → n ≡ length (entries_of ms) → HasFields s [] (map field_bytes fs.now.items) ms n → place.ascent ≡ None → IsOpened F ns x j [] [] (Ok (Some (record { place = place; source = s })))
-  object_opened place s ms n h u p b e c g a =
+  pub object_opened : (place : Place) (s : Source) (ms : Members) (n : ℕ) → HasKind F x (fields (map field_bytes fs.now.items)) → IsDistinct bytes_eq (map (λ f. string_bytes f.0) fs.now.items) → place.parts ≡ Object at fs → place.begun ≡ 0 → j ≡ object ms → n ≡ length (entries_of ms) → HasFields s [] (map field_bytes fs.now.items) ms n → IsOpened F ns x j [] [] (Ok (Some (record { place = place; source = s })))
+  object_opened place s ms n h u p b e c g =
       let pair : String Global × String Global → Wanted = λ f. (string_bytes f.0, string_bytes f.1) in
       let all = map pair fs.now.items in
       let d = subst (λ (l : List (List ℕ)). IsDistinct bytes_eq l) (sym (names_of (λ (f : String Global × String Global). string_bytes f.0) (λ f. string_bytes f.1) fs.now.items)) u in
       let left = fields_left [] all ms n in
       let there : HasLeft F ns (Object at fs) 0 s left = (tt, (x, i, form_named F x all h, refl), g) in
-      ([], refl, framed F ns x j place s (Object at fs) (fields all) [] left p b h there (refl, d, refl, e, refl, omega (arith, c)) (refl, refl) (no_ascent F ns x j place (Object at fs) (λ z. absurd (let q = z.2 in cc)) a))
+      ([], refl, framed F ns x j place s (Object at fs) (fields all) [] left p b h there (refl, d, refl, e, refl, omega (arith, c)) (refl, refl))
 
 -- ---- variants
 pub form_choice : (F : List ℕ → Option Form) (x : List ℕ) (w : ℕ) (vs : List (ℤ × List ℕ × List ℕ)) → HasKind F x (variants w vs) → F x ≡ Some (choice w vs)

@@ -1,20 +1,9 @@
 -- What is still to be compared.
-use Rattle.std.proofs.Common.{◌≡◌, ◌⊎◌, inl, inr, ℕ, suc, zero, ◌+◌, ◌-◌, ◌<◌, ◌≤◌, ◌^◌, List, [], ◌∷◌, ◌++◌, length, map, drop, replicate, Bool, Option, Some, None, refl, sym, ◌∙◌, ap, subst, arith, pos, reverse, slice_get, MatchBool, true, false, Ordering, Less, Equal, Greater}
-use Rattle.std.specs.Ordering.{nat_cmp, MatchOrdering}
-use Rattle.std.specs.Cmp.{nat_cmp_is}
-use Rattle.std.proofs.lemmas.List.{reverse-append}
-use Rattle.std.proofs.lemmas.Cmp.{ranked}
+use Rattle.std.proofs.{Common.{◌≡◌, ◌⊎◌, inl, inr, ℕ, suc, zero, ◌+◌, ◌-◌, ◌<◌, ◌≤◌, ◌^◌, List, [], ◌∷◌, ◌++◌, length, map, drop, replicate, Bool, Option, Some, None, refl, sym, ◌∙◌, ap, subst, arith, pos, reverse, slice_get, MatchBool, true, false, Ordering, Less, Equal, Greater}, lemmas.List.{reverse-append}, lemmas.Cmp.{ranked}}
+use Rattle.std.specs.{Ordering.{nat_cmp, MatchOrdering}, Cmp.{nat_cmp_is}}
 use Rattle.borsh_walks.specs.Container.{references, tag}
-use Rattle.borsh_plan.specs.Names.{name_of}
-use Rattle.borsh_plan.specs.declared.named.Named.{Named}
-use Rattle.borsh_json.specs.declared.order.Ordered.{Ordered}
-use Rattle.borsh_json.specs.declared.order.Ordered.TheVariants.{Single, Number, Text, Array, List as Counted, Tuple, Other}
-use Rattle.borsh_json.specs.declared.order.Pending.{Pending}
-use Rattle.borsh_json.specs.declared.order.Pending.TheVariants.{Elements, Parts, Copies, PartCopies}
-use Rattle.borsh_json.specs.Forms.{Form, tuple, shape_of_form, HasNoBytes}
-use Rattle.borsh_json.specs.Ordered.{Order, list, other, HasOrder, Compared, a_value, a_copy, elements, IsAtLeast, all_equal}
-use Rattle.borsh_json.specs.Orders.{FindsOrder, IsPending, ArePending, IsTurn, IsPartAt, AreAlike}
-use Rattle.borsh_json.specs.Places.{IsAt}
+use Rattle.borsh_plan.specs.{Names.{name_of}, declared.named.Named.{Named}}
+use Rattle.borsh_json.specs.{declared.order.Ordered.{Ordered}, declared.order.Ordered.TheVariants.{Single, Number, Text, Array, List as Counted, Tuple, Other}, declared.order.Pending.{Pending}, declared.order.Pending.TheVariants.{Elements, Parts, Copies, PartCopies}, Forms.{Form, tuple, shape_of_form, HasNoBytes}, Ordered.{Order, list, other, HasOrder, Compared, a_value, a_copy, elements, IsAtLeast, all_equal}, Orders.{FindsOrder, IsPending, ArePending, IsTurn, IsPartAt, AreAlike}, Places.{IsAt}}
 use Rattle.borsh_json.proofs.OrderLaws.{Tells, NumbersCompare, TextsCompare, IsCopyOf, single_tells, numbers_tell, texts_tell, array_tells, parts_tell, list_tells, list_short, element_tells, end_tells, empty_tell, alike_then, other_copy, copy_copy, zeros_tell}
 
 drop_get : (i : ℕ) (qs : List (List ℕ)) (p : List ℕ) → slice_get qs i ≡ Some p → drop i qs ≡ p ∷ drop (suc i) qs

@@ -1,18 +1,9 @@
 -- The names and definitions at places.
-use Rattle.std.proofs.Common.{◌≡◌, ◌⊎◌, inl, inr, ℕ, suc, zero, List, [], ◌∷◌, ◌++◌, length, Some, None, refl, sym, ◌∙◌, ap, subst, arith, Bool, Decides, ◌<◌, MatchOption, Option, option_map, slice_get, Bor}
-use Rattle.std.proofs.lemmas.Option.{slice_get-get_or}
-use Rattle.borsh_walks.specs.declared.definition.Definition.{Definition}
-use Rattle.borsh_walks.specs.Container.{Shape, references, IsZeroSize}
-use Rattle.borsh_plan.specs.declared.plan.Plan.{Plan}
-use Rattle.borsh_plan.specs.declared.named.Named.{Named}
-use Rattle.borsh_plan.specs.Names.{IsPlaceOf, name_at, name_of, found_definition, shape_at, parts_in}
-use Rattle.borsh_plan.proofs.Laws.{defined, looked_up}
-use Rattle.borsh_plan.proofs.Places.{name_is, name_there}
-use Rattle.borsh_plan.specs.Plan.{IsZeroAt, definitions_of, map_of, names_of as plan_names}
-use Rattle.borsh_json.specs.declared.kinds.Kind.{Kind as Found}
-use Rattle.borsh_json.specs.Orders.{IsPartAt}
-use Rattle.borsh_json.specs.Places.{IsAt}
-use Rattle.borsh_json.specs.Forms.{Form, form_of, forms_in, shape_of_form, HasNoBytes}
+use Rattle.std.proofs.{Common.{◌≡◌, ◌⊎◌, inl, inr, ℕ, suc, zero, List, [], ◌∷◌, ◌++◌, length, Some, None, refl, sym, ◌∙◌, ap, subst, arith, Bool, Decides, ◌<◌, MatchOption, Option, option_map, slice_get, Bor}, lemmas.Option.{slice_get-get_or}}
+use Rattle.borsh_walks.specs.{declared.definition.Definition.{Definition}, Container.{Shape, references, IsZeroSize}}
+use Rattle.borsh_plan.specs.{declared.plan.Plan.{Plan}, declared.named.Named.{Named}, Names.{IsPlaceOf, name_at, name_of, found_definition, shape_at, parts_in}, Plan.{IsZeroAt, definitions_of, map_of, names_of as plan_names}}
+use Rattle.borsh_plan.proofs.{Laws.{defined, looked_up}, Places.{name_is, name_there}}
+use Rattle.borsh_json.specs.{declared.kinds.Kind.{Kind as Found}, Orders.{IsPartAt}, Places.{IsAt}, Forms.{Form, form_of, forms_in, shape_of_form, HasNoBytes}}
 use Rattle.borsh_walks.proofs.Forms.{shapes_are}
 
 module _ (l : Plan) where

@@ -1,13 +1,7 @@
 -- The bytes of parts, and of those that a path leads to.
 use Rattle.std.proofs.Common.{◌≡◌, inl, inr, ℕ, suc, zero, List, [], ◌∷◌, ◌++◌, length, Option, Some, None, refl, sym, ◌∙◌, ap, subst, append_assoc, option_map, option_and_then, slice_get}
-use Rattle.json.specs.Json.{Json, Members, object}
-use Rattle.json.specs.Find.{get_member}
-use Rattle.borsh_json.specs.Forms.{Form}
-use Rattle.borsh_json.specs.Frames.{Wanted}
-use Rattle.borsh_json.specs.InOrder.{Step, BeginsParts, IsReached, whole_value, part_of}
-use Rattle.borsh_json.specs.NoValue.{LacksField}
-use Rattle.borsh_json.specs.Represents.{SaysFirst, HaveBytes, none_left, next_part, SaysSome}
-use Rattle.borsh_json.specs.Table.{Kind, HasKind, Part, field_parts, Says}
+use Rattle.json.specs.{Json.{Json, Members, object}, Find.{get_member}}
+use Rattle.borsh_json.specs.{Forms.{Form}, Frames.{Wanted}, InOrder.{Step, BeginsParts, IsReached, whole_value, part_of}, NoValue.{LacksField}, Represents.{SaysFirst, HaveBytes, none_left, next_part, SaysSome}, Table.{Kind, HasKind, Part, field_parts, Says}}
 use Rattle.borsh_json.proofs.RepresentsLaws.{says_one, kind_one, kind_small, bytes_one}
 
 -- ---- fields that an object has

@@ -1,44 +1,9 @@
 -- The reader's loop.
-use Rattle.std.proofs.Common.{◌≡◌, inl, inr, ℕ, suc, zero, ◌+◌, ◌-◌, ◌<◌, List, [], ◌∷◌, ◌++◌, length, map, Option, Some, None, refl, sym, ◌∙◌, ap, subst, arith, append_assoc, append-nil, length-append, string_bytes, Bool, true, false, codes, slice_get, String, Result, Ok, Err, IfOk, OnOk, IfErr, Global, Bor}
-use Rattle.json.specs.Token.{Token}
-use Rattle.json.specs.Json.{Json, no_items, item}
-use Rattle.json.specs.Find.{BeginsWith}
+use Rattle.std.proofs.Common.{◌≡◌, inl, inr, ℕ, suc, zero, ◌+◌, ◌-◌, ◌<◌, List, [], ◌∷◌, ◌++◌, length, map, Option, Some, refl, sym, ◌∙◌, ap, subst, arith, append_assoc, append-nil, length-append, string_bytes, Bool, true, false, codes, slice_get, String, Result, Ok, Err, IfOk, OnOk, IfErr, Global, Bor}
+use Rattle.json.specs.{Token.{Token}, Json.{Json, no_items, item}, Find.{BeginsWith}}
 use Rattle.borsh_plan.specs.declared.named.Named.{Named}
-use Rattle.borsh_json.specs.declared.error.PartError.{PartError}
-use Rattle.borsh_json.specs.declared.error.PartError.TheVariants.{OutOfMemory as NoMemory, Refused as RefusedPart}
-use Rattle.borsh_json.specs.declared.error.ReadError.{ReadError}
-use Rattle.borsh_json.specs.declared.error.ReadError.TheVariants.{OutOfMemory, Refused, Descends as DescendsAt}
-use Rattle.borsh_json.specs.declared.error.Refusal.{Refusal}
-use Rattle.borsh_json.specs.declared.error.Refusal.TheVariants.{TooDeep, RepeatedName, EmptyElements, Descends, Expected, MissingField, UnknownName, RepeatedKey, Undefined}
-use Rattle.borsh_json.specs.declared.definitions.Definitions.{Definitions}
-use Rattle.borsh_json.specs.declared.opening.Frame.{Frame}
-use Rattle.borsh_json.specs.declared.order.Ascent.{Ascent}
-use Rattle.borsh_json.specs.declared.order.Ordered.{Ordered}
-use Rattle.borsh_json.specs.declared.parts.Next.TheVariants.{Part, End}
-use Rattle.borsh_json.specs.declared.parts.Reading.{Reading}
-use Rattle.borsh_json.specs.declared.position.Parts.{Parts}
-use Rattle.borsh_json.specs.declared.position.Parts.TheVariants.{Root, List as Elements, Row, Object, Entries as MapEntries, Newtype, Some as Present, Variant}
-use Rattle.borsh_json.specs.declared.position.Place.{Place}
-use Rattle.borsh_json.specs.declared.sources.Source.{Source}
-use Rattle.borsh_json.specs.declared.sources.Source.TheVariants.{One}
-use Rattle.borsh_json.specs.Errors.{IsUnreadable}
-use Rattle.borsh_json.specs.Forms.{Form, field_bytes}
-use Rattle.borsh_json.specs.Found.{forms_of, names_of}
-use Rattle.borsh_json.specs.Frames.{ShowsOr, HasPath, error_steps, name_step, first_steps, last_steps, steps_at, steps_through, IsUnread, IsOf, IsOfRead, Left, items_left, fields_left, entries_left, Wanted, IsUnbegun, BeginsAscending, AreInOrder, AscentFalls, AscentRises, AscendIn, IsListPlace, IsMapPlace, SaysAll, HasLeft, SaysOn, IsPlaceOf, IsPlaceIn, IsDoing, IsNext, NoneLeft, DeniesKey, Stands, IsInside, IsBegun, IsEnded, HaveAround, HasRead, HasBegun, IsReadOn, ReadsOn}
-use Rattle.borsh_json.specs.InOrder.{Step, field as field_step, place as place_step, element as element_step, variant as variant_step, AreSteps, BeginsParts, DigitsFall, ItemsFall, IsReached, whole_value, part_of, InOrder}
-use Rattle.borsh_json.specs.NoValue.{FailsHere, LacksField, FailsAt, SaysNothing, HasOther, Why}
-use Rattle.borsh_json.specs.Orders.{KeysAscend}
-use Rattle.borsh_json.specs.Places.{IsAt}
-use Rattle.borsh_json.specs.Represents.{SaysFirst, HaveBytes, none_left, next_part}
-use Rattle.borsh_json.specs.Table.{Kind, HasKind, inner, fields, Part as JsonPart, entry_parts}
-use Rattle.borsh_json.specs.Writes.{IsFull}
-use Rattle.borsh_json.proofs.FrameLaws.{get_there}
-use Rattle.borsh_json.proofs.ReaderLaws.{joined, no_parts, fields_count, reached_none, lacks_none}
-use Rattle.borsh_json.proofs.OpeningLaws.{no_ascent}
-use Rattle.borsh_json.proofs.AscentLaws.{unbegun_starts, begun_starts, falls_there, rises_there}
-use Rattle.borsh_json.proofs.InOrderLaws.{all_append, all_join, leaf_in_order, place_in_order}
-use Rattle.borsh_json.proofs.LoopLaws.{alone, other_none, fields_same}
-use Rattle.borsh_json.proofs.MapLaws.{fails_none}
+use Rattle.borsh_json.specs.{declared.error.PartError.{PartError}, declared.error.PartError.TheVariants.{OutOfMemory as NoMemory, Refused as RefusedPart}, declared.error.ReadError.{ReadError}, declared.error.ReadError.TheVariants.{OutOfMemory, Refused}, declared.error.Refusal.{Refusal}, declared.error.Refusal.TheVariants.{TooDeep, RepeatedName, EmptyElements, Expected, MissingField, UnknownName, RepeatedKey, Undefined}, declared.definitions.Definitions.{Definitions}, declared.opening.Frame.{Frame}, declared.parts.Next.TheVariants.{Part, End}, declared.parts.Reading.{Reading}, declared.position.Parts.{Parts}, declared.position.Parts.TheVariants.{Root, List as Elements, Row, Object, Entries as MapEntries, Newtype, Some as Present, Variant}, declared.position.Place.{Place}, declared.sources.Source.{Source}, declared.sources.Source.TheVariants.{One}, Errors.{IsUnreadable}, Forms.{Form, field_bytes}, Found.{forms_of, names_of}, Frames.{FailsRead, HasPath, name_step, first_steps, last_steps, steps_at, steps_through, IsUnread, IsOf, IsOfRead, Left, items_left, fields_left, entries_left, Wanted, HasLeft, SaysOn, IsPlaceOf, IsPlaceIn, IsDoing, IsNext, NoneLeft, DeniesKey, Stands, IsInside, IsBegun, IsEnded, HaveAround, HasRead, HasBegun, IsReadOn, ReadsOn}, InOrder.{Step, field as field_step, place as place_step, element as element_step, variant as variant_step, AreSteps, BeginsParts, IsReached, whole_value, part_of}, NoValue.{FailsHere, LacksField, FailsAt, SaysNothing, HasOther, Why}, Places.{IsAt}, Represents.{SaysFirst, HaveBytes, none_left, next_part}, Table.{Kind, inner, fields, Part as JsonPart, entry_parts}, Writes.{IsFull}}
+use Rattle.borsh_json.proofs.{FrameLaws.{get_there}, ReaderLaws.{joined, no_parts, fields_count, reached_none, lacks_none}, LoopLaws.{alone, other_none, fields_same}, MapLaws.{fails_none}}
 
 -- ---- the steps through places
 pub steps_last : (ps : List Place) (p : Place) → steps_through (ps ++ p ∷ []) ≡ steps_through ps ++ steps_at p
@@ -111,28 +76,9 @@ module _ (F : List ℕ → Option Form) (ns : List Named) where
   only_part x i own ds q (inr b) = let e : inner x ≡ fields (b.0 ++ b.1) = b.3 in cc
 
 module _ (F : List ℕ → Option Form) (ns : List Named) where
-  begun_ascends : (old new : Option Ascent) (n : ℕ) (p : Parts) (x : List ℕ) (i : Json) → BeginsAscending old n new → AscendIn F ns old p x i → AscendIn F ns new p x i
-  begun_ascends None new n p x i b a = subst (λ (o : Option Ascent). AscendIn F ns o p x i) (sym b) a
-  begun_ascends (Some old) new n p x i b a = subst (λ (o : Option Ascent). AscendIn F ns o p x i) (sym b.1) (a.0, (a.1.0, subst (λ (o : Ordered). KeysAscend F ns x a.1.0 o) (sym b.2) a.1.1))
-
-  -- a place whose next part may begin
-  pub doing_same : (p q : Place) (s : Source) (n d : ℕ) (x : List ℕ) (i : Json) (own : List ℕ) (ds : List JsonPart) → q.parts ≡ p.parts → q.begun ≡ p.begun → BeginsAscending p.ascent n q.ascent → IsDoing F ns p s d x i own ds → IsDoing F ns q s d x i own ds
-  doing_same p q s n d x i own ds e b a r = record {
-    left = r.left;
-    here = subst (λ (t : Parts). HasLeft F ns t q.begun s r.left) (sym e) (subst (λ (k : ℕ). HasLeft F ns p.parts k s r.left) (sym b) r.here);
-    kind = r.kind;
-    says = r.says;
-    is_place = place_same d r.is_place;
-    ascends = subst (λ (t : Parts). AscendIn F ns q.ascent t x i) (sym e) (begun_ascends p.ascent q.ascent n p.parts x i a r.ascends);
-  }
-    where
-      place_same : (d : ℕ) → IsPlaceIn F ns d p x r.kind i ds → IsPlaceIn F ns d q x r.kind i ds
-      place_same zero h = (e ∙ h.0, h.1)
-      place_same (suc d) h = (h.0, subst (λ (t : Parts). IsPlaceOf F ns t q.begun r.kind i ds) (sym e) (subst (λ (k : ℕ). IsPlaceOf F ns p.parts k r.kind i ds) (sym b) h.1))
-
   -- a frame that was opened, at any depth
   deeper : (p : Place) (s : Source) (d : ℕ) (x : List ℕ) (i : Json) (own : List ℕ) → IsDoing F ns p s 1 x i own [] → IsDoing F ns p s (suc d) x i own []
-  deeper p s d x i own r = record { left = r.left; here = r.here; kind = r.kind; says = r.says; is_place = r.is_place; ascends = r.ascends }
+  deeper p s d x i own r = record { left = r.left; here = r.here; kind = r.kind; says = r.says; is_place = r.is_place }
 
 -- ---- where the reader is
 abbrev Where : Type 1
@@ -212,10 +158,9 @@ module _ (F : List ℕ → Option Form) (ns : List Named) (root : List ℕ) (j :
   -- ---- steps of the loop
 
   -- in front of the whole value
-  pub reading_start : (p : Place) (e : List Token) (ps : List Place) (ss : List Source) (out : List ℕ) → IsAt ns 0 root → BeginsWith e j → p.parts ≡ Root → p.begun ≡ 0 → p.ascent ≡ None → ps ≡ [] → ss ≡ [] → out ≡ [] → HaveAround F ns root j ps ss 0 [] [] root j (IsInside F ns root j p (One (Some e)) out)
-  reading_start p e ps ss out at b parts begun order no_places no_sources no_bytes =
+  pub reading_start : (p : Place) (e : List Token) (ps : List Place) (ss : List Source) (out : List ℕ) → IsAt ns 0 root → BeginsWith e j → p.parts ≡ Root → p.begun ≡ 0 → ps ≡ [] → ss ≡ [] → out ≡ [] → HaveAround F ns root j ps ss 0 [] [] root j (IsInside F ns root j p (One (Some e)) out)
+  reading_start p e ps ss out at b parts begun no_places no_sources no_bytes =
       let left = items_left (root ∷ []) (item j no_items) in
-      let ascent = no_ascent F ns root j p p.parts (λ z. absurd (let q : Root ≡ Elements z.0 z.1 = sym parts ∙ z.2 in cc)) order in
       let here : HasLeft F ns Root 0 (One (Some e)) left = (([], root) ∷ [], (root, at, refl), refl, (j, refl, b), (root, j) ∷ [], refl, λ z. z) in
       let doing : IsDoing F ns p (One (Some e)) 0 root j [] [] = record {
         left = left;
@@ -223,7 +168,6 @@ module _ (F : List ℕ → Option Form) (ns : List Named) (root : List ℕ) (j :
         kind = inner root;
         says = ((root, j) ∷ [], refl, (refl, refl));
         is_place = (parts, refl);
-        ascends = ascent.0;
       } in
       let inside : IsInside F ns root j p (One (Some e)) out 0 [] [] root j = record {
         own = [];
@@ -231,40 +175,31 @@ module _ (F : List ℕ → Option Form) (ns : List Named) (root : List ℕ) (j :
         mid = [];
         stands = (refl, refl, refl, refl);
         doing = doing;
-        starts = unbegun_starts F 0 p.ascent ascent.1;
-        risen = λ place index less f. absurd (omega (arith, less));
-        in_order = tt;
         done = none_left;
         out_is = no_bytes;
       } in
       subst (λ (ps : List Place). HaveAround F ns root j ps ss 0 [] [] root j (IsInside F ns root j p (One (Some e)) out)) (sym no_places) (subst (λ (ss : List Source). HaveAround F ns root j [] ss 0 [] [] root j (IsInside F ns root j p (One (Some e)) out)) (sym no_sources) inside)
 
   -- a part without parts was read
-  pub leaf_inside : (p : Place) (s : Source) (out new own y : List ℕ) (k : Json) (d : ℕ) (path : List Step) (before x : List ℕ) (i : Json) → new ≡ out ++ own → SaysFirst F y k own [] × ((index : ℕ) → DigitsFall F y k index → ⊥) → IsBegun F ns root j p s out y k d path before x i → IsInside F ns root j p s new d path before x i
+  pub leaf_inside : (p : Place) (s : Source) (out new own y : List ℕ) (k : Json) (d : ℕ) (path : List Step) (before x : List ℕ) (i : Json) → new ≡ out ++ own → SaysFirst F y k own [] → IsBegun F ns root j p s out y k d path before x i → IsInside F ns root j p s new d path before x i
   leaf_inside p s out new own y k d path before x i e says r = record {
     own = r.own;
     ds = r.ds ++ (y, k) ∷ [];
     mid = r.mid ++ own;
     stands = r.stands;
     doing = r.doing;
-    starts = r.starts;
-    risen = r.risen;
-    in_order = all_append F r.ds (y, k) r.in_order (leaf_in_order F y k own says.0 says.1);
-    done = joined F r.done (alone F ns y k own says.0);
+    done = joined F r.done (alone F ns y k own says);
     out_is = e ∙ ap (λ l. l ++ own) r.out_is ∙ append_assoc before (r.own ++ r.mid) own ∙ ap (λ l. before ++ l) (append_assoc r.own r.mid own);
   }
 
   -- a part with parts was opened
-  pub frame_inside : (p : Place) (s : Source) (out new own y : List ℕ) (k : Json) (q : Place) (t : Source) (d : ℕ) (path : List Step) (before x : List ℕ) (i : Json) → new ≡ out ++ own → IsDoing F ns q t 1 y k own [] × IsUnbegun q.ascent → IsBegun F ns root j p s out y k d path before x i → IsInside F ns root j q t new (suc d) (path ++ steps_at p) out y k
+  pub frame_inside : (p : Place) (s : Source) (out new own y : List ℕ) (k : Json) (q : Place) (t : Source) (d : ℕ) (path : List Step) (before x : List ℕ) (i : Json) → new ≡ out ++ own → IsDoing F ns q t 1 y k own [] → IsBegun F ns root j p s out y k d path before x i → IsInside F ns root j q t new (suc d) (path ++ steps_at p) out y k
   frame_inside p s out new own y k q t d path before x i e found r = record {
     own = own;
     ds = [];
     mid = [];
     stands = next_stands p s out y k d path before x i r;
-    doing = deeper F ns q t d y k own found.0;
-    starts = unbegun_starts F (length (out ++ own)) q.ascent found.1;
-    risen = λ place index less f. absurd (omega (arith, less));
-    in_order = tt;
+    doing = deeper F ns q t d y k own found;
     done = none_left;
     out_is = e ∙ ap (λ l. out ++ l) (sym (append-nil own));
   }
@@ -280,22 +215,19 @@ module _ (F : List ℕ → Option Form) (ns : List Named) (root : List ℕ) (j :
         mid = r.mid ++ (e.own ++ e.mid);
         stands = r.stands;
         doing = r.doing;
-        starts = r.starts;
-        risen = r.risen;
-        in_order = all_append F r.ds (y, k) r.in_order (e.in_order n);
         done = joined F r.done whole;
         out_is = e.out_is ∙ ap (λ l. l ++ (e.own ++ e.mid)) r.out_is ∙ append_assoc before (r.own ++ r.mid) (e.own ++ e.mid) ∙ ap (λ l. before ++ l) (append_assoc r.own r.mid (e.own ++ e.mid));
       }
 
   -- and those of the whole
-  pub reading_end : (q : Place) (t : Source) (last : List ℕ) → NoneLeft t → IsEnded F ns root j q t last 0 [] [] root j → HaveBytes F ((root, j) ∷ []) last × InOrder F root j
+  pub reading_end : (q : Place) (t : Source) (last : List ℕ) → NoneLeft t → IsEnded F ns root j q t last 0 [] [] root j → HaveBytes F ((root, j) ∷ []) last
   reading_end q t last n e =
       let a = e.all n in
-      (subst (λ (l : List ℕ). HaveBytes F ((root, j) ∷ []) l) (sym (e.out_is ∙ ap (λ l. l ++ e.mid) a.0)) (subst (λ (l : List JsonPart). HaveBytes F l e.mid) a.1 e.done), e.in_order n)
+      subst (λ (l : List ℕ). HaveBytes F ((root, j) ∷ []) l) (sym (e.out_is ∙ ap (λ l. l ++ e.mid) a.0)) (subst (λ (l : List JsonPart). HaveBytes F l e.mid) a.1 e.done)
 
   -- what comes next of the innermost place
-  pub inside_begun : (p a q : Place) (s t : Source) (out new : List ℕ) (at : ℕ) (e : List Token) (d : ℕ) (path : List Step) (before x : List ℕ) (i : Json) (h : IsInside F ns root j p s out d path before x i) → BeginsAscending p.ascent (length out) a.ascent → q.ascent ≡ a.ascent → q.parts ≡ p.parts → (IsListPlace p.parts → (index : ℕ) → index < length h.ds → ItemsFall F x i index → ⊥) → IsNext F ns d x i h.own h.ds q t out new (Part at e) → (y : List ℕ) × (k : Json) × IsAt ns at y × BeginsWith e k × IsBegun F ns root j q t new y k d path before x i
-  inside_begun p a q s t out new at e d path before x i h b same parts rises n = (
+  pub inside_begun : (p q : Place) (s t : Source) (out new : List ℕ) (at : ℕ) (e : List Token) (d : ℕ) (path : List Step) (before x : List ℕ) (i : Json) (h : IsInside F ns root j p s out d path before x i) → IsNext F ns d x i h.own h.ds q t out new (Part at e) → (y : List ℕ) × (k : Json) × IsAt ns at y × BeginsWith e k × IsBegun F ns root j q t new y k d path before x i
+  inside_begun p q s t out new at e d path before x i h n = (
     n.2,
     n.3,
     n.6,
@@ -306,28 +238,13 @@ module _ (F : List ℕ → Option Form) (ns : List Named) (root : List ℕ) (j :
       mid = h.mid ++ n.1;
       stands = h.stands;
       doing = subst (λ (l : List JsonPart). IsDoing F ns q t d x i h.own l) (sym (append_assoc h.ds n.0 ((n.2, n.3) ∷ []))) n.8;
-      starts = begun_starts F before h.own h.mid out h.ds h.out_is h.done ns n.0 (n.2, n.3) p.ascent a.ascent q.ascent q.parts x i h.starts b same n.8.ascends n.9;
-      risen = λ place index less f. rises (subst (λ (p : Parts). IsListPlace p) parts place) index (fewer place index less) f;
-      in_order = all_join F h.ds n.0 h.in_order n.10;
       done = joined F h.done n.4;
       out_is = n.5 ∙ ap (λ l. l ++ n.1) h.out_is ∙ append_assoc before (h.own ++ h.mid) n.1 ∙ ap (λ l. before ++ l) (append_assoc h.own h.mid n.1);
     },
   )
-    where
-      fewer : IsListPlace q.parts → (index : ℕ) → suc index < length ((h.ds ++ n.0) ++ (n.2, n.3) ∷ []) → index < length h.ds
-      fewer place index less =
-          let none : n.0 ≡ [] = elim n.9 [ inl z ↦ z | inr z ↦ absurd (subst (λ (p : Parts). IsMapPlace p) place.2 z) ] in
-          let l = length-append (h.ds ++ n.0) ((n.2, n.3) ∷ []) in
-          let m = ap (λ (l : List JsonPart). length l) (ap (λ (l : List JsonPart). h.ds ++ l) none ∙ append-nil h.ds) in
-          omega (arith, l, m, less)
 
-  -- all of a place was read
-  whole_place : (p : Place) (kind : Kind) (d : ℕ) (x : List ℕ) (i : Json) (own : List ℕ) (ds : List JsonPart) → IsPlaceIn F ns d p x kind i ds → SaysAll F ns d x i own ds → AreInOrder F ds → (IsListPlace p.parts → (index : ℕ) → index < length ds → ItemsFall F x i index → ⊥) → InOrder F x i
-  whole_place p kind zero x i own ds is says all rises = (subst (λ (l : List JsonPart). AreInOrder F l) says.1 all).0
-  whole_place p kind (suc d) x i own ds is says all rises = place_in_order F ns p.parts p.begun x kind i own ds is.0 is.1 says all rises
-
-  pub inside_ended : (p q : Place) (s t : Source) (out new : List ℕ) (d : ℕ) (path : List Step) (before x : List ℕ) (i : Json) (h : IsInside F ns root j p s out d path before x i) → q.parts ≡ p.parts → (IsListPlace p.parts → (index : ℕ) → index < length h.ds → ItemsFall F x i index → ⊥) → IsNext F ns d x i h.own h.ds q t out new End → IsEnded F ns root j q t new d path before x i
-  inside_ended p q s t out new d path before x i h e rises n = record {
+  pub inside_ended : (p q : Place) (s t : Source) (out new : List ℕ) (d : ℕ) (path : List Step) (before x : List ℕ) (i : Json) (h : IsInside F ns root j p s out d path before x i) → q.parts ≡ p.parts → IsNext F ns d x i h.own h.ds q t out new End → IsEnded F ns root j q t new d path before x i
+  inside_ended p q s t out new d path before x i h e n = record {
     own = h.own;
     ds = h.ds;
     mid = h.mid;
@@ -336,7 +253,6 @@ module _ (F : List ℕ → Option Form) (ns : List Named) (root : List ℕ) (j :
     out_is = n.0 ∙ h.out_is;
     at_root = no_steps d h.doing.is_place;
     all = n.1;
-    in_order = λ none. whole_place p h.doing.kind d x i h.own h.ds h.doing.is_place (n.1 none) h.in_order rises;
     others = n.2;
   }
     where
@@ -361,14 +277,9 @@ module _ (F : List ℕ → Option Form) (ns : List Named) (root : List ℕ) (j :
     failed refusal w d = absurd w
 
     -- a part that isn't read
-    pub part_unread : (e : ReadError) (p : PartError) (base : List ℕ) → base ≡ root → IsOfRead e p → HasPath base (error_steps path e) p → ShowsOr (DigitsFall F x i) (Why F x i) e (FailsHere F x i) → IsUnread F root j p
+    pub part_unread : (e : ReadError) (p : PartError) (base : List ℕ) → base ≡ root → IsOfRead e p → HasPath base path p → FailsRead F x i e → IsUnread F root j p
     part_unread OutOfMemory p base b o h d = subst (λ (p : PartError). IsUnread F root j p) (sym o) tt
     part_unread (Refused r) p base b o h d = told r p path base b o h (failed r d.0 d.1)
-    part_unread (DescendsAt k) p base b o h d = told Descends p (path ++ element_step k ∷ []) base b o h (tt, (n, path, k, before, x, i, refl, at, inl d), tt)
-
-    -- elements that don't ascend
-    pub descends_unread : (p : PartError) (base : List ℕ) (steps : List Step) (k : ℕ) → base ≡ root → IsOf Descends p → HasPath base steps p → steps ≡ path ++ element_step k ∷ [] → ItemsFall F x i k → IsUnread F root j p
-    descends_unread p base steps k b o h e d = told Descends p steps base b o h (tt, (n, path, k, before, x, i, e, at, inr d), tt)
 
     -- a field that is missing
     pub missing_unread : (p : PartError) (base : List ℕ) (steps : List Step) (name : List ℕ) → base ≡ root → IsOf MissingField p → HasPath base steps p → steps ≡ path ++ field_step name ∷ [] → LacksField F x i name → IsUnread F root j p
@@ -393,38 +304,6 @@ module _ (F : List ℕ → Option Form) (ns : List Named) (root : List ℕ) (j :
       let steps = first_steps q.parts q.begun ++ place_step 0 ∷ [] in
       let there = part_of k.0 own steps at k.4 k.5 done k.6 in
       told r p (path ++ steps) base b i1 (subst (λ (l : List Step). HasPath base (l ++ steps) p) o h) (failed (path ++ steps) (before ++ (own ++ mid)) k.1 k.2 (suc d) there r k.7.0 k.7.1)
-  key_unread (suc d) path before x i own mid out ds q at done (DescendsAt n) p base outer b o i1 h k = absurd k.7
-
--- two elements that have to ascend
-module _ (d : Definitions) (root : List ℕ) (j : Json) where
-  -- a place of elements is inside of another
-  placed : (p : Place) (n : ℕ) (x : List ℕ) (kind : Kind) (i : Json) (ds : List JsonPart) → IsListPlace p.parts → IsPlaceIn (forms_of d) (names_of d) n p x kind i ds → HasKind (forms_of d) x kind × IsPlaceOf (forms_of d) (names_of d) p.parts p.begun kind i ds
-  placed p (suc n) x kind i ds place h = h
-  placed p zero x kind i ds place h = let q : Root ≡ Elements place.0 place.1 = sym h.0 ∙ place.2 in cc
-
-  -- they do, so none of those that were begun falls
-  pub inside_rises : (p : Place) (s : Source) (out : List ℕ) (n : ℕ) (path : List Step) (before x : List ℕ) (i : Json) (h : IsInside (forms_of d) (names_of d) root j p s out n path before x i) → AscentRises d p.ascent out → IsListPlace p.parts → (index : ℕ) → index < length h.ds → ItemsFall (forms_of d) x i index → ⊥
-  inside_rises p s out n path before x i h u place index less f =
-      let r = h.doing in
-      let is = placed p n x r.kind i h.ds place r.is_place in
-      rises_there d before h.own h.mid out h.ds h.out_is h.done p.parts p.begun r.kind x i is.0 is.1 (begins_parts (forms_of d) (names_of d) r.kind i h.own h.ds r.left r.says) p.ascent h.starts r.ascends u h.risen place index less f
-
-  -- a place whose elements fall is one of elements
-  falling : (p : Place) (x : List ℕ) (i : Json) (out : List ℕ) (o : Option Ascent) → AscendIn (forms_of d) (names_of d) o p.parts x i → AscentFalls d o out → IsListPlace p.parts
-  falling p x i out None a f = absurd f
-  falling p x i out (Some s) a f = a.0
-
-  -- they don't
-  pub ascent_unread : (p q : Place) (s : Source) (out : List ℕ) (n : ℕ) (path : List Step) (before x : List ℕ) (i : Json) → IsInside (forms_of d) (names_of d) root j p s out n path before x i → q.parts ≡ p.parts → q.begun ≡ p.begun → AscentFalls d p.ascent out → (e : PartError) (base : List ℕ) (outer : List Step) → base ≡ root → outer ≡ path → IsOf Descends e → HasPath base (outer ++ first_steps q.parts q.begun) e → IsUnread (forms_of d) root j e
-  ascent_unread p q s out n path before x i h parts begun f e base outer b o of there =
-      let F = forms_of d in
-      let ns = names_of d in
-      let r = h.doing in
-      let is = placed p n x r.kind i h.ds (falling p x i out p.ascent r.ascends f) r.is_place in
-      let k = falls_there d before h.own h.mid out h.ds h.out_is h.done p.parts p.begun r.kind x i is.0 is.1 (begins_parts F ns r.kind i h.own h.ds r.left r.says) p.ascent h.starts r.ascends f in
-      let at = reached F ns root j n path before x i h.stands in
-      let steps = ap (λ (t : Parts). first_steps t q.begun) parts ∙ ap (λ n. first_steps p.parts n) begun ∙ k.1 in
-      descends_unread F ns root j path before x i at.0 at.1 e base (outer ++ first_steps q.parts q.begun) k.0 b of there (ap (λ (l : List Step). l ++ first_steps q.parts q.begun) o ∙ ap (λ (l : List Step). path ++ l) steps) k.2
 
 -- a frame was entered
 module _ (d : Definitions) (root : List ℕ) (j : Json) (old new : Reading) (at : ℕ) (e : List Token) (f : Frame) (bytes : List ℕ) where
@@ -434,7 +313,7 @@ module _ (d : Definitions) (root : List ℕ) (j : Json) (old new : Reading) (at 
   abbrev ns : List Named
   ns = names_of d
 
-  pub frame_read : HasBegun d root j old at e → ((y : List ℕ) (k : Json) → IsAt ns at y → BeginsWith e k → (own : List ℕ) × (bytes ≡ old.out.items ++ own) × (IsDoing F ns f.place f.source 1 y k own [] × IsUnbegun f.place.ascent)) → (r : Result Bool PartError) → IfOk r (λ more. more ≡ true) → OnOk r ((new.position.place ≡ f.place) × (new.source ≡ f.source)) → OnOk r ((new.position.outer.items ≡ old.position.outer.items ++ old.position.place ∷ []) × (new.outer.items ≡ old.outer.items ++ old.source ∷ [])) → OnOk r (new.out.items ≡ bytes) → OnOk r (new.position.root ≡ old.position.root) → IfErr r (λ e. IsFull (length old.position.outer.items) e) → IfErr r (λ e. HasPath old.position.root.now (steps_through old.position.outer.items ++ steps_at old.position.place) e) → ReadsOn d root j new r
+  pub frame_read : HasBegun d root j old at e → ((y : List ℕ) (k : Json) → IsAt ns at y → BeginsWith e k → (own : List ℕ) × (bytes ≡ old.out.items ++ own) × IsDoing F ns f.place f.source 1 y k own []) → (r : Result Bool PartError) → IfOk r (λ more. more ≡ true) → OnOk r ((new.position.place ≡ f.place) × (new.source ≡ f.source)) → OnOk r ((new.position.outer.items ≡ old.position.outer.items ++ old.position.place ∷ []) × (new.outer.items ≡ old.outer.items ++ old.source ∷ [])) → OnOk r (new.out.items ≡ bytes) → OnOk r (new.position.root ≡ old.position.root) → IfErr r (λ e. IsFull (length old.position.outer.items) e) → IfErr r (λ e. HasPath old.position.root.now (steps_through old.position.outer.items ++ steps_at old.position.place) e) → ReadsOn d root j new r
   frame_read b opens (Ok more) m a o s base full path =
       let p = old.position.place in
       let inside = pushed F ns root j old.position.outer.items old.outer.items p old.source 0 [] [] root j _ (IsInside F ns root j f.place f.source bytes) (λ n to before x i h. let g = opens h.0 h.1 h.2 h.3 in (old.out.items, h.0, h.1, h.4, frame_inside F ns root j p old.source old.out.items bytes g.0 h.0 h.1 f.place f.source n to before x i g.1 g.2 h.4)) b.1 in

@@ -1,14 +1,6 @@
 -- Names that are sorted, and of which no two neighbours are equal.
-use Rattle.std.proofs.Common.{◌≡◌, ℕ, suc, zero, ◌+◌, ◌<◌, List, [], ◌∷◌, ◌++◌, length, map, take, Bool, true, false, ◌≤◌, cond, get_or, refl, sym, ◌∙◌, ap, subst, arith, Bor, bytes_eq, Ordering, Less, Equal, Greater}
-use Rattle.std.proofs.Math.Path.{fun_ext}
-use Rattle.std.specs.Cmp.Lexicographic.{on_texts}
-use Rattle.std.specs.List.{AllByRecursion, IsDistinct, fold}
-use Rattle.std.specs.List.Sorted.{IsPermutation, IsSorted, IsStrictlySortedBy}
-use Rattle.std.specs.Ordering.{is_eq, is_lt, ordering_reverse}
-use Rattle.std.proofs.lemmas.Cmp.{nat_list_cmp_total, nat_list_eq_equiv}
-use Rattle.std.proofs.lemmas.List.Sorted.{IsPermutation-sym, sum_by-IsPermutation}
-use Rattle.std.proofs.lemmas.Map.Keys.{IsDistinct-from_sorted, IsDistinct-IsPermutation, apart_from_distinct, sorted_from_all_adjacent}
-use Rattle.std.proofs.lemmas.Map.Text.{is_eq-slice_cmp}
+use Rattle.std.proofs.{Common.{◌≡◌, ℕ, suc, zero, ◌+◌, ◌<◌, List, [], ◌∷◌, ◌++◌, length, map, take, Bool, true, false, ◌≤◌, cond, get_or, refl, sym, ◌∙◌, ap, subst, arith, Bor, bytes_eq, Ordering, Less, Equal, Greater}, Math.Path.{fun_ext}, lemmas.Cmp.{nat_list_cmp_total, nat_list_eq_equiv}, lemmas.List.Sorted.{IsPermutation-sym, sum_by-IsPermutation}, lemmas.Map.Keys.{IsDistinct-from_sorted, IsDistinct-IsPermutation, apart_from_distinct, sorted_from_all_adjacent}, lemmas.Map.Text.{is_eq-slice_cmp}}
+use Rattle.std.specs.{Cmp.Lexicographic.{on_texts}, List.{AllByRecursion, IsDistinct, fold}, List.Sorted.{IsPermutation, IsSorted, IsStrictlySortedBy}, Ordering.{is_eq, is_lt, ordering_reverse}}
 use Rattle.borsh_json.specs.Table.{ComesTwice}
 use Rattle.borsh_json.proofs.MemberLaws.{text_cmp}
 

@@ -1,27 +1,11 @@
 -- A JSON value represents at most one byte string.
-use Rattle.std.proofs.Common.{◌≡◌, ◌⊎◌, inl, inr, ℕ, suc, zero, ◌<◌, ◌≤◌, ◌^◌, List, [], ◌∷◌, ◌++◌, length, map, Bool, true, false, drop, get_or, Option, Some, refl, sym, ◌∙◌, ap, subst, arith, ℤ, pos, negsuc, ◌==◌, ◌&&◌, if◌then◌else◌, codes, bytes_eq, Ordering, Less, Greater}
-use Rattle.std.specs.Float.{binary32, binary64}
-use Rattle.std.specs.Str.Parse.{AllDigits, digits_value, signed_digits_value}
-use Rattle.std.specs.Fmt.{decimal, signed_decimal}
-use Rattle.std.specs.List.{AllByRecursion, IsDistinct}
-use Rattle.std.specs.List.Sorted.{IsPermutation, IsStrictlySortedBy, apply_swaps}
-use Rattle.std.specs.Ordering.{ordering_reverse}
-use Rattle.std.proofs.lemmas.Cmp.{nat_list_cmp_total, int_cmp_total}
-use Rattle.std.proofs.lemmas.Fmt.{decimal_is_IsNumeral_wide}
-use Rattle.std.proofs.lemmas.Grind.{in_moved}
-use Rattle.std.proofs.lemmas.List.Sorted.{IsPermutation-sym}
-use Rattle.std.proofs.lemmas.Map.Keys.{sorted_head, sorted_tail, IsDistinct-head, IsDistinct-tail}
-use Rattle.std.proofs.lemmas.Slice.Eq.{bytes_eq-Decides}
-use Rattle.std.proofs.lemmas.Str.Parse.{digit_from_value}
-use Rattle.std.proofs.Math.Nat.{pow-le-pow_right}
+use Rattle.std.proofs.{Common.{◌≡◌, ◌⊎◌, inl, inr, ℕ, suc, zero, ◌<◌, ◌≤◌, ◌^◌, List, [], ◌∷◌, ◌++◌, length, map, Bool, true, false, drop, get_or, Option, Some, refl, sym, ◌∙◌, ap, subst, arith, ℤ, pos, negsuc, ◌==◌, ◌&&◌, if◌then◌else◌, codes, bytes_eq, Ordering, Less, Greater}, lemmas.Cmp.{nat_list_cmp_total, int_cmp_total}, lemmas.Fmt.{decimal_is_IsNumeral_wide}, lemmas.Grind.{in_moved}, lemmas.List.Sorted.{IsPermutation-sym}, lemmas.Map.Keys.{sorted_head, sorted_tail, IsDistinct-head, IsDistinct-tail}, lemmas.Slice.Eq.{bytes_eq-Decides}, lemmas.Str.Parse.{digit_from_value}, Math.Nat.{pow-le-pow_right}}
+use Rattle.std.specs.{Float.{binary32, binary64}, Str.Parse.{AllDigits, digits_value, signed_digits_value}, Fmt.{decimal, signed_decimal}, List.{AllByRecursion, IsDistinct}, List.Sorted.{IsPermutation, IsStrictlySortedBy, apply_swaps}, Ordering.{ordering_reverse}}
 use Rattle.hex.specs.Hex.{decode_of}
 use Rattle.json.specs.Json.{Json, boolean, number, string, array, object, no_members, member}
 use Rattle.borsh_walks.specs.Container.{tag}
-use Rattle.borsh_json.specs.Forms.{Form, primitive, sequence, tuple, choice, named, unnamed, no_fields, HasNoBytes, IsByte, IsOption, IsMap}
-use Rattle.borsh_json.specs.Table.{Lengths, Keys, texts, numbers, Kind, no_bytes, truth, whole, float, raw, utf8, byte_list, list, row, inner, fields, optional, variants, entries, number_types, number_kind, primitive_kind, AreKeys, SequenceKind, a_text, some_bytes, an_object, some_elements, ChoiceKind, nullable, by_name, DefinedKind, HasKind, InRange, IsWhole, IsNumber, IsHex, IsPrefixed, Part, row_parts, list_parts, field_parts, IsVariant, this, that, Entry, entries_of, key_order, entry_parts, IsArray, Says}
-use Rattle.borsh_json.specs.Represents.{HaveBytes, none_left, next_part, TextSays}
-use Rattle.borsh_json.proofs.FloatLaws.{float_one}
-use Rattle.borsh_json.proofs.FormKinds.{unnamed_is}
+use Rattle.borsh_json.specs.{Forms.{Form, primitive, sequence, tuple, choice, named, unnamed, no_fields, HasNoBytes, IsByte, IsOption, IsMap}, Table.{Lengths, Keys, texts, numbers, Kind, no_bytes, truth, whole, float, raw, utf8, byte_list, list, row, inner, fields, optional, variants, entries, number_types, number_kind, primitive_kind, AreKeys, SequenceKind, a_text, some_bytes, an_object, some_elements, ChoiceKind, nullable, by_name, DefinedKind, HasKind, InRange, IsWhole, IsNumber, IsHex, IsPrefixed, Part, row_parts, list_parts, field_parts, IsVariant, this, that, Entry, entries_of, key_order, entry_parts, IsArray, Says}, Represents.{HaveBytes, none_left, next_part, TextSays}}
+use Rattle.borsh_json.proofs.{FloatLaws.{float_one}, FormKinds.{unnamed_is}}
 
 -- ---- the ascending arrangement of a map's entries is the only one
 abbrev pub IsAmong : {X : Type 0} → X → List X → Type 0

@@ -1,34 +1,10 @@
 -- Rows of a value, and what they say.
-use Rattle.std.proofs.Common.{◌≡◌, ℕ, ◌+◌, List, [], ◌∷◌, ◌++◌, length, take, inl, inr, refl, ap, sym, subst, ◌∙◌, arith}
-use Rattle.std.specs.Prelude.{ℤ, String, Vec, Option, Some, None, Result, Ok, Err, IfOk, MatchOption, map, option_map, slice_get, string_bytes}
-use Rattle.std.specs.Global.{Global}
-use Rattle.std.proofs.lemmas.Option.{slice_get-map}
-use Rattle.borsh_walks.specs.declared.definition.Definition.{Definition}
-use Rattle.borsh_walks.specs.declared.definition.Definition.TheVariants.{Primitive, Sequence, Tuple, Enum, Struct}
-use Rattle.borsh_walks.specs.declared.definition.Fields.{Fields}
-use Rattle.borsh_walks.specs.declared.definition.Fields.TheVariants.{NamedFields, UnnamedFields, Empty}
-use Rattle.borsh_walks.specs.declared.definition.LengthRange.{LengthRange}
-use Rattle.std.specs.Borrow.{Bor}
-use Rattle.std.specs.BTreeMap.{get_by_text}
-use Rattle.borsh_walks.specs.Definitions.{shape_of}
-use Rattle.borsh_plan.specs.declared.plan.Plan.{Plan}
-use Rattle.borsh_plan.specs.Plan.{definitions_of, map_of}
-use Rattle.borsh_values.specs.Nodes.{AreElementsOf, IsCountOf, IsVariantOf, Opens}
-use Rattle.borsh_values.specs.Tags.{IsVariantIndex}
-use Rattle.borsh_values.specs.declared.nodes.Node.{Node}
-use Rattle.borsh_values.specs.Preorder.{AreZero, GivesNode, bytes_left, names_left, next_offset}
-use Rattle.borsh_walks.specs.Container.{Shape}
-use Rattle.borsh_json.specs.declared.error.JsonError.{JsonError}
-use Rattle.borsh_json.specs.declared.error.JsonError.TheVariants.{OutOfMemory, NoMember, NoValue, Ambiguous, NotJson, Refused}
-use Rattle.borsh_json.specs.declared.error.Refusal.{Refusal}
-use Rattle.borsh_json.specs.declared.error.Refusal.TheVariants.{TooDeep, RepeatedName, EmptyElements, NotBool, NotUtf8, Zero, NotNumber, Descends, Expected, MissingField, UnknownName, RepeatedKey, Undefined}
-use Rattle.borsh_json.specs.Errors.{IsNoJsonReason, IsNoRowsReason, IsTooDeep, IsUnwritable}
-use Rattle.borsh_json.specs.Forms.{Form, sequence, variant_bytes, form_of, form_of_struct}
-use Rattle.borsh_json.specs.Places.{lengths_of}
-use Rattle.borsh_json.specs.Rows.{IsNextRow, IsPrimitiveText, IsQuoted, IsRowText, IsValueText, TakesNothing, nothing, passing, opening, counted, rows_plan}
-use Rattle.borsh_json.specs.Table.{Lengths, any_length, primitive_kind}
-use Rattle.borsh_json.specs.declared.rows.Rows.{Rows}
-use Rattle.std.proofs.lemmas.Simd.{map-map}
+use Rattle.std.proofs.{Common.{◌≡◌, ℕ, ◌+◌, List, [], ◌∷◌, ◌++◌, length, take, inl, inr, refl, ap, sym, subst, ◌∙◌, arith}, lemmas.Option.{slice_get-map}, lemmas.Simd.{map-map}}
+use Rattle.std.specs.{Prelude.{ℤ, String, Vec, Option, Some, None, Result, Ok, Err, IfOk, MatchOption, map, option_map, slice_get, string_bytes}, Global.{Global}, Borrow.{Bor}, BTreeMap.{get_by_text}}
+use Rattle.borsh_walks.specs.{declared.definition.Definition.{Definition}, declared.definition.Definition.TheVariants.{Primitive, Sequence, Tuple, Enum, Struct}, declared.definition.Fields.{Fields}, declared.definition.Fields.TheVariants.{NamedFields, UnnamedFields, Empty}, declared.definition.LengthRange.{LengthRange}, Definitions.{shape_of}, Container.{Shape}}
+use Rattle.borsh_plan.specs.{declared.plan.Plan.{Plan}, Plan.{definitions_of, map_of}}
+use Rattle.borsh_values.specs.{Nodes.{AreElementsOf, IsCountOf, IsVariantOf, Opens}, Tags.{IsVariantIndex}, declared.nodes.Node.{Node}, Preorder.{GivesNode, bytes_left, next_offset}}
+use Rattle.borsh_json.specs.{declared.error.JsonError.{JsonError}, declared.error.JsonError.TheVariants.{OutOfMemory, NoMember, NoValue, Ambiguous, NotJson, Refused}, declared.error.Refusal.{Refusal}, declared.error.Refusal.TheVariants.{TooDeep, RepeatedName, EmptyElements, NotBool, NotUtf8, Zero, NotNumber, Descends, Expected, MissingField, UnknownName, RepeatedKey, Undefined}, Errors.{IsNoJsonReason, IsNoRowsReason, IsTooDeep, IsUnwritable}, Forms.{Form, sequence, variant_bytes, form_of, form_of_struct}, Places.{lengths_of}, Rows.{IsNextRow, IsPrimitiveText, IsQuoted, IsRowText, IsValueText, GivesEmpty, one_more, counted, rows_plan}, Table.{Lengths, any_length, primitive_kind}, declared.rows.Rows.{Rows}}
 
 -- a refusal for depth is one for which a member has no JSON
 deep_reason : (r : Refusal) → IsTooDeep r → IsUnwritable r
@@ -60,25 +36,7 @@ pub record NoneYet (old now : Rows) : Type 0 where
   pub plan : rows_plan now ≡ rows_plan old
   pub bytes : bytes_left now.nodes ≡ bytes_left old.nodes
   pub offset : next_offset now.nodes ≡ next_offset old.nodes
-  pub names : TakesNothing (rows_plan old).now (names_left old.nodes) (names_left now.nodes)
-
-module _ (l : Plan) where
-  pass_all : (zeros xs ys : List (List ℕ)) → AreZero (definitions_of l) zeros → TakesNothing l xs ys → TakesNothing l (zeros ++ xs) ys
-  pass_all [] xs ys h t = t
-  pass_all (z ∷ zeros) xs ys h t = passing h.0 (pass_all zeros xs ys h.1 t)
-
-  goes_on : (xs ys zs : List (List ℕ)) → TakesNothing l xs ys → TakesNothing l ys zs → TakesNothing l xs zs
-  goes_on xs _ zs nothing t = t
-  goes_on (x ∷ xs) ys zs (passing z s) t = passing z (goes_on xs ys zs s t)
-  goes_on (x ∷ xs) ys zs (opening d parts e o s) t = opening d parts e o (goes_on (parts ++ xs) ys zs s t)
-
--- up to the name of a node, and, where it has no bytes, behind it
-reached : (old now new : Rows) (n : Node) → rows_plan now ≡ rows_plan old → TakesNothing (rows_plan old).now (names_left old.nodes) (names_left now.nodes) → (g : GivesNode now.nodes new.nodes n) → TakesNothing (rows_plan old).now (names_left old.nodes) (n.name.now ∷ g.others)
-reached old now new n same t g =
-    let l = (rows_plan old).now in
-    let none = subst (λ (l : Bor Plan). AreZero (definitions_of l.now) g.zeros) same g.none in
-    let s = pass_all l g.zeros (n.name.now ∷ g.others) (n.name.now ∷ g.others) none nothing in
-    goes_on l (names_left old.nodes) (names_left now.nodes) (n.name.now ∷ g.others) t (subst (λ xs. TakesNothing l xs (n.name.now ∷ g.others)) (sym g.before) s)
+  pub empty : GivesEmpty old.nodes now.nodes
 
 no_bytes : (bs : List ℕ) → length bs ≡ 0 → bs ≡ []
 no_bytes [] h = refl
@@ -88,15 +46,7 @@ no_bytes (b ∷ bs) h = absurd (omega arith)
 pub passed : (old now new : Rows) (n : Node) → NoneYet old now → rows_plan new ≡ rows_plan now → GivesNode now.nodes new.nodes n → length n.bytes.now ≡ 0 → NoneYet old new
 passed old now new n h same g none =
     let e : bytes_left now.nodes ≡ bytes_left new.nodes = g.bytes ∙ ap (λ l. l ++ bytes_left new.nodes) (no_bytes n.bytes.now none) in
-    record { plan = same ∙ h.plan; bytes = sym e ∙ h.bytes; offset = g.next ∙ ap (λ k. next_offset now.nodes + k) none ∙ omega arith ∙ h.offset; names = names }
-  where
-    names : TakesNothing (rows_plan old).now (names_left old.nodes) (names_left new.nodes)
-    names =
-        let l = (rows_plan old).now in
-        let d = subst (λ (l : Bor Plan). get_by_text (map_of l.now) n.name.now ≡ Some n.definition.now) h.plan g.defined in
-        let o = subst (λ (own : List ℕ). Opens (definitions_of l) (shape_of n.definition.now) own g.parts) (no_bytes n.bytes.now none) (subst (λ (l : Bor Plan). Opens (definitions_of l.now) (shape_of n.definition.now) n.bytes.now g.parts) h.plan g.opens) in
-        let behind : TakesNothing l (n.name.now ∷ g.others) (names_left new.nodes) = opening n.definition.now g.parts d o (subst (λ ys. TakesNothing l (g.parts ++ g.others) ys) (sym g.after) nothing) in
-        goes_on l (names_left old.nodes) (n.name.now ∷ g.others) (names_left new.nodes) (reached old now new n h.plan h.names g) behind
+    record { plan = same ∙ h.plan; bytes = sym e ∙ h.bytes; offset = g.next ∙ ap (λ k. next_offset now.nodes + k) none ∙ omega arith ∙ h.offset; empty = one_more n h.empty g (no_bytes n.bytes.now none) same }
 
 -- one with bytes is a row
 pub given : (old now new : Rows) (n : Node) → NoneYet old now → GivesNode now.nodes new.nodes n → (length n.bytes.now ≡ 0 → ⊥) → IsNextRow old new n
@@ -106,11 +56,9 @@ given old now new n h g some = record {
   offset = g.offset ∙ h.offset;
   next = g.next ∙ ap (λ k. k + length n.bytes.now) h.offset;
   defined = subst (λ (l : Bor Plan). get_by_text (map_of l.now) n.name.now ≡ Some n.definition.now) h.plan g.defined;
-  parts = g.parts;
-  opens = subst (λ (l : Bor Plan). Opens (definitions_of l.now) (shape_of n.definition.now) n.bytes.now g.parts) h.plan g.opens;
-  others = g.others;
-  named = reached old now new n h.plan h.names g;
-  after = g.after;
+  now = now.nodes;
+  empty = h.empty;
+  gives = g;
 }
 
 module _ {E : Type 0} (F : List ℕ → Option Form) (x own : List ℕ) (d : Definition) where

@@ -1,14 +1,8 @@
 -- What the reader's steps do to what is left of a place.
 use Rattle.std.proofs.Common.{◌≡◌, ℕ, List, [], ◌∷◌, length, false, Some, refl, sym, ◌∙◌, ap, arith, IsSome, option_map, bytes_eq}
 use Rattle.std.specs.List.{list_any}
-use Rattle.json.specs.Json.{Json, Items, no_items, item, Members}
-use Rattle.json.specs.Find.{get_member}
-use Rattle.borsh_json.specs.declared.kinds.KeyKind.{KeyKind}
-use Rattle.borsh_json.specs.declared.kinds.KeyKind.TheVariants.{Text as TextKeys, Number as NumberKeys}
-use Rattle.borsh_json.specs.declared.sources.Source.{Source}
-use Rattle.borsh_json.specs.declared.sources.Source.TheVariants.{One, Items as TheItems, Members as TheMembers, Entries as InPlace, Texts, Ranks}
-use Rattle.borsh_json.specs.Frames.{Wanted, HasItems, HasFields, HasEntries, NoneLeft, IsLeft}
-use Rattle.borsh_json.specs.Table.{Part, row_parts, Entry}
+use Rattle.json.specs.{Json.{Json, Items, no_items, item, Members}, Find.{get_member}}
+use Rattle.borsh_json.specs.{declared.kinds.KeyKind.{KeyKind}, declared.kinds.KeyKind.TheVariants.{Text as TextKeys, Number as NumberKeys}, declared.sources.Source.{Source}, declared.sources.Source.TheVariants.{One, Items as TheItems, Members as TheMembers, Entries as InPlace, Texts, Ranks}, Frames.{Wanted, HasItems, HasFields, HasEntries, NoneLeft, IsLeft}, Table.{Part, row_parts, Entry}}
 use Rattle.borsh_json.proofs.ReaderLaws.{mapped}
 
 -- ---- a part in front

@@ -1,21 +1,9 @@
 -- Why the writer stopped, as why bytes have no JSON.
 use Rattle.std.proofs.Common.{inl, inr, ℕ, List, Option, subst}
-use Rattle.std.specs.BTreeMap.{BTreeMap}
-use Rattle.std.specs.Prelude.{String}
-use Rattle.borsh_walks.specs.Container.{Member}
-use Rattle.borsh_walks.specs.Definitions.{definitions_in}
-use Rattle.borsh_walks.specs.declared.definition.Definition.{Definition}
+use Rattle.std.specs.{BTreeMap.{BTreeMap}, Prelude.{String}}
+use Rattle.borsh_walks.specs.{Container.{Member}, Definitions.{definitions_in}, declared.definition.Definition.{Definition}}
 use Rattle.borsh_values.specs.Membership.{IsUndecided}
-use Rattle.borsh_json.specs.declared.error.JsonError.{JsonError}
-use Rattle.borsh_json.specs.declared.error.JsonError.TheVariants.{OutOfMemory, NoMember, NoValue, Ambiguous, NotJson, Refused}
-use Rattle.borsh_json.specs.declared.error.Refusal.{Refusal}
-use Rattle.borsh_json.specs.declared.error.Refusal.TheVariants.{TooDeep, RepeatedName, EmptyElements, NotBool, NotUtf8, Zero, NotNumber, Descends, Expected, MissingField, UnknownName, RepeatedKey, Undefined}
-use Rattle.borsh_json.specs.Errors.{IsUnwritable, IsNoJsonReason}
-use Rattle.borsh_json.specs.Forms.{Form, forms_in}
-use Rattle.borsh_json.specs.InOrder.{Step}
-use Rattle.borsh_json.specs.NoJson.{IsAbout, HasNoJsonPart, RefusesBytes}
-use Rattle.borsh_json.specs.NoValue.{path_steps}
-use Rattle.borsh_json.specs.Writes.{Stops}
+use Rattle.borsh_json.specs.{declared.error.JsonError.{JsonError}, declared.error.JsonError.TheVariants.{OutOfMemory, NoMember, NoValue, Ambiguous, NotJson, Refused}, declared.error.Refusal.{Refusal}, declared.error.Refusal.TheVariants.{TooDeep, RepeatedName, EmptyElements, NotBool, NotUtf8, Zero, NotNumber, Descends, Expected, MissingField, UnknownName, RepeatedKey, Undefined}, Errors.{IsUnwritable, IsNoJsonReason}, Forms.{Form, forms_in}, InOrder.{Step}, NoJson.{IsAbout, HasNoJsonPart, RefusesBytes}, NoValue.{path_steps}, Writes.{Stops}}
 use Rattle.borsh_walks.proofs.Forms.{shapes_are}
 
 -- where a value is refused, the refusal is about some name

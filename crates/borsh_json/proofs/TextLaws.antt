@@ -1,18 +1,11 @@
 -- What errors say of a text.
 use Rattle.std.proofs.Common.{◌≡◌, inl, ℕ, List, [], ◌∷◌, ◌++◌, Option, Some, None, refl, sym, ◌∙◌, ap, subst, append_assoc, IsSome}
-use Rattle.json.specs.Token.{Token}
-use Rattle.json.specs.Lex.{tokens}
-use Rattle.json.specs.Json.{Json, document}
-use Rattle.borsh_walks.specs.Container.{Shape}
-use Rattle.borsh_values.specs.declared.faults.Path.{Path}
-use Rattle.borsh_json.specs.declared.error.PartError.{PartError}
-use Rattle.borsh_json.specs.declared.error.PartError.TheVariants.{OutOfMemory as NoMemory, Refused as RefusedPart}
-use Rattle.borsh_json.specs.declared.error.Refusal.{Refusal}
-use Rattle.borsh_json.specs.declared.error.Refusal.TheVariants.{TooDeep}
-use Rattle.borsh_json.specs.Errors.{open_after, open_behind, IsUnreadable, IsTextRefusal, IsTextReason, error_of}
-use Rattle.borsh_json.specs.Forms.{Form}
-use Rattle.borsh_json.specs.Frames.{IsUnread}
-use Rattle.borsh_json.specs.NoValue.{path_steps, FailsAt, SaysNothing, ShowsNoValue}
+use Rattle.json.specs.{Token.{Token}, Lex.{tokens}, Json.{Json, document}}
+use Rattle.std.specs.{BTreeMap.{BTreeMap}, Prelude.{String}}
+use Rattle.borsh_walks.specs.{Container.{Shape}, Definitions.{definitions_in}, declared.definition.Definition.{Definition}}
+use Rattle.borsh_walks.proofs.Forms.{shapes_are}
+use Rattle.borsh_values.specs.{Membership.{IsUndecided}, declared.faults.Path.{Path}}
+use Rattle.borsh_json.specs.{declared.error.JsonError.{JsonError}, declared.error.JsonError.TheVariants.{OutOfMemory, NoMember, NoValue, Ambiguous, NotJson, Refused}, declared.error.PartError.{PartError}, declared.error.PartError.TheVariants.{OutOfMemory as NoMemory, Refused as RefusedPart}, declared.error.Refusal.{Refusal}, declared.error.Refusal.TheVariants.{TooDeep}, Errors.{open_after, open_behind, IsUnreadable, IsTextRefusal, IsTextReason, error_of}, Forms.{Form, forms_in}, Frames.{IsUnread}, NoValue.{path_steps, FailsAt, SaysNothing, ShowsFall, ShowsNoValue}}
 
 pub there : {A : Type 0} (o : Option A) → IsSome o → (a : A) × (o ≡ Some a)
 there None s = absurd cc
@@ -31,6 +24,21 @@ module _ (F : List ℕ → Option Form) (C : List ℕ → Option Shape) (root te
   pub part_reason : (e : PartError) → IsSome (document text) → IsUnread F root j e → IsTextReason C root text (error_of e)
   part_reason NoMemory s p = tt
   part_reason (RefusedPart path r) s p = refusal_reason root text path r s p.0
+
+-- the error of a check of the bytes that it says
+pub fall_denies : (F : List ℕ → Option Form) (root text : List ℕ) (j : Json) → document text ≡ Some j → (e : JsonError) → ShowsFall F root j e → ShowsNoValue F root text e
+fall_denies F root text j d OutOfMemory s = tt
+fall_denies F root text j d (Ambiguous x) s = tt
+fall_denies F root text j d (Refused path r) s = λ i q. (let e : Some i ≡ Some j = sym q ∙ d in
+    let z : i ≡ j = cc in
+    subst (λ (i : Json). (path.root.now ≡ root) × FailsAt F root i (path_steps path) r × SaysNothing F root i r) (sym z) (subst (λ (r : Refusal). (path.root.now ≡ root) × FailsAt F root j (path_steps path) r × SaysNothing F root j r) (sym s.0) (s.1, s.2, tt)))
+fall_denies F root text j d e s = absurd s
+
+pub fall_reason : {A : Type 0} (m : BTreeMap (String A) Definition) (root text : List ℕ) (j : Json) → document text ≡ Some j → (e : JsonError) → ShowsFall (forms_in m) root j e → IsTextReason (definitions_in m) root text e
+fall_reason m root text j d OutOfMemory s = tt
+fall_reason m root text j d (Ambiguous x) s = (subst (λ (o : Option Json). IsSome o) (sym d) refl, subst (λ C. IsUndecided C root x.now) (shapes_are m) s)
+fall_reason m root text j d (Refused path r) s = refusal_reason root text path r (subst (λ (o : Option Json). IsSome o) (sym d) refl) (subst (λ (r : Refusal). IsUnreadable r) (sym s.0) tt)
+fall_reason m root text j d e s = absurd s
 
 -- ---- what is open behind tokens
 pub open_more : (n : ℕ) (ts : List Token) (t : Token) → open_behind n (ts ++ t ∷ []) ≡ open_after (open_behind n ts) t

@@ -1,13 +1,8 @@
 -- What the reader makes of characters that aren't printable ASCII, and of `\u` and four digits.
-use Rattle.std.proofs.Common.{◌≡◌, ◌⊎◌, inl, inr, ℕ, ◌+◌, ◌-◌, ◌*◌, ◌/◌, ◌%◌, ◌<◌, ◌≤◌, Bool, true, false, cond, ◌&&◌, ◌||◌, nat_lt, List, [], ◌∷◌, ◌++◌, encode_utf8, refl, ◌∙◌, ap, arith, ltb, ltb-true, ltb-false, lt-ltb}
-use Rattle.std.specs.Prelude.{⊤, Some, None, option_and_then}
-use Rattle.std.specs.Char.{IsScalar, digit_char, is_digit}
-use Rattle.std.proofs.lemmas.Bool.Decides.{nat_tests}
-use Rattle.std.proofs.lemmas.Str.{digit_value-digit_char}
+use Rattle.std.proofs.{Common.{◌≡◌, ◌⊎◌, inl, inr, ℕ, ◌+◌, ◌-◌, ◌*◌, ◌/◌, ◌%◌, ◌<◌, ◌≤◌, Bool, true, false, cond, ◌&&◌, ◌||◌, nat_lt, List, [], ◌∷◌, ◌++◌, encode_utf8, refl, ◌∙◌, ap, arith, ltb, ltb-true, ltb-false, lt-ltb}, lemmas.Bool.Decides.{nat_tests}, lemmas.Str.{digit_value-digit_char}}
+use Rattle.std.specs.{Prelude.{⊤, Some, None, option_and_then}, Char.{IsScalar, digit_char, is_digit}}
 use lib.Utf8.{scalar_cases}
-use Rattle.json.specs.Text.{content, plain, after_high, code_unit, prepend, is_high_surrogate, is_low_surrogate, surrogate_pair}
-use Rattle.json.specs.Word.{is_operator, is_space}
-use Rattle.json.specs.Lex.{Lexeme, other, class, Mode, in_word, in_string, in_escape, lex_byte, lex}
+use Rattle.json.specs.{Text.{content, plain, after_high, code_unit, prepend, is_high_surrogate, is_low_surrogate, surrogate_pair}, Word.{is_operator, is_space}, Lex.{Lexeme, other, class, Mode, in_word, in_string, in_escape, lex_byte, lex}}
 use Rattle.borsh_json.specs.Ascii.{unit_text, units_text}
 
 -- ---- which bytes have no meaning to the lexer

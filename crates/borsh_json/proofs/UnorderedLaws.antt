@@ -1,15 +1,9 @@
 -- Names that aren't ordered, as names and definitions tell it.
-use Rattle.std.proofs.Common.{◌≡◌, inl, inr, ℕ, suc, zero, List, [], ◌∷◌, ◌++◌, length, map, Bool, true, false, Option, Some, None, String, refl, sym, ◌∙◌, ap, subst, take, arith, append_assoc, Global, append-nil}
+use Rattle.std.proofs.{Common.{◌≡◌, inl, inr, ℕ, suc, zero, List, [], ◌∷◌, ◌++◌, length, map, Bool, true, false, Option, Some, None, String, refl, sym, ◌∙◌, ap, subst, take, arith, append_assoc, Global, append-nil}, lemmas.List.{append_cancel_left}}
 use Rattle.std.specs.Prelude.{◌==◌, ⊤, ℤ, Decides, MatchBool, codes, slice_get, string_bytes}
-use Rattle.borsh_walks.specs.declared.definition.Fields.{Fields}
-use Rattle.borsh_walks.specs.declared.definition.Fields.TheVariants.{NamedFields, UnnamedFields, Empty}
-use Rattle.borsh_json.specs.Forms.{Form, primitive, sequence, tuple, choice, named, unnamed, no_fields, form_of_struct, IsOption}
-use Rattle.borsh_json.proofs.FoundLaws.{inner}
-use Rattle.borsh_walks.specs.TupleNames.{following, tuple_name}
-use Rattle.borsh_json.specs.Ordered.{Order, single, numbers, text, array, list, parts, other, AreNumbers, IsSequenceName, IsTreeMapName, IsListName, OrdersBytes}
-use Rattle.borsh_json.specs.Table.{AreKeys, primitive_kind, texts}
-use Rattle.borsh_json.proofs.OrderLaws.{clash}
-use Rattle.std.proofs.lemmas.List.{append_cancel_left}
+use Rattle.borsh_walks.specs.{declared.definition.Fields.{Fields}, declared.definition.Fields.TheVariants.{NamedFields, UnnamedFields, Empty}, TupleNames.{following, tuple_name}}
+use Rattle.borsh_json.specs.{Forms.{Form, primitive, sequence, tuple, choice, named, unnamed, no_fields, form_of_struct, IsOption}, Ordered.{Order, single, numbers, text, array, list, parts, other, AreNumbers, IsSequenceName, IsTreeMapName, IsListName, OrdersBytes}, Table.{AreKeys, primitive_kind, texts}}
+use Rattle.borsh_json.proofs.{FoundLaws.{inner}, OrderLaws.{clash}}
 
 -- the definition is of a struct
 abbrev pub IsOfStruct : Form → Type 0

@@ -1,6 +1,5 @@
 -- The first variant with a tag.
-use Rattle.std.proofs.Common.{◌≡◌, ℕ, suc, zero, ◌+◌, ◌≤◌, List, [], ◌∷◌, length, drop, Bool, true, false, Some, None, refl, ◌∙◌, ap, arith, ℤ, slice_get, if◌then◌else◌, bytes_eq}
-use Rattle.std.proofs.lemmas.Slice.Eq.{bytes_eq-Decides}
+use Rattle.std.proofs.{Common.{◌≡◌, ℕ, suc, zero, ◌+◌, ◌≤◌, List, [], ◌∷◌, length, drop, Bool, true, false, Some, None, refl, ◌∙◌, ap, arith, ℤ, slice_get, if◌then◌else◌, bytes_eq}, lemmas.Slice.Eq.{bytes_eq-Decides}}
 use Rattle.borsh_walks.specs.Container.{tag}
 use Rattle.borsh_json.specs.Ordered.{variant_of}
 

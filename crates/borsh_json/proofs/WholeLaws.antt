@@ -2,17 +2,7 @@
 use Rattle.std.proofs.Common.{◌≡◌, ◌⊎◌, inl, inr, ℕ, List, [], Option, None, refl, sym, subst}
 use Rattle.borsh_walks.specs.Container.{IsIn}
 use Rattle.borsh_plan.specs.declared.named.Named.{Named}
-use Rattle.borsh_json.specs.declared.kinds.Elements.{Elements as FoundElements}
-use Rattle.borsh_json.specs.declared.kinds.Kind.{Kind as Found}
-use Rattle.borsh_json.specs.declared.kinds.Kind.TheVariants.{Number as NumberKind, Bool as Truth, Bytes, Float, List as ListKind}
-use Rattle.borsh_json.specs.declared.numbers.Number.{Number}
-use Rattle.borsh_json.specs.declared.output.Output.{Output}
-use Rattle.borsh_json.specs.Forms.{Form}
-use Rattle.borsh_json.specs.Found.{IsPrimitiveKind}
-use Rattle.borsh_json.specs.Leaves.{IsOpenedAs, WritesLeaf}
-use Rattle.borsh_json.specs.Places.{IsKindOf}
-use Rattle.borsh_json.specs.Table.{Kind, truth, whole, float, raw}
-use Rattle.borsh_json.specs.Writes.{IsWrittenAs, leaf_depth}
+use Rattle.borsh_json.specs.{declared.kinds.Elements.{Elements as FoundElements}, declared.kinds.Kind.{Kind as Found}, declared.kinds.Kind.TheVariants.{Number as NumberKind, Bool as Truth, Bytes, Float, List as ListKind}, declared.numbers.Number.{Number}, declared.output.Output.{Output}, Forms.{Form}, Found.{IsPrimitiveKind}, Leaves.{IsOpenedAs, WritesLeaf}, Places.{IsKindOf}, Table.{Kind, truth, whole, float, raw}, Writes.{IsWrittenAs, leaf_depth}}
 
 module _ (F : List ℕ → Option Form) (x own : List ℕ) where
   module _ (ns : List Named) (f : Form) where

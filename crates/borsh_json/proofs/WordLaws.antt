@@ -1,18 +1,8 @@
 -- What a word of JSON is read from: printable ASCII, and then where it ends.
-use Rattle.std.proofs.Common.{◌≡◌, inl, inr, ℕ, suc, ◌+◌, ◌-◌, Bool, true, false, cond, ◌&&◌, ◌||◌, ◌==◌, nat_eq, List, [], ◌∷◌, ◌++◌, length, take, drop, get_or, refl, sym, ◌∙◌, ap, subst, arith, append-nil, append_assoc, length-append, take_at, take-append-drop, eqb-true}
-use Rattle.std.specs.Prelude.{⊤, Option, Some, None, option_and_then}
-use Rattle.std.specs.List.{list_all, prefix_len, starts_with}
-use Rattle.std.specs.Char.{is_ascii_digit}
-use Rattle.std.proofs.lemmas.Bool.Decides.{nat_tests}
-use Rattle.std.proofs.lemmas.Bool.{and_parts, and_from, or_cases, false≢true}
-use Rattle.std.proofs.lemmas.Slice.Eq.{bytes_eq-Decides}
-use Rattle.json.specs.Token.{Token, boolean, null, number, bad}
-use Rattle.json.specs.Align.{is_good}
-use Rattle.json.specs.Word.{head, ends_word, after_digits, after_minus, after_sign, after_whole, after_fraction, after_exponent, after_number, number_before, literal, word}
-use Rattle.json.specs.Lex.{Lexeme, token, comma, colon, other, class, between, lex_byte, lex}
-use Rattle.json.specs.Print.{IsNumber}
-use Rattle.json.proofs.Found.{not_found}
-use Rattle.json.proofs.Printed.Numbers.{number_alone, lex-number}
+use Rattle.std.proofs.{Common.{◌≡◌, inl, inr, ℕ, suc, ◌+◌, ◌-◌, Bool, true, false, cond, ◌&&◌, ◌||◌, ◌==◌, nat_eq, List, [], ◌∷◌, ◌++◌, length, take, drop, get_or, refl, sym, ◌∙◌, ap, subst, arith, append-nil, append_assoc, length-append, take_at, take-append-drop, eqb-true}, lemmas.Bool.Decides.{nat_tests}, lemmas.Bool.{and_parts, and_from, or_cases, false≢true}, lemmas.Slice.Eq.{bytes_eq-Decides}}
+use Rattle.std.specs.{Prelude.{⊤, Option, Some, None, option_and_then}, List.{list_all, prefix_len, starts_with}, Char.{is_ascii_digit}}
+use Rattle.json.specs.{Token.{Token, boolean, null, number, bad}, Align.{is_good}, Word.{head, ends_word, after_digits, after_minus, after_sign, after_whole, after_fraction, after_exponent, after_number, number_before, literal, word}, Lex.{Lexeme, token, comma, colon, other, class, between, lex_byte, lex}, Print.{IsNumber}}
+use Rattle.json.proofs.{Found.{not_found}, Printed.Numbers.{number_alone, lex-number}}
 use Rattle.borsh_json.specs.Ascii.{is_printable}
 
 -- ---- what a part of a number takes is printable

@@ -1,77 +1,13 @@
 -- What the writer's calls give.
-use Rattle.std.proofs.Common.{◌≡◌, inl, inr, ℕ, suc, ◌+◌, ◌-◌, ◌<◌, ◌≤◌, List, [], ◌∷◌, ◌++◌, length, replicate, drop, Option, Some, None, refl, sym, ◌∙◌, ap, subst, arith, append_assoc, append-nil, length-append, String, option_map, IfSome, MatchOption, Bool, true, false, Decides, MatchBool, BTreeMap, Bor, Less}
-use Rattle.std.proofs.Math.Seq.{drop-append_seam}
-use Rattle.json.specs.Json.{null}
-use Rattle.json.specs.Token.{Token}
-use Rattle.json.specs.Tree.{json_tokens}
-use Rattle.borsh_walks.specs.Container.{Shape, product, Member, of_primitive, of_sequence, of_parts, of_choice, Members, more_members}
-use Rattle.borsh_walks.specs.Definitions.{definitions_in}
-use Rattle.borsh_walks.specs.declared.definition.Definition.{Definition}
-use Rattle.borsh_plan.specs.Names.{name_of}
-use Rattle.borsh_plan.specs.Plan.{map_of, names_of as plan_names, root_of}
-use Rattle.borsh_values.specs.Membership.{IsUndecided}
-use Rattle.borsh_values.specs.Nodes.{Opens}
-use Rattle.borsh_values.specs.Cursor.{OpensOnce}
-use Rattle.borsh_values.specs.Walks.{IsReadTo, IsCounted, IsNodeOf, FindsNode, FindsAt}
-use Rattle.borsh_plan.specs.declared.plan.Plan.{Plan}
-use Rattle.borsh_plan.specs.declared.named.Named.{Named}
-use Rattle.borsh_values.specs.declared.nodes.Node.{Node}
-use Rattle.borsh_values.specs.declared.walker.Walker.{Walker}
-use Rattle.borsh_json.specs.declared.definitions.Definitions.{Definitions}
-use Rattle.borsh_json.specs.declared.error.PartError.{PartError}
-use Rattle.borsh_json.specs.declared.error.PartError.TheVariants.{OutOfMemory as NoPartMemory, Refused as RefusedPart}
-use Rattle.borsh_json.specs.declared.error.Refusal.{Refusal}
-use Rattle.borsh_json.specs.declared.error.Refusal.TheVariants.{TooDeep, Descends}
-use Rattle.borsh_json.specs.declared.error.WriteError.{WriteError}
-use Rattle.borsh_json.specs.declared.error.WriteError.TheVariants.{OutOfMemory, Refused, Element}
-use Rattle.borsh_json.specs.declared.kinds.Elements.{Elements as FoundElements}
-use Rattle.borsh_json.specs.declared.kinds.Kind.{Kind as Found}
-use Rattle.borsh_json.specs.declared.kinds.Kind.TheVariants.{Numbers, List as ListKind}
-use Rattle.borsh_json.specs.declared.kinds.Entries.{Entries as FoundEntries}
-use Rattle.borsh_json.specs.declared.kinds.KeyKind.{KeyKind}
-use Rattle.borsh_json.specs.declared.kinds.KeyKind.TheVariants.{Text as TextKeys, Number as NumberKeys}
-use Rattle.borsh_json.specs.declared.order.Ascent.{Ascent}
-use Rattle.borsh_json.specs.declared.order.Ordered.{Ordered}
-use Rattle.borsh_json.specs.declared.output.Output.{Output}
-use Rattle.borsh_json.specs.declared.position.Key.{Key}
-use Rattle.borsh_json.specs.declared.position.Key.TheVariants.{None as NoKey, Name, Entry as EntryOf}
-use Rattle.borsh_json.specs.declared.position.Part.{Part as FoundPart}
-use Rattle.borsh_json.specs.declared.position.Parts.{Parts}
-use Rattle.borsh_json.specs.declared.position.Parts.TheVariants.{Root, List as Elements, Row, Object, Entries as MapEntries, Newtype, Some as Present, Variant}
-use Rattle.borsh_json.specs.declared.position.Place.{Place}
-use Rattle.borsh_json.specs.declared.position.Position.{Position}
-use Rattle.borsh_json.specs.declared.sources.EntryKey.{EntryKey}
-use Rattle.borsh_json.specs.declared.writing.Writing.{Writing}
-use Rattle.borsh_json.specs.Checked.{one, NeedsNoOrder, IsOnly, AreChecked, plain}
-use Rattle.borsh_json.specs.Only.{IsOpened, AreOnly, none_only, empty_only}
-use Rattle.borsh_json.specs.Errors.{error_of}
-use Rattle.borsh_json.specs.Forms.{Form, form_of, forms_in, shape_of_form, shapes, HasNoBytes}
-use Rattle.borsh_json.specs.Found.{forms_of, names_of}
-use Rattle.borsh_json.specs.Frames.{Wanted, IsWanted, GivesPart, HasPath, IsKey, IsEntryKey, IsOf, first_steps, last_steps, steps_at, steps_through}
-use Rattle.borsh_json.specs.Descents.{HasDescent}
-use Rattle.borsh_json.specs.InOrder.{Step, place, element}
-use Rattle.borsh_json.specs.Inside.{IsInside}
-use Rattle.borsh_json.specs.NoJson.{HasNoJsonPart, IsOutOfOrder, RefusesBytes, RefusesOwn}
-use Rattle.borsh_json.specs.Orders.{HasKeyOrder, KindHasOrder, OrderedBy, IsNotBelow}
-use Rattle.borsh_json.specs.Leaves.{Adds, IsOpenedAs, WritesLeaf, RefusesKey, RefusesValue, long_of}
-use Rattle.borsh_json.specs.Places.{IsAt, AreKeysOf, IsKindOf, lengths_of}
-use Rattle.borsh_json.specs.Represents.{SaysFirst}
-use Rattle.borsh_json.specs.Table.{Keys, no_bytes, whole, utf8, HasKind, key_order, key_json}
-use Rattle.borsh_walks.proofs.Laws.{zero_member}
-use Rattle.borsh_values.proofs.MemberLaws.{members_head}
-use Rattle.borsh_values.proofs.WalkedLaws.{read_product}
-use Rattle.borsh_json.specs.Writes.{IsAbove, IsLast, IsBegunOf, IsWhole, IsWrittenOn, ends_of, Rest, IsRest, WritesFront, names_of_rest, names_of_all, leaf_depth, AreCalled, one_more, opened, Nested, passed, Mark, of_pair, AreEach, IsNewPlace, IsAscending, IsKeyed, IsLastKey, IsComparing, IsMarked, IsRestOf, BeginsNext, TellsAscent, RisesAt, IsWriterOf, IsHalved, IsWriting, IsAwaiting, IsWrittenAs, Stops, IsWritingAt, IsAwaitingAt, IsFull, IsFullOrFalls, AscendsFrom, IsOfWrite, write_steps}
-use Rattle.borsh_json.proofs.CheckedLaws.{IsDueAs, IsRisen, kind_free, same_opened, product_opened, product_due, pair_due, leaf_checked, zero_checked}
-use Rattle.borsh_walks.proofs.Forms.{shape_is, shapes_are}
-use Rattle.borsh_json.proofs.FallLaws.{falls, next_steps}
-use Rattle.borsh_json.proofs.NestedLaws.{read_leaf, inside_of, as_deep, same_steps}
-use Rattle.borsh_json.proofs.ReadingLaws.{steps_last}
-use Rattle.borsh_json.proofs.WritingPlaces.{as_many, each_pushed, each_popped, key_tokens, TakesPart, TakesEntry, takes_part, takes_entry, place_ends}
-use Rattle.borsh_json.proofs.FormKinds.{form_known}
-use Rattle.borsh_json.proofs.StopLaws.{about_some}
-use Rattle.borsh_json.proofs.WrittenLaws.{next_written}
-use Rattle.borsh_json.proofs.OnlyLaws.{value_only}
-use Rattle.borsh_json.proofs.WritingSteps.{key_full, only_in, halved_on, leaf_writes, front_writes, awaits, entry_halved, entry_nested, awaits_entry, end_writes, end_whole}
+use Rattle.std.proofs.{Common.{◌≡◌, inl, inr, ℕ, suc, ◌+◌, ◌-◌, ◌<◌, ◌≤◌, List, [], ◌∷◌, ◌++◌, length, replicate, drop, Option, Some, None, refl, sym, ◌∙◌, ap, subst, arith, append_assoc, append-nil, length-append, String, option_map, IfSome, MatchOption, Bool, true, false, Decides, MatchBool, BTreeMap, Bor, Less}, Math.Seq.{drop-append_seam}}
+use Rattle.json.specs.{Json.{null}, Token.{Token}, Tree.{json_tokens}}
+use Rattle.borsh_walks.specs.{Container.{Shape, product, Member, of_primitive, of_sequence, of_parts, of_choice, Members, more_members}, Definitions.{definitions_in}, declared.definition.Definition.{Definition}}
+use Rattle.borsh_plan.specs.{Names.{name_of}, Plan.{map_of, names_of as plan_names, root_of}, declared.plan.Plan.{Plan}, declared.named.Named.{Named}}
+use Rattle.borsh_values.specs.{Membership.{IsUndecided}, Nodes.{Opens}, Cursor.{HasOneTag, OpensOnce}, Walks.{IsReadTo, IsCounted, IsNodeOf, FindsNode, FindsAt}, declared.nodes.Node.{Node}, declared.walker.Walker.{Walker}}
+use Rattle.borsh_json.specs.{declared.definitions.Definitions.{Definitions}, declared.error.PartError.{PartError}, declared.error.PartError.TheVariants.{OutOfMemory as NoPartMemory, Refused as RefusedPart}, declared.error.Refusal.{Refusal}, declared.error.Refusal.TheVariants.{TooDeep, Descends}, declared.error.WriteError.{WriteError}, declared.error.WriteError.TheVariants.{OutOfMemory, Refused, Element}, declared.kinds.Elements.{Elements as FoundElements}, declared.kinds.Kind.{Kind as Found}, declared.kinds.Kind.TheVariants.{Numbers, List as ListKind}, declared.kinds.Entries.{Entries as FoundEntries}, declared.kinds.KeyKind.{KeyKind}, declared.kinds.KeyKind.TheVariants.{Text as TextKeys, Number as NumberKeys}, declared.order.Ascent.{Ascent}, declared.order.Ordered.{Ordered}, declared.output.Output.{Output}, declared.position.Key.{Key}, declared.position.Key.TheVariants.{None as NoKey, Name, Entry as EntryOf}, declared.position.Part.{Part as FoundPart}, declared.position.Parts.{Parts}, declared.position.Parts.TheVariants.{Root, List as Elements, Row, Object, Entries as MapEntries, Newtype, Some as Present, Variant}, declared.position.Place.{Place}, declared.position.Position.{Position}, declared.sources.EntryKey.{EntryKey}, declared.writing.Writing.{Writing}, Checked.{one, NeedsNoOrder, IsOnly, AreChecked, plain}, Only.{IsOpened, AreOnly, none_only, empty_only}, Errors.{error_of}, Forms.{Form, form_of, forms_in, shape_of_form, shapes, HasNoBytes}, Found.{forms_of, names_of}, Frames.{Wanted, IsWanted, GivesPart, HasPath, IsKey, IsEntryKey, IsOf, first_steps, last_steps, steps_at, steps_through}, Descents.{HasDescent}, InOrder.{Step, place, element}, Inside.{IsInside}, NoJson.{HasNoJsonPart, IsOutOfOrder, RefusesBytes, RefusesOwn}, Orders.{HasKeyOrder, KindHasOrder, OrderedBy, IsNotBelow}, Leaves.{Adds, IsOpenedAs, WritesLeaf, RefusesKey, RefusesValue, long_of}, Places.{IsAt, AreKeysOf, IsKindOf, lengths_of}, Represents.{SaysFirst}, Table.{Keys, no_bytes, whole, utf8, HasKind, key_order, key_json}, Writes.{IsAbove, IsLast, IsBegunOf, IsWhole, IsWrittenOn, ends_of, Rest, IsRest, WritesFront, names_of_rest, names_of_all, leaf_depth, AreCalled, one_more, opened, Nested, passed, Mark, of_pair, AreEach, IsNewPlace, IsAscending, IsKeyed, IsLastKey, IsComparing, IsMarked, IsRestOf, BeginsNext, TellsAscent, RisesAt, IsWriterOf, IsHalved, IsWriting, IsAwaiting, IsWrittenAs, Stops, IsWritingAt, IsAwaitingAt, IsFull, IsFullOrFalls, AscendsFrom, IsOfWrite, write_steps}}
+use Rattle.borsh_walks.proofs.{Laws.{zero_member}, Forms.{shape_is, shapes_are}}
+use Rattle.borsh_values.proofs.{MemberLaws.{members_head}, WalkedLaws.{read_product}}
+use Rattle.borsh_json.proofs.{CheckedLaws.{IsDueAs, IsRisen, kind_free, same_opened, product_opened, product_due, pair_due, leaf_checked, zero_checked}, FallLaws.{falls, next_steps}, NestedLaws.{read_leaf, inside_of, as_deep, same_steps}, ReadingLaws.{steps_last}, WritingPlaces.{as_many, each_pushed, each_popped, key_tokens, TakesPart, TakesEntry, takes_part, takes_entry, place_ends}, FormKinds.{form_known}, StopLaws.{about_some}, WrittenLaws.{next_written}, OnlyLaws.{value_only}, WritingSteps.{key_full, only_in, halved_on, leaf_writes, front_writes, awaits, entry_halved, entry_nested, awaits_entry, end_writes, end_whole}}
 
 -- ---- nodes
 module _ {A : Type 0} (m : BTreeMap (String A) Definition) (x : List ℕ) (old new : Walker) (n : Node) (k : IsNodeOf m x old new n) where
@@ -278,7 +214,7 @@ module _ (d : Definitions) (w : Writing) (walk : Walker) (at : ℕ) (x : List �
   node_opened = opened_as (map_of d.plan.now) x w.walk walk n node_is
 
   pub node_only : IsOnly (forms_of d) x n.bytes.now node_is.parts
-  node_only = (form_of n.definition.now, node_opened.0, subst (λ C. OpensOnce C (shape_of_form (form_of n.definition.now)) n.bytes.now node_is.parts) (sym (shapes_are (map_of d.plan.now))) (subst (λ s. OpensOnce (definitions_in (map_of d.plan.now)) s n.bytes.now node_is.parts) (sym (shape_is n.definition.now)) node_is.once))
+  node_only = (form_of n.definition.now, node_opened.0, subst (λ C. OpensOnce C (shape_of_form (form_of n.definition.now)) n.bytes.now node_is.parts) (sym (shapes_are (map_of d.plan.now))) (subst (λ s. OpensOnce (definitions_in (map_of d.plan.now)) s n.bytes.now node_is.parts) (sym (shape_is n.definition.now)) node_is.once), subst (λ s. HasOneTag s n.bytes.now) (sym (shape_is n.definition.now)) node_is.alone)
 
   pub node_form : (f : Form) → forms_of d x ≡ Some f → f ≡ form_of n.definition.now
   node_form f e = some_form f (form_of n.definition.now) (sym e ∙ node_opened.0)
@@ -573,7 +509,7 @@ module _ (d : Definitions) (w new : Writing) (p : Place) (part : FoundPart) (es 
         let own = subst (λ l. IsOpened F t.key (form_of n.definition.now) n.bytes.now l) none (same_opened F (form_of n.definition.now) names full entry_opened.0 opens entry_opened.2 (node_only d w new.walk es.key t.key a.writer.plan t.key_named found n is g)) in
         let h = halved_on F ns root w.bytes.now t.key (shape_of_form (form_of n.definition.now)) v.done w.walk.left.now n.bytes.now new.walk.left.now [] rest node.bytes (λ r. node_on d w new.walk es.key t.key a.writer.plan t.key_named found n is g v.done [] rest own.2 r) entry_next in
         let k2 : Mark = (a.mark.0, one_more a.mark.1 (length v.done), a.mark.2) in
-        let first : IsDueAs F t.key n.bytes.now [] None = λ ds after c. plain n.bytes.now [] full (key_free F ns t.key (form_of n.definition.now) es.key_kind t.keys entry_keys) (form_of n.definition.now, own.1, own.3) c in
+        let first : IsDueAs F t.key n.bytes.now [] None = λ ds after c. plain n.bytes.now [] full (key_free F ns t.key (form_of n.definition.now) es.key_kind t.keys entry_keys) (form_of n.definition.now, own.1, own.3, own.5) c in
         let keyed : IsKeyed d w.bytes.now new.position.place.parts new.position.place.last k2 = λ fs c e.
         (let q : EntryOf es ≡ EntryOf fs = sym entry ∙ its_entries d w.walk.offset p w.position.place part b v.inner fs c v.here (sym parts ∙ e) in
         let same : es ≡ fs = cc in

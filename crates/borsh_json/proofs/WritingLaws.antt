@@ -1,31 +1,12 @@
 -- Steps of the writer's loop.
 use Rattle.std.proofs.Common.{◌≡◌, ℕ, suc, ◌+◌, ◌≤◌, List, [], ◌∷◌, ◌++◌, length, Option, Some, refl, sym, ◌∙◌, ap, subst, arith, append_assoc, append-nil}
-use Rattle.json.specs.Token.{Token}
-use Rattle.json.specs.Json.{Json, item, member, document, if_last, value, max_depth}
-use Rattle.json.specs.Lex.{tokens}
-use Rattle.json.specs.Print.{print}
-use Rattle.json.specs.Tree.{json_tokens, depth, HasNumbers}
-use Rattle.json.proofs.Printed.Tokens.{tokens-print}
-use Rattle.json.proofs.Printed.Trees.{document-print, ArePrintable-json_tokens}
-use Rattle.std.specs.BTreeMap.{BTreeMap}
-use Rattle.std.specs.Prelude.{String, option_and_then}
-use Rattle.borsh_walks.specs.Container.{Member}
-use Rattle.borsh_json.specs.declared.output.Output.{Output}
-use Rattle.borsh_walks.specs.Definitions.{definitions_in}
-use Rattle.borsh_walks.specs.declared.definition.Definition.{Definition}
-use Rattle.borsh_json.specs.Forms.{Form, forms_in}
-use Rattle.borsh_json.specs.Frames.{Wanted}
-use Rattle.borsh_json.specs.InOrder.{IsEach, TextRepresents, IsRepresented}
-use Rattle.borsh_json.specs.Represents.{none_left}
-use Rattle.borsh_json.specs.Table.{Keys, Part, key_json}
-use Rattle.borsh_json.specs.Writes.{Rest, items_rest, members_rest, value_rest, entries_rest, IsAbove, MayFollow, MayFollowAll, MayFollowFirst, IsWhole, Begins, WritesJson}
-use Rattle.borsh_json.specs.Leaves.{long_of, AreWritten}
-use Rattle.borsh_json.specs.Printed.{HasQuotedNumbers, QuotesLong}
-use Rattle.borsh_json.specs.declared.output.LongNumbers.{LongNumbers}
-use Rattle.borsh_json.specs.declared.output.LongNumbers.TheVariants.{Quoted}
+use Rattle.json.specs.{Token.{Token}, Json.{Json, item, member, document, if_last, value, max_depth}, Lex.{tokens}, Print.{print}, Tree.{json_tokens, depth, HasNumbers}}
+use Rattle.json.proofs.{Printed.Tokens.{tokens-print}, Printed.Trees.{document-print, ArePrintable-json_tokens}}
+use Rattle.std.specs.{BTreeMap.{BTreeMap}, Prelude.{String, option_and_then}}
+use Rattle.borsh_walks.specs.{Container.{Member}, Definitions.{definitions_in}, declared.definition.Definition.{Definition}}
+use Rattle.borsh_json.specs.{declared.output.Output.{Output}, Forms.{Form, forms_in}, Frames.{Wanted}, InOrder.{IsEach, TextRepresents, IsRepresented}, Represents.{none_left}, Table.{Keys, Part, key_json}, Writes.{Rest, items_rest, members_rest, value_rest, entries_rest, IsAbove, MayFollow, MayFollowAll, MayFollowFirst, IsWhole, Begins, WritesJson}, Leaves.{long_of, AreWritten}, Printed.{HasQuotedNumbers, QuotesLong}, declared.output.LongNumbers.{LongNumbers}, declared.output.LongNumbers.TheVariants.{Quoted}}
 use Rattle.borsh_walks.proofs.Forms.{shapes_are}
-use Rattle.borsh_json.proofs.OpeningLaws.{some_one}
-use Rattle.borsh_json.proofs.StepLaws.{item_back}
+use Rattle.borsh_json.proofs.{OpeningLaws.{some_one}, StepLaws.{item_back}}
 
 -- ---- at the end
 -- what was written is the text of the JSON
@@ -37,7 +18,7 @@ json_read text j e n d =
 module _ {A : Type 0} (m : BTreeMap (String A) Definition) (root bytes : List ℕ) (out : Output) (w : WritesJson (forms_in m) root bytes out) (is : Member (definitions_in m) root bytes) where
   -- the text that was written
   pub text_represents : (text : List ℕ) → tokens text ≡ json_tokens w.0 → TextRepresents (forms_in m) root text bytes
-  text_represents text e = (w.0, json_read text w.0 e w.2 w.3, w.4.0, subst (λ C. Member C root bytes) (sym (shapes_are m)) is, w.5)
+  text_represents text e = (w.0, json_read text w.0 e w.2 w.3, w.4.0, subst (λ C. Member C root bytes) (sym (shapes_are m)) is, w.5 w.0 w.4.0)
 
   -- where numbers of 64 bits are strings, so are those of any text of the same JSON
   pub quoted_numbers : (long : LongNumbers) (text : List ℕ) → long_of out ≡ long → long ≡ Quoted → document text ≡ Some w.0 → HasQuotedNumbers (forms_in m) root text

@@ -1,21 +1,8 @@
 -- What is left to be written of places.
 use Rattle.std.proofs.Common.{◌≡◌, ℕ, suc, zero, ◌-◌, List, [], ◌∷◌, ◌++◌, length, map, replicate, Option, Some, refl, sym, ◌∙◌, ap, subst, arith, length-append}
-use Rattle.json.specs.Token.{Token}
-use Rattle.json.specs.Json.{no_items, no_members}
+use Rattle.json.specs.{Token.{Token}, Json.{no_items, no_members}}
 use Rattle.borsh_plan.specs.declared.named.Named.{Named}
-use Rattle.borsh_json.specs.declared.kinds.Entries.{Entries as FoundEntries}
-use Rattle.borsh_json.specs.declared.position.Key.{Key}
-use Rattle.borsh_json.specs.declared.position.Key.TheVariants.{None as NoKey, Name, Entry as EntryOf}
-use Rattle.borsh_json.specs.declared.position.Part.{Part as FoundPart}
-use Rattle.borsh_json.specs.declared.position.Parts.{Parts}
-use Rattle.borsh_json.specs.declared.position.Parts.TheVariants.{Root, List as Elements, Row, Object, Entries as MapEntries, Newtype, Some as Present, Variant}
-use Rattle.borsh_json.specs.declared.position.Place.{Place}
-use Rattle.borsh_json.specs.declared.sources.EntryKey.{EntryKey}
-use Rattle.borsh_json.specs.Forms.{Form, tuple, form_of}
-use Rattle.borsh_json.specs.Frames.{Wanted, IsWanted, IsKey}
-use Rattle.borsh_json.specs.Places.{IsAt, AreKeysOf}
-use Rattle.borsh_json.specs.Table.{Keys}
-use Rattle.borsh_json.specs.Writes.{Rest, items_rest, members_rest, value_rest, entries_rest, names_of_rest, MayFollow, IsLast, IsRestOf, AreEach, ends_of}
+use Rattle.borsh_json.specs.{declared.kinds.Entries.{Entries as FoundEntries}, declared.position.Key.{Key}, declared.position.Key.TheVariants.{None as NoKey, Name, Entry as EntryOf}, declared.position.Part.{Part as FoundPart}, declared.position.Parts.{Parts}, declared.position.Parts.TheVariants.{Root, List as Elements, Row, Object, Entries as MapEntries, Newtype, Some as Present, Variant}, declared.position.Place.{Place}, declared.sources.EntryKey.{EntryKey}, Forms.{Form, tuple, form_of}, Frames.{Wanted, IsWanted, IsKey}, Places.{IsAt, AreKeysOf}, Table.{Keys}, Writes.{Rest, items_rest, members_rest, value_rest, entries_rest, names_of_rest, MayFollow, IsLast, IsRestOf, AreEach, ends_of}}
 use Rattle.borsh_json.proofs.WritingLaws.{IsTaken, item_taken, member_taken, value_taken}
 
 -- the tokens of a key, unless it is that of an entry

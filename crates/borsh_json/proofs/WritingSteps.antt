@@ -1,39 +1,13 @@
 -- Where the writer is after each step.
 use Rattle.std.specs.Prelude.{option_map}
-use Rattle.std.proofs.Common.{◌≡◌, inl, inr, ℕ, suc, ◌+◌, ◌-◌, ◌<◌, ◌≤◌, List, [], ◌∷◌, ◌++◌, length, replicate, drop, Option, Some, None, refl, sym, ◌∙◌, ap, subst, arith, append_assoc, append-nil}
-use Rattle.std.proofs.Math.Seq.{drop-append_seam}
-use Rattle.json.specs.Token.{Token}
-use Rattle.json.specs.Tree.{json_tokens}
+use Rattle.std.proofs.{Common.{◌≡◌, inl, inr, ℕ, suc, ◌+◌, ◌-◌, ◌<◌, ◌≤◌, List, [], ◌∷◌, ◌++◌, length, replicate, drop, Option, Some, None, refl, sym, ◌∙◌, ap, subst, arith, append_assoc, append-nil}, Math.Seq.{drop-append_seam}}
+use Rattle.json.specs.{Token.{Token}, Tree.{json_tokens}}
 use Rattle.borsh_walks.specs.Container.{Shape, IsIn, first, later, Member}
 use Rattle.borsh_values.specs.Walks.{IsReadTo}
 use Rattle.borsh_plan.specs.declared.named.Named.{Named}
 use Rattle.borsh_values.proofs.WalkedLaws.{read_start, read_zero, read_product, read_end}
-use Rattle.borsh_json.specs.declared.kinds.Entries.{Entries as FoundEntries}
-use Rattle.borsh_json.specs.declared.kinds.KeyKind.{KeyKind}
-use Rattle.borsh_json.specs.declared.kinds.KeyKind.TheVariants.{Text as TextKeys, Number as NumberKeys}
-use Rattle.borsh_json.specs.declared.output.LongNumbers.{LongNumbers}
-use Rattle.borsh_json.specs.declared.output.Output.{Output}
-use Rattle.borsh_json.specs.declared.position.Part.{Part as FoundPart}
-use Rattle.borsh_json.specs.declared.position.Parts.{Parts}
-use Rattle.borsh_json.specs.declared.position.Parts.TheVariants.{Root}
-use Rattle.borsh_json.specs.declared.position.Place.{Place}
-use Rattle.borsh_json.specs.declared.sources.EntryKey.{EntryKey}
-use Rattle.borsh_json.specs.Checked.{one, AreChecked, nothing_due}
-use Rattle.borsh_json.specs.Forms.{Form, tuple, shape_of_form, shapes, HasNoBytes, form_of}
-use Rattle.borsh_json.specs.Frames.{IsEntryKey, last_steps}
-use Rattle.borsh_json.specs.InOrder.{place}
-use Rattle.borsh_json.specs.Leaves.{WritesLeaf, long_of, AreWritten}
-use Rattle.borsh_json.specs.Only.{IsOpened, AreOnly}
-use Rattle.borsh_json.specs.Places.{IsAt, AreKeysOf, lengths_of}
-use Rattle.borsh_json.specs.Represents.{SaysFirst}
-use Rattle.borsh_json.specs.Table.{Keys, Kind, no_bytes, whole, utf8, HasKind, Part, key_json}
-use Rattle.borsh_json.specs.Writes.{Rest, value_rest, entries_rest, names_of_rest, names_of_all, IsAbove, MayFollow, MayFollowAll, IsLast, IsWhole, Begins, one_more, opened, AreCalled, Nested, unread, entered, passed, Mark, of_pair, AreLevels, no_levels, level, entry_level, IsHalved, IsRestOf, IsRest, AreRests, IsCheckedTo, IsWriting, IsAwaiting, WritesFront, IsFront}
-use Rattle.borsh_json.proofs.WritingLaws.{begins, ends, key_written, leaf_written, front_written, end_written, entry_taken}
-use Rattle.borsh_json.proofs.CheckedLaws.{IsDueAs, IsRisen, nothing_owed, product_opened, starts_checked, next_checked, entry_checked, front_checked, end_checked}
-use Rattle.borsh_json.proofs.FoundLaws.{zero_part}
-use Rattle.borsh_json.proofs.NestedLaws.{settled, left as left_level}
-use Rattle.borsh_json.proofs.WrittenLaws.{key_formed, next_written}
-use Rattle.borsh_json.proofs.WritingPlaces.{key_tokens, TakesPart, TakesEntry, each_pushed, each_popped}
+use Rattle.borsh_json.specs.{declared.kinds.Entries.{Entries as FoundEntries}, declared.kinds.KeyKind.{KeyKind}, declared.kinds.KeyKind.TheVariants.{Text as TextKeys, Number as NumberKeys}, declared.output.LongNumbers.{LongNumbers}, declared.output.Output.{Output}, declared.position.Part.{Part as FoundPart}, declared.position.Parts.{Parts}, declared.position.Parts.TheVariants.{Root}, declared.position.Place.{Place}, declared.sources.EntryKey.{EntryKey}, Checked.{one, AreChecked, nothing_due}, Forms.{Form, tuple, shape_of_form, shapes, HasNoBytes, form_of}, Frames.{IsEntryKey, last_steps}, InOrder.{place}, Leaves.{WritesLeaf, long_of, AreWritten}, Only.{IsOpened, AreOnly}, Places.{IsAt, AreKeysOf, lengths_of}, Represents.{SaysFirst}, Table.{Keys, Kind, no_bytes, whole, utf8, HasKind, Part, key_json}, Writes.{Rest, value_rest, entries_rest, names_of_rest, names_of_all, IsAbove, MayFollow, MayFollowAll, IsLast, IsWhole, Begins, one_more, opened, AreCalled, Nested, unread, entered, passed, Mark, of_pair, AreLevels, no_levels, level, entry_level, IsHalved, IsRestOf, IsRest, AreRests, IsCheckedTo, IsWriting, IsAwaiting, WritesFront, IsFront}}
+use Rattle.borsh_json.proofs.{WritingLaws.{begins, ends, key_written, leaf_written, front_written, end_written, entry_taken}, CheckedLaws.{IsDueAs, IsRisen, nothing_owed, product_opened, starts_checked, next_checked, entry_checked, front_checked, end_checked}, FoundLaws.{zero_part}, NestedLaws.{settled, left as left_level}, WrittenLaws.{key_formed, next_written}, WritingPlaces.{key_tokens, TakesPart, TakesEntry, each_pushed, each_popped}}
 
 pub not_in : (x : List ℕ) → IsIn x [] → ⊥
 not_in x i = elim i [ ]

@@ -1,22 +1,10 @@
 -- What holds of each part of JSON, if it holds of the whole and of its own parts; and parts that were written.
 use Rattle.std.proofs.Common.{◌≡◌, ◌⊎◌, inl, inr, ℕ, suc, List, [], ◌∷◌, ◌++◌, Bool, Option, refl, sym, ◌∙◌, subst, ap}
-use Rattle.std.specs.Float.{Format}
-use Rattle.std.specs.List.{AllByRecursion}
+use Rattle.std.specs.{Float.{Format}, List.{AllByRecursion}}
 use Rattle.json.specs.Json.{Json, number, string}
 use Rattle.borsh_plan.specs.declared.named.Named.{Named}
-use Rattle.borsh_json.specs.declared.kinds.KeyKind.{KeyKind}
-use Rattle.borsh_json.specs.declared.kinds.KeyKind.TheVariants.{Text as TextKeys, Number as NumberKeys}
-use Rattle.borsh_json.specs.declared.output.LongNumbers.{LongNumbers}
-use Rattle.borsh_json.specs.declared.output.LongNumbers.TheVariants.{Quoted}
-use Rattle.borsh_json.specs.Forms.{Form}
-use Rattle.borsh_json.specs.InOrder.{Step, BeginsParts, IsReached, whole_value, part_of, IsEach}
-use Rattle.borsh_json.specs.Leaves.{AreWritten}
-use Rattle.borsh_json.specs.Places.{AreKeysOf}
-use Rattle.borsh_json.specs.Printed.{IsMarked, QuotesLong}
-use Rattle.borsh_json.specs.Represents.{SaysFirst, next_part}
-use Rattle.borsh_json.specs.Table.{Keys, numbers, Kind, float, whole, HasKind, Part, Says, key_json}
-use Rattle.borsh_json.proofs.ReaderLaws.{first_says}
-use Rattle.borsh_json.proofs.RepresentsLaws.{kind_one}
+use Rattle.borsh_json.specs.{declared.kinds.KeyKind.{KeyKind}, declared.kinds.KeyKind.TheVariants.{Text as TextKeys, Number as NumberKeys}, declared.output.LongNumbers.{LongNumbers}, declared.output.LongNumbers.TheVariants.{Quoted}, Forms.{Form}, InOrder.{Step, BeginsParts, IsReached, whole_value, part_of, IsEach}, Leaves.{AreWritten}, Places.{AreKeysOf}, Printed.{IsMarked, QuotesLong}, Represents.{SaysFirst, next_part}, Table.{Keys, numbers, Kind, float, whole, HasKind, Part, Says, key_json}}
+use Rattle.borsh_json.proofs.{ReaderLaws.{first_says}, RepresentsLaws.{kind_one}}
 
 -- JSON of a kind, as it is written: a number of 64 bits may be quoted, and a float has a point or an exponent
 abbrev pub IsFormed : LongNumbers → Kind → Json → Type 0

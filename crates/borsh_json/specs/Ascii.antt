@@ -1,6 +1,5 @@
 -- Text of printable ASCII and line feeds, and text in one line.
-use Rattle.std.specs.Prelude.{◌≡◌, ◌≤◌, ℕ, ◌+◌, ◌-◌, ◌/◌, ◌%◌, ◌==◌, ◌&&◌, ◌||◌, Bool, true, cond, ltb, leb, List, [], ◌∷◌, ◌++◌, Result, OnOk, Some}
-use Rattle.std.specs.Char.{digit_char}
+use Rattle.std.specs.{Prelude.{◌≡◌, ◌≤◌, ℕ, ◌+◌, ◌-◌, ◌/◌, ◌%◌, ◌==◌, ◌&&◌, ◌||◌, Bool, true, cond, ltb, leb, List, [], ◌∷◌, ◌++◌, Result, OnOk, Some}, Char.{digit_char}}
 use Rattle.json.specs.Json.{Json, document}
 
 abbrev pub is_printable : ℕ → Bool

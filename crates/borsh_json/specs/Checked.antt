@@ -1,14 +1,7 @@
 -- Bytes of which each definition opens once, and in which what has to ascend does, whatever JSON says them.
 use Rattle.std.specs.Prelude.{◌≡◌, ℕ, suc, zero, List, [], ◌∷◌, ◌++◌, map, replicate, drop, Option, Some, None, IfSome}
-use Rattle.borsh_values.specs.Nodes.{packed_size}
-use Rattle.borsh_values.specs.Cursor.{OpensOnce}
-use Rattle.borsh_json.specs.Descents.{HasKeys, PrimitivesDescend}
-use Rattle.borsh_json.specs.Forms.{Form, primitive, shape_of_form, shapes, HasNoBytes}
-use Rattle.borsh_json.specs.Found.{IsSet}
-use Rattle.borsh_json.specs.Frames.{IsListKind}
-use Rattle.borsh_json.specs.Ordered.{a_value, IsAtLeast}
-use Rattle.borsh_json.specs.Orders.{KnowsNoOrder}
-use Rattle.borsh_json.specs.Table.{Kind, HasKind}
+use Rattle.borsh_values.specs.{Nodes.{packed_size}, Cursor.{HasOneTag, OpensOnce}}
+use Rattle.borsh_json.specs.{Descents.{HasKeys, PrimitivesDescend}, Forms.{Form, primitive, shape_of_form, shapes, HasNoBytes}, Found.{IsSet}, Frames.{IsListKind}, Ordered.{a_value, IsAtLeast}, Orders.{KnowsNoOrder}, Table.{Kind, HasKind}}
 
 -- what is still to be read of some bytes
 pub data Due : Type 0 where
@@ -22,9 +15,9 @@ module _ (F : List ℕ → Option Form) where
   abbrev pub NeedsNoOrder : List ℕ → Type 0
   NeedsNoOrder x = (kind : Kind) → HasKind F x kind → IsListKind kind → KnowsNoOrder F x
 
-  -- a value of x begins with these own bytes and has these parts, and no other bytes or parts of its definition are there
+  -- a value of x begins with these own bytes and has these parts, and no other bytes, parts or variant of its definition are there
   abbrev pub IsOnly : List ℕ → List ℕ → List (List ℕ) → Type 0
-  IsOnly x own parts = (f : Form) × (F x ≡ Some f) × OpensOnce (shapes F) (shape_of_form f) own parts
+  IsOnly x own parts = (f : Form) × (F x ≡ Some f) × OpensOnce (shapes F) (shape_of_form f) own parts × HasOneTag (shape_of_form f) own
 
   -- the bytes are what is due, each value opens once, and the keys of sets and maps ascend
   pub data AreChecked : List Due → List ℕ → Type 0 where

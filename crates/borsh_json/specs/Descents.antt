@@ -1,10 +1,7 @@
 -- Sets and maps, and bytes of which two neighbours don't ascend.
 use Rattle.std.specs.Prelude.{◌≡◌, ◌⊎◌, ℕ, suc, ◌<◌, ◌≤◌, ◌*◌, ◌-◌, pos, List, [], ◌∷◌, ◌++◌, length, replicate, Option, Some}
 use Rattle.borsh_walks.specs.Container.{tag}
-use Rattle.borsh_json.specs.Forms.{Form, tuple, IsList}
-use Rattle.borsh_json.specs.Found.{IsSetName, IsMapName}
-use Rattle.borsh_json.specs.Only.{AreOnly}
-use Rattle.borsh_json.specs.Ordered.{a_value, IsAtLeast}
+use Rattle.borsh_json.specs.{Forms.{Form, tuple, IsList}, Found.{IsSetName, IsMapName}, Only.{AreOnly}, Ordered.{a_value, IsAtLeast}}
 
 module _ (F : List ℕ → Option Form) where
   -- x is a set of elements e, which are its keys, too; or a map with entries e and keys k

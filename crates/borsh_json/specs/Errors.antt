@@ -1,19 +1,9 @@
 -- Why bytes have no JSON, and why a text is no value.
 use Rattle.std.specs.Prelude.{◌≡◌, ◌⊎◌, ⊤, ℕ, suc, ◌-◌, ◌<◌, List, [], ◌∷◌, ◌++◌, Option, None, IsSome}
-use Rattle.json.specs.Token.{Token, begin_object, end_object, begin_array, end_array}
-use Rattle.json.specs.Lex.{tokens}
-use Rattle.json.specs.Json.{document, max_depth}
+use Rattle.json.specs.{Token.{Token, begin_object, end_object, begin_array, end_array}, Lex.{tokens}, Json.{document, max_depth}}
 use Rattle.borsh_walks.specs.Container.{Shape, Member}
-use Rattle.borsh_values.specs.Membership.{IsUndecided, IsFault}
-use Rattle.borsh_values.specs.declared.faults.Path.{Path}
-use Rattle.borsh_json.specs.declared.error.JsonError.{JsonError}
-use Rattle.borsh_json.specs.declared.error.JsonError.TheVariants.{OutOfMemory, NoMember, NoValue, Ambiguous, NotJson, Refused}
-use Rattle.borsh_json.specs.declared.error.PartError.{PartError}
-use Rattle.borsh_json.specs.declared.error.PartError.TheVariants.{OutOfMemory as NoMemory, Refused as RefusedPart}
-use Rattle.borsh_json.specs.declared.error.ReadError.{ReadError}
-use Rattle.borsh_json.specs.declared.error.ReadError.TheVariants.{OutOfMemory as NoRoom, Refused as RefusedRead, Descends as DescendsAt}
-use Rattle.borsh_json.specs.declared.error.Refusal.{Refusal}
-use Rattle.borsh_json.specs.declared.error.Refusal.TheVariants.{TooDeep, RepeatedName, EmptyElements, NotBool, NotUtf8, Zero, NotNumber, Descends, Expected, MissingField, UnknownName, RepeatedKey, Undefined}
+use Rattle.borsh_values.specs.{Membership.{IsUndecided, IsFault}, declared.faults.Path.{Path}}
+use Rattle.borsh_json.specs.{declared.error.JsonError.{JsonError}, declared.error.JsonError.TheVariants.{OutOfMemory, NoMember, NoValue, Ambiguous, NotJson, Refused}, declared.error.PartError.{PartError}, declared.error.PartError.TheVariants.{OutOfMemory as NoMemory, Refused as RefusedPart}, declared.error.Refusal.{Refusal}, declared.error.Refusal.TheVariants.{TooDeep, RepeatedName, EmptyElements, NotBool, NotUtf8, Zero, NotNumber, Descends, Expected, MissingField, UnknownName, RepeatedKey, Undefined}}
 
 -- ---- which refusals a call may return
 
@@ -46,17 +36,6 @@ IsUnreadable (UnknownName name) = ⊤
 IsUnreadable (RepeatedKey name) = ⊤
 IsUnreadable (Undefined name) = ⊤
 IsUnreadable refusal = ⊥
-
--- an allocation failed, or a part is refused in one of these ways
-abbrev pub IsPartError : (Refusal → Type 0) → PartError → Type 0
-IsPartError May NoMemory = ⊤
-IsPartError May (RefusedPart path refusal) = May refusal
-
--- an allocation failed, or a part can't be read
-abbrev pub IsReadRefusal : ReadError → Type 0
-IsReadRefusal NoRoom = ⊤
-IsReadRefusal (RefusedRead refusal) = IsUnreadable refusal
-IsReadRefusal (DescendsAt index) = ⊤
 
 -- the error of a part, as that of the whole value
 abbrev pub error_of : PartError → JsonError

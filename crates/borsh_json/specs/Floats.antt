@@ -1,10 +1,6 @@
 -- Floats as text.
-use Rattle.std.specs.Prelude.{◌≡◌, ◌⊎◌, ℕ, ◌<◌, ◌*◌, ◌^◌, List, true, false, Option, Some, MatchOption, is_nan, from_bits}
-use Rattle.std.specs.Float.{Float, Format}
-use Rattle.std.specs.Float.Ieee.{top}
-use Rattle.std.specs.Float.Parse.{parse_float}
-use Rattle.json.specs.Json.{Json}
-use Rattle.json.specs.Print.{IsNumber}
+use Rattle.std.specs.{Prelude.{◌≡◌, ◌⊎◌, ℕ, ◌<◌, ◌*◌, ◌^◌, List, true, false, Option, Some, MatchOption, is_nan, from_bits}, Float.{Float, Format}, Float.Ieee.{top}, Float.Parse.{parse_float}}
+use Rattle.json.specs.{Json.{Json}, Print.{IsNumber}}
 use Rattle.borsh_walks.specs.Container.{little_endian}
 use Rattle.borsh_json.specs.Table.{float_size, float_of, infinity_of, IsFloat}
 

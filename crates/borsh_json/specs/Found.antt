@@ -1,21 +1,7 @@
 -- What the code finds of the definition of a name, against the format's own types and the table.
-use Rattle.std.specs.Prelude.{◌≡◌, ◌⊎◌, ℕ, List, [], ◌∷◌, ◌++◌, codes, MatchOption, Option, Some}
-use Rattle.std.specs.Borrow.{Bor}
-use Rattle.std.specs.Float.{Format}
-use Rattle.std.specs.List.{IsDistinct}
-use Rattle.std.specs.Str.{bytes_eq}
-use Rattle.borsh_plan.specs.declared.named.Named.{Named}
-use Rattle.borsh_plan.specs.Plan.{map_of, names_of as plan_names, root_of}
-use Rattle.borsh_json.specs.declared.definitions.Definitions.{Definitions}
-use Rattle.borsh_json.specs.declared.formats.Collection.{Collection}
-use Rattle.borsh_json.specs.declared.formats.Collection.TheVariants.{List as Elements, Set, Map}
-use Rattle.borsh_json.specs.declared.kinds.Kind.{Kind as Found}
-use Rattle.borsh_json.specs.declared.kinds.Kind.TheVariants.{Number, Bool as Truth, Bytes, Float}
-use Rattle.borsh_json.specs.declared.kinds.Entries.{Entries as FoundEntries}
-use Rattle.borsh_json.specs.Forms.{Form, form_of, forms_in, HasNoBytes, IsList, IsMap}
-use Rattle.borsh_json.specs.Table.{Kind, whole, truth, raw, float, float_size, Keys, AreKeys, ComesTwice}
-use Rattle.borsh_json.specs.Places.{IsAt, IsKindOf, AreKeysOf}
-use Rattle.borsh_json.specs.Represents.{TextSays}
+use Rattle.std.specs.{Prelude.{◌≡◌, ◌⊎◌, ℕ, List, [], ◌∷◌, ◌++◌, codes, MatchOption, Option, Some}, Borrow.{Bor}, Float.{Format}, List.{IsDistinct}, Str.{bytes_eq}}
+use Rattle.borsh_plan.specs.{declared.named.Named.{Named}, Plan.{map_of, names_of as plan_names, root_of}}
+use Rattle.borsh_json.specs.{declared.definitions.Definitions.{Definitions}, declared.formats.Collection.{Collection}, declared.formats.Collection.TheVariants.{List as Elements, Set, Map}, declared.kinds.Kind.{Kind as Found}, declared.kinds.Kind.TheVariants.{Number, Bool as Truth, Bytes, Float}, declared.kinds.Entries.{Entries as FoundEntries}, Forms.{Form, form_of, forms_in, HasNoBytes, IsList, IsMap}, Table.{Kind, whole, truth, raw, float, float_size, Keys, AreKeys, ComesTwice}, Places.{IsAt, IsKindOf, AreKeysOf}, Represents.{TextSays}}
 
 -- the definitions, with the names of fields and variants
 abbrev pub forms_of : Definitions → List ℕ → Option Form

@@ -1,77 +1,21 @@
 -- What the frames of the reader stand for, and what its steps return.
-use Rattle.std.specs.Prelude.{◌≡◌, ◌⊎◌, ⊤, ℕ, suc, zero, ℤ, String, slice_get, List, [], ◌∷◌, ◌++◌, ◌+◌, ◌-◌, ◌*◌, ◌<◌, ◌≤◌, All, length, map, drop, replicate, Bool, true, false, Option, Some, None, IsSome, Result, MatchOption, MatchResult, codes, string_bytes}
-use Rattle.std.specs.Borrow.{Bor}
-use Rattle.std.specs.Global.{Global}
-use Rattle.std.specs.Str.{bytes_eq}
-use Rattle.std.specs.List.{AllByRecursion, IsDistinct, list_any}
-use Rattle.std.specs.List.Sorted.{IsPermutation, IsStrictlySortedBy}
-use Rattle.std.specs.BTreeMap.{BTreeMap, btree_map_len}
-use Rattle.json.specs.Token.{Token}
-use Rattle.json.specs.Json.{Json, string, array, object, Items, no_items, item, Members, no_members, member}
-use Rattle.json.specs.Find.{BeginsWith, InItems, InMembers, get_member, Finds, as_array}
-use Rattle.borsh_walks.specs.Container.{references}
-use Rattle.borsh_walks.specs.Tables.{mark_of}
-use Rattle.borsh_values.specs.declared.faults.Path.{Path}
-use Rattle.borsh_values.specs.declared.faults.PathStep.{PathStep}
+use Rattle.std.specs.{Prelude.{◌≡◌, ◌⊎◌, ⊤, ℕ, suc, zero, ℤ, String, slice_get, List, [], ◌∷◌, ◌++◌, ◌+◌, ◌-◌, ◌*◌, ◌<◌, length, map, drop, replicate, Bool, true, false, Option, Some, None, IsSome, Result, MatchOption, MatchResult, codes, string_bytes}, Borrow.{Bor}, Global.{Global}, Str.{bytes_eq}, List.{AllByRecursion, IsDistinct, list_any}, List.Sorted.{IsPermutation, IsStrictlySortedBy}, BTreeMap.{BTreeMap, btree_map_len}}
+use Rattle.json.specs.{Token.{Token}, Json.{Json, string, array, object, Items, no_items, item, Members, no_members, member}, Find.{BeginsWith, InItems, InMembers, get_member, Finds, as_array}}
+use Rattle.borsh_walks.specs.{Container.{references}, Tables.{mark_of}}
+use Rattle.borsh_values.specs.{declared.faults.Path.{Path}, declared.faults.PathStep.{PathStep}}
 use Rattle.borsh_plan.specs.declared.named.Named.{Named}
-use Rattle.borsh_json.specs.declared.definitions.Definitions.{Definitions}
-use Rattle.borsh_json.specs.declared.error.PartError.{PartError}
-use Rattle.borsh_json.specs.declared.error.PartError.TheVariants.{OutOfMemory as NoMemory, Refused as RefusedPart}
-use Rattle.borsh_json.specs.declared.error.ReadError.{ReadError}
-use Rattle.borsh_json.specs.declared.error.ReadError.TheVariants.{OutOfMemory, Refused, Descends as DescendsAt}
-use Rattle.borsh_json.specs.declared.error.Refusal.{Refusal}
-use Rattle.borsh_json.specs.declared.error.Refusal.TheVariants.{Descends, Expected, RepeatedKey}
-use Rattle.borsh_json.specs.Errors.{IsUnreadable}
-use Rattle.borsh_json.specs.declared.kinds.Elements.{Elements as FoundElements}
-use Rattle.borsh_json.specs.declared.kinds.KeyKind.{KeyKind}
-use Rattle.borsh_json.specs.declared.kinds.KeyKind.TheVariants.{Text as TextKeys, Number as NumberKeys}
-use Rattle.borsh_json.specs.declared.numbers.Number.{Number}
-use Rattle.borsh_json.specs.declared.order.Ascent.{Ascent}
-use Rattle.borsh_json.specs.declared.order.Ordered.{Ordered}
-use Rattle.borsh_json.specs.declared.opening.Array.{Array}
-use Rattle.borsh_json.specs.declared.opening.Array.TheVariants.{No, TooLong, Of}
-use Rattle.borsh_json.specs.declared.opening.Frame.{Frame}
-use Rattle.borsh_json.specs.declared.parts.Next.{Next}
-use Rattle.borsh_json.specs.declared.parts.Next.TheVariants.{Part, Missing, End}
-use Rattle.borsh_json.specs.declared.parts.Reading.{Reading}
-use Rattle.borsh_json.specs.declared.position.Key.{Key}
-use Rattle.borsh_json.specs.declared.position.Key.TheVariants.{None as NoKey, Name, Entry as EntryOf}
-use Rattle.borsh_json.specs.declared.position.Part.{Part as FoundPart}
-use Rattle.borsh_json.specs.declared.position.Parts.{Parts}
-use Rattle.borsh_json.specs.declared.position.Parts.TheVariants.{Root, List as Elements, Row, Object, Entries as MapEntries, Newtype, Some as Present, Variant}
-use Rattle.borsh_json.specs.declared.position.Place.{Place}
-use Rattle.borsh_json.specs.declared.sources.EntryKey.{EntryKey}
-use Rattle.borsh_json.specs.declared.sources.EntryKey.TheVariants.{Text as TextKey, Rank}
-use Rattle.borsh_json.specs.declared.sources.Source.{Source}
-use Rattle.borsh_json.specs.declared.sources.Source.TheVariants.{One, Items as TheItems, Members as TheMembers, Entries as InPlace, Texts, Ranks}
-use Rattle.borsh_json.specs.Forms.{Form, named, form_of, shape_of_form}
-use Rattle.borsh_json.specs.Found.{forms_of, names_of}
-use Rattle.borsh_json.specs.Descents.{PrimitivesDescend}
-use Rattle.borsh_json.specs.InOrder.{Step, field as field_step, place as place_step, element as element_step, variant as variant_step, AreSteps, BeginsParts, DigitsFall, IsReached, ItemsFall, InOrder}
-use Rattle.borsh_json.specs.NoValue.{step_of, path_steps, RepeatsKey, FailsHere, LacksField, HasOther, Why, FailsAt, SaysNothing}
-use Rattle.borsh_json.specs.Orders.{ArePrimitives, IsNotBelow, KeysAscend, OrderedBy}
-use Rattle.borsh_json.specs.Places.{IsAt, AreKeysOf}
-use Rattle.borsh_json.specs.Ranks.{HasRank}
-use Rattle.borsh_json.specs.Represents.{SaysFirst, HaveBytes}
-use Rattle.borsh_json.specs.Table.{Lengths, Keys, Kind, byte_list, list, row, inner, fields, optional, variants, entries, HasKind, Part as JsonPart, row_parts, list_parts, field_parts, Entry, entries_of, key_order, key_json, entry_parts, IsVariant, IsWhole, IsPrefixed, IsArray, Says}
+use Rattle.borsh_json.specs.{declared.definitions.Definitions.{Definitions}, declared.error.PartError.{PartError}, declared.error.PartError.TheVariants.{OutOfMemory as NoMemory, Refused as RefusedPart}, declared.error.ReadError.{ReadError}, declared.error.ReadError.TheVariants.{OutOfMemory, Refused}, declared.error.Refusal.{Refusal}, declared.error.Refusal.TheVariants.{Expected, RepeatedKey}, Errors.{IsUnreadable}, declared.kinds.Elements.{Elements as FoundElements}, declared.kinds.KeyKind.{KeyKind}, declared.kinds.KeyKind.TheVariants.{Text as TextKeys, Number as NumberKeys}, declared.numbers.Number.{Number}, declared.order.Ordered.{Ordered}, declared.opening.Array.{Array}, declared.opening.Array.TheVariants.{No, TooLong, Of}, declared.opening.Frame.{Frame}, declared.parts.Next.{Next}, declared.parts.Next.TheVariants.{Part, Missing, End}, declared.parts.Reading.{Reading}, declared.position.Key.{Key}, declared.position.Key.TheVariants.{None as NoKey, Name, Entry as EntryOf}, declared.position.Part.{Part as FoundPart}, declared.position.Parts.{Parts}, declared.position.Parts.TheVariants.{Root, List as Elements, Row, Object, Entries as MapEntries, Newtype, Some as Present, Variant}, declared.position.Place.{Place}, declared.sources.EntryKey.{EntryKey}, declared.sources.EntryKey.TheVariants.{Text as TextKey, Rank}, declared.sources.Source.{Source}, declared.sources.Source.TheVariants.{One, Items as TheItems, Members as TheMembers, Entries as InPlace, Texts, Ranks}, Forms.{Form, named, form_of, shape_of_form}, Found.{forms_of, names_of}, Descents.{PrimitivesDescend}, InOrder.{Step, field as field_step, place as place_step, element as element_step, variant as variant_step, AreSteps, BeginsParts, IsReached, InOrder}, NoValue.{step_of, path_steps, RepeatsKey, FailsHere, LacksField, HasOther, Why, FailsAt, SaysNothing}, Orders.{ArePrimitives}, Places.{IsAt, AreKeysOf}, Ranks.{HasRank}, Represents.{SaysFirst, HaveBytes}, Table.{Lengths, Keys, Kind, byte_list, list, row, inner, fields, optional, variants, entries, HasKind, Part as JsonPart, row_parts, list_parts, field_parts, Entry, entries_of, key_order, key_json, entry_parts, IsVariant, IsWhole, IsPrefixed, IsArray, Says}}
 
 -- ---- errors
 
--- the error shows P, for a reason of these; or that the element at an index falls
-abbrev pub ShowsOr : (ℕ → Type 0) → (Refusal → Type 0) → ReadError → Type 0 → Type 0
-ShowsOr Falls Reason OutOfMemory P = ⊤
-ShowsOr Falls Reason (Refused refusal) P = Reason refusal × P
-ShowsOr Falls Reason (DescendsAt index) P = Falls index
-
+-- the error shows P, for a reason of these
 abbrev pub ShowsRead : (Refusal → Type 0) → ReadError → Type 0 → Type 0
-ShowsRead Reason e P = ShowsOr (λ index. ⊥) Reason e P
+ShowsRead Reason OutOfMemory P = ⊤
+ShowsRead Reason (Refused refusal) P = Reason refusal × P
 
 -- that P doesn't hold
-abbrev pub DeniesOr : (ℕ → Type 0) → (Refusal → Type 0) → ReadError → Type 0 → Type 0
-DeniesOr Falls Reason e P = ShowsOr Falls Reason e (P → ⊥)
-
 abbrev pub DeniesRead : (Refusal → Type 0) → ReadError → Type 0 → Type 0
-DeniesRead Reason e P = DeniesOr (λ index. ⊥) Reason e P
+DeniesRead Reason e P = ShowsRead Reason e (P → ⊥)
 
 -- that the JSON of the name fails itself
 abbrev pub FailsRead : (List ℕ → Option Form) → List ℕ → Json → ReadError → Type 0
@@ -87,10 +31,6 @@ abbrev pub IsKeyReason : Json → Refusal → Type 0
 IsKeyReason j (Expected wanted) = ⊤
 IsKeyReason j (RepeatedKey name) = RepeatsKey j (string_bytes name)
 IsKeyReason j refusal = ⊥
-
--- the bytes are primitives that have to ascend, and the one at the index isn't above the one before it
-abbrev pub ElementsFall : FoundElements → List ℕ → ℕ → Type 0
-ElementsFall es bytes index = (found : Ordered) × (es.order ≡ Some found) × All (λ b. b < 256) bytes × ((F : List ℕ → Option Form) (ns : List Named) (e : List ℕ) → ArePrimitives F ns e found es.size bytes → PrimitivesDescend F e es.size bytes index)
 
 -- where the bytes are primitives that have to ascend, none of them isn't above the one before it
 abbrev pub NoneFalls : FoundElements → List ℕ → Type 0
@@ -116,12 +56,6 @@ IsElementFall root outer es bytes error =
     (found : Ordered) × (es.order ≡ Some found)
     × ((F : List ℕ → Option Form) (ns : List Named) (e : List ℕ) → ArePrimitives F ns e found es.size bytes → IsFallOf root outer F e es.size bytes error)
 
--- the steps to what a part's error is of: the part, or an element of it
-abbrev pub error_steps : List Step → ReadError → List Step
-error_steps steps OutOfMemory = steps
-error_steps steps (Refused refusal) = steps
-error_steps steps (DescendsAt index) = steps ++ element_step index ∷ []
-
 -- the error of a part is a true reason why the JSON isn't read
 abbrev pub IsUnread : (List ℕ → Option Form) → List ℕ → Json → PartError → Type 0
 IsUnread F root j NoMemory = ⊤
@@ -135,7 +69,6 @@ IsOf refusal (RefusedPart path other) = other ≡ refusal
 abbrev pub IsOfRead : ReadError → PartError → Type 0
 IsOfRead OutOfMemory e = e ≡ NoMemory
 IsOfRead (Refused refusal) e = IsOf refusal e
-IsOfRead (DescendsAt index) e = IsOf Descends e
 
 -- ---- the steps from a place to the part of it that was begun last
 
@@ -208,10 +141,7 @@ module _ (F : List ℕ → Option Form) (ns : List Named) where
   IsWanted (Present at) i ws = IsOnlyPart at i ws
   IsWanted (Variant v at) i ws = IsOnlyPart at i ws
 
--- whether a place's parts are elements, fields, or entries
-abbrev pub IsListPlace : Parts → Type 0
-IsListPlace p = (at : ℕ) × (n : ℕ) × (p ≡ Elements at n)
-
+-- whether a place's parts are fields, or entries
 abbrev pub IsObject : Parts → Type 0
 IsObject (Object at fs) = ⊤
 IsObject parts = ⊥
@@ -326,26 +256,6 @@ IsLeft source name = ⊥
 abbrev pub AreInOrder : (List ℕ → Option Form) → List JsonPart → Type 0
 AreInOrder F ds = AllByRecursion (λ q. InOrder F q.0 q.1) ds
 
--- no part was begun of those that have to ascend
-abbrev pub IsUnbegun : Option Ascent → Type 0
-IsUnbegun None = ⊤
-IsUnbegun (Some a) = (a.earlier ≡ None) × (a.last ≡ None)
-
--- the next one begins at the offset
-abbrev pub BeginsAscending : Option Ascent → ℕ → Option Ascent → Type 0
-BeginsAscending None i new = new ≡ None
-BeginsAscending (Some a) i new = (b : Ascent) × (new ≡ Some b) × (b.order ≡ a.order) × (b.earlier ≡ a.last) × (b.last ≡ Some i)
-
--- of the last two of those that were begun, the second isn't above the first
-abbrev pub AscentFalls : Definitions → Option Ascent → List ℕ → Type 0
-AscentFalls d None bytes = ⊥
-AscentFalls d (Some a) bytes = (i : ℕ) × (a.earlier ≡ Some i) × ((k : List ℕ) → OrderedBy d k a.order → (j : ℕ) → a.last ≡ Some j → IsNotBelow d k (drop i bytes) (drop j bytes))
-
--- it is, if there are two
-abbrev pub AscentRises : Definitions → Option Ascent → List ℕ → Type 0
-AscentRises d None bytes = ⊤
-AscentRises d (Some a) bytes = (i j : ℕ) → a.earlier ≡ Some i → a.last ≡ Some j → (k : List ℕ) → OrderedBy d k a.order → IsNotBelow d k (drop i bytes) (drop j bytes) → ⊥
-
 module _ (F : List ℕ → Option Form) (ns : List Named) where
   -- the entries of a place
   abbrev pub AreEntriesOf : Parts → Source → Keys → List ℕ → List ℕ → List Entry → Type 0
@@ -399,11 +309,6 @@ module _ (F : List ℕ → Option Form) (ns : List Named) where
   IsNextEntry keys k v es kind s old new Missing = es ≡ []
   IsNextEntry keys k v es kind s old new End = ⊥
 
-  -- parts of x that have to ascend are elements, and ascend in the order of the keys; of a list whose elements need not, none falls
-  abbrev pub AscendIn : Option Ascent → Parts → List ℕ → Json → Type 0
-  AscendIn None p x i = IsListPlace p → (index : ℕ) → ItemsFall F x i index → ⊥
-  AscendIn (Some a) p x i = IsListPlace p × ((k : List ℕ) × KeysAscend F ns x k a.order)
-
   -- inside of so many places, a place whose parts are those of the JSON i of x: its own bytes, the parts that were begun, and the source of those that are left
   pub record IsDoing (p : Place) (s : Source) (d : ℕ) (x : List ℕ) (i : Json) (own : List ℕ) (ds : List JsonPart) : Type 0 where
     pub left : Left
@@ -411,12 +316,11 @@ module _ (F : List ℕ → Option Form) (ns : List Named) where
     pub kind : Kind
     pub says : SaysOn kind i own ds left
     pub is_place : IsPlaceIn d p x kind i ds
-    pub ascends : AscendIn p.ascent p.parts x i
 
   -- what was opened: the JSON of the name says these own bytes and no parts, or those of a frame
   abbrev pub IsFound : List ℕ → Json → List ℕ → Option Frame → Type 0
-  IsFound x j own None = SaysFirst F x j own [] × ((index : ℕ) → DigitsFall F x j index → ⊥)
-  IsFound x j own (Some f) = IsDoing f.place f.source 1 x j own [] × IsUnbegun f.place.ascent
+  IsFound x j own None = SaysFirst F x j own []
+  IsFound x j own (Some f) = IsDoing f.place f.source 1 x j own []
 
   -- the JSON of the name was read: its own bytes were added, or there are none
   abbrev pub IsOpened : List ℕ → Json → List ℕ → List ℕ → Result (Option Frame) ReadError → Type 0
@@ -424,17 +328,11 @@ module _ (F : List ℕ → Option Form) (ns : List Named) where
       (λ found. (own : List ℕ) × (new ≡ old ++ own) × IsFound x j own found)
       (λ e. FailsRead F x j e)
 
-  -- or its digits don't ascend
-  abbrev pub IsOpenedOrFalls : List ℕ → Json → List ℕ → List ℕ → Result (Option Frame) ReadError → Type 0
-  IsOpenedOrFalls x j old new result = MatchResult result
-      (λ found. (own : List ℕ) × (new ≡ old ++ own) × IsFound x j own found)
-      (λ e. ShowsOr (DigitsFall F x j) (Why F x j) e (FailsHere F x j))
-
   -- what comes next of a place: a part, behind the key if it is of an entry; a field that the object hasn't; or nothing
   abbrev pub IsNext : ℕ → List ℕ → Json → List ℕ → List JsonPart → Place → Source → List ℕ → List ℕ → Next → Type 0
   IsNext d x i own ds p s old new (Part at e) =
       (es : List JsonPart) × (key : List ℕ) × (y : List ℕ) × (k : Json)
-      × HaveBytes F es key × (new ≡ old ++ key) × IsAt ns at y × BeginsWith e k × IsDoing p s d x i own (ds ++ (es ++ (y, k) ∷ [])) × ((es ≡ []) ⊎ IsMapPlace p.parts) × AreInOrder F es
+      × HaveBytes F es key × (new ≡ old ++ key) × IsAt ns at y × BeginsWith e k × IsDoing p s d x i own (ds ++ (es ++ (y, k) ∷ []))
   IsNext d x i own ds p s old new Missing = (name : List ℕ) × LacksField F x i name × (0 < d) × (steps_at p ≡ field_step name ∷ [])
   IsNext d x i own ds p s old new End = (new ≡ old) × (NoneLeft s → SaysAll d x i own ds) × ((name : List ℕ) → IsLeft s name → HasOther F x i name)
 
@@ -468,20 +366,6 @@ abbrev pub SaysArray : (List ℕ → Option Form) → Json → Kind → Lengths 
 SaysArray F j kind l e = IsListKind kind × ((own : List ℕ) (ps : List JsonPart) → (IsArray l e j own ps → Says F kind j own ps) × (Says F kind j own ps → IsArray l e j own ps))
 
 -- ---- the reader's loop
-module _ (F : List ℕ → Option Form) (base : ℕ) (ds : List JsonPart) where
-  -- where parts that have to ascend begin is known: the first of them at the base
-  abbrev pub AreStarts : Option Ascent → Type 0
-  AreStarts None = ⊤
-  AreStarts (Some a) =
-      ((es : List JsonPart) (q : JsonPart) (mid : List ℕ) → ds ≡ es ++ q ∷ [] → HaveBytes F es mid → a.last ≡ Some (base + length mid))
-      × ((es : List JsonPart) (q r : JsonPart) (mid : List ℕ) → ds ≡ es ++ q ∷ r ∷ [] → HaveBytes F es mid → a.earlier ≡ Some (base + length mid))
-      × ((i : ℕ) → a.last ≡ Some i → 1 ≤ length ds)
-      × ((i : ℕ) → a.earlier ≡ Some i → 2 ≤ length ds)
-
-  -- of the elements of a list's place none falls but perhaps the last
-  abbrev pub AreRisen : Parts → List ℕ → Json → Type 0
-  AreRisen p x i = IsListPlace p → (index : ℕ) → suc index < length ds → ItemsFall F x i index → ⊥
-
 module _ (F : List ℕ → Option Form) (ns : List Named) (root : List ℕ) (j : Json) where
   -- the value of a place inside of so many is there, behind these bytes; the place inside of none is in front of the whole
   abbrev pub Stands : ℕ → List Step → List ℕ → List ℕ → Json → Type 0
@@ -495,9 +379,6 @@ module _ (F : List ℕ → Option Form) (ns : List Named) (root : List ℕ) (j :
     pub mid : List ℕ
     pub stands : Stands d path before x i
     pub doing : IsDoing F ns p s d x i own ds
-    pub starts : AreStarts F (length (before ++ own)) ds p.ascent
-    pub risen : AreRisen F (length (before ++ own)) ds p.parts x i
-    pub in_order : AreInOrder F ds
     pub done : HaveBytes F ds mid
     pub out_is : out ≡ before ++ (own ++ mid)
 
@@ -508,9 +389,6 @@ module _ (F : List ℕ → Option Form) (ns : List Named) (root : List ℕ) (j :
     pub mid : List ℕ
     pub stands : Stands d path before x i
     pub doing : IsDoing F ns p s d x i own (ds ++ (y, k) ∷ [])
-    pub starts : AreStarts F (length (before ++ own)) (ds ++ (y, k) ∷ []) p.ascent
-    pub risen : AreRisen F (length (before ++ own)) (ds ++ (y, k) ∷ []) p.parts x i
-    pub in_order : AreInOrder F ds
     pub done : HaveBytes F ds mid
     pub out_is : out ≡ before ++ (own ++ mid)
 
@@ -524,7 +402,6 @@ module _ (F : List ℕ → Option Form) (ns : List Named) (root : List ℕ) (j :
     pub out_is : out ≡ before ++ (own ++ mid)
     pub at_root : d ≡ 0 → steps_at p ≡ []
     pub all : NoneLeft s → SaysAll F ns d x i own ds
-    pub in_order : NoneLeft s → InOrder F x i
     pub others : (name : List ℕ) → IsLeft s name → HasOther F x i name
 
   -- from a place on, which is inside of so many: the last part of each, that was begun, is the value of the next one; R holds of the innermost
@@ -551,10 +428,10 @@ HasBegun d root j r at e = Holds d root j r (λ n path before x i. (y : List ℕ
 abbrev pub HasEnded : Definitions → List ℕ → Json → Reading → Type 0
 HasEnded d root j r = Holds d root j r (IsEnded (forms_of d) (names_of d) root j r.position.place r.source r.out.items)
 
--- more is to be read; or all was, and the root's JSON says these bytes, in order
+-- more is to be read; or all was, and the root's JSON says these bytes
 abbrev pub IsReadOn : Definitions → List ℕ → Json → Reading → Bool → Type 0
 IsReadOn d root j r true = HasRead d root j r
-IsReadOn d root j r false = HaveBytes (forms_of d) ((root, j) ∷ []) r.out.items × InOrder (forms_of d) root j
+IsReadOn d root j r false = HaveBytes (forms_of d) ((root, j) ∷ []) r.out.items
 
 -- a step of a reader of these definitions, after which it is so
 abbrev pub ReadsOn : Definitions → List ℕ → Json → Reading → Result Bool PartError → Type 0
@@ -563,7 +440,3 @@ ReadsOn d root j r result = MatchResult result (λ more. IsReadOn d root j r mor
 -- a list of bytes was added, and its length in front; or the length is out of range
 abbrev pub AddsList : {A : Type 0} → Lengths → List ℕ → List ℕ → List ℕ → Result A ReadError → Type 0
 AddsList l bs old new result = MatchResult result (λ _. (own : List ℕ) × (new ≡ old ++ own) × IsPrefixed l (length bs) bs own) (λ e. DeniesRead IsUnexpected e ((own : List ℕ) × IsPrefixed l (length bs) bs own))
-
--- or they don't ascend
-abbrev pub AddsOrFalls : {A : Type 0} → FoundElements → Lengths → List ℕ → List ℕ → List ℕ → Result A ReadError → Type 0
-AddsOrFalls es l bs old new result = MatchResult result (λ _. (own : List ℕ) × (new ≡ old ++ own) × IsPrefixed l (length bs) bs own) (λ e. DeniesOr (ElementsFall es bs) IsUnexpected e ((own : List ℕ) × IsPrefixed l (length bs) bs own))

@@ -2,12 +2,7 @@
 use Rattle.std.specs.Prelude.{◌≡◌, ◌⊎◌, ℕ, suc, ◌≤◌, ◌+◌, ◌*◌, List, [], ◌∷◌, ◌++◌, length, codes, Option, Some, slice_get}
 use Rattle.json.specs.Json.{Json, array, object, Items, Members, no_members, member, document}
 use Rattle.borsh_walks.specs.Container.{Member}
-use Rattle.borsh_json.specs.Descents.{HasKeys}
-use Rattle.borsh_json.specs.Forms.{Form, shapes}
-use Rattle.borsh_json.specs.Found.{IsSet}
-use Rattle.borsh_json.specs.Ordered.{a_value, IsAtLeast}
-use Rattle.borsh_json.specs.Represents.{HaveBytes}
-use Rattle.borsh_json.specs.Table.{Lengths, Kind, byte_list, list, row, inner, fields, optional, variants, entries, HasKind, Part, list_parts, field_parts, IsHex, Says}
+use Rattle.borsh_json.specs.{Descents.{HasKeys}, Forms.{Form, shapes}, Found.{IsSet}, Ordered.{a_value, IsAtLeast}, Represents.{HaveBytes}, Table.{Lengths, Kind, byte_list, list, row, inner, fields, optional, variants, entries, HasKind, Part, list_parts, field_parts, IsHex, Says}}
 
 -- ---- the parts of JSON, by their paths
 
@@ -80,6 +75,10 @@ module _ (F : List ℕ → Option Form) where
   -- JSON of the name, in which no path leads to a set or map of which an element falls; the keys of objects ascend by the table
   abbrev pub InOrder : List ℕ → Json → Type 0
   InOrder = IsEach (λ x i. (index : ℕ) → Falls x i index → ⊥)
+
+  -- so is all JSON of the root that says bytes
+  abbrev pub NeedsNoCheck : List ℕ → Type 0
+  NeedsNoCheck root = (j : Json) (bytes : List ℕ) → HaveBytes F ((root, j) ∷ []) bytes → InOrder root j
 
   -- the text is JSON that says the bytes, these are a member of the root, and what has to ascend does
   abbrev pub TextRepresents : List ℕ → List ℕ → List ℕ → Type 0

@@ -1,10 +1,7 @@
 -- Where in a value another one begins, and the path to it.
 use Rattle.std.specs.Prelude.{◌≡◌, ℕ, suc, ℤ, List, [], ◌∷◌, ◌++◌, length, Option, Some, slice_get}
 use Rattle.borsh_walks.specs.Container.{tag}
-use Rattle.borsh_json.specs.Forms.{Form, primitive, sequence, tuple, choice, named, unnamed, no_fields}
-use Rattle.borsh_json.specs.InOrder.{Step, field, place, element, variant}
-use Rattle.borsh_json.specs.Only.{IsOpened, AreOnly}
-use Rattle.borsh_json.specs.Table.{IsVariant}
+use Rattle.borsh_json.specs.{Forms.{Form, primitive, sequence, tuple, choice, named, unnamed, no_fields}, InOrder.{Step, field, place, element, variant}, Only.{IsOpened, AreOnly}, Table.{IsVariant}}
 
 -- these steps lead from a value with this definition and own bytes to the part that so many are in front of
 abbrev pub LeadTo : Form → List ℕ → ℕ → List Step → Type 0

@@ -1,8 +1,7 @@
 -- Whole numbers that bytes encode.
 use Rattle.std.specs.Prelude.{◌≡◌, ℕ, ℤ, pos, negsuc, List, Bool, true, false}
 use Rattle.borsh_walks.specs.Container.{tag}
-use Rattle.borsh_json.specs.Table.{InRange}
-use Rattle.borsh_json.specs.declared.integers.Integer.{Integer}
+use Rattle.borsh_json.specs.{Table.{InRange}, declared.integers.Integer.{Integer}}
 
 -- a negative number by one less than its absolute value, or another one
 abbrev pub signed_as : Bool → ℕ → ℤ

@@ -1,33 +1,10 @@
 -- What is written of a value without places of its own.
-use Rattle.std.specs.Prelude.{◌≡◌, ⊤, ℕ, ◌<◌, ◌≤◌, List, [], ◌∷◌, ◌++◌, length, Bool, Decides, Option, Some, Result, MatchResult}
-use Rattle.std.specs.List.{AllByRecursion}
-use Rattle.std.specs.declared.cmp.Ordering.TheVariants.{Less}
-use Rattle.json.specs.Token.{Token}
-use Rattle.json.specs.Token as token
-use Rattle.json.specs.Json.{Json, string}
-use Rattle.json.specs.Tree.{json_tokens, depth, HasNumbers}
+use Rattle.std.specs.{Prelude.{◌≡◌, ⊤, ℕ, ◌<◌, ◌≤◌, List, [], ◌∷◌, ◌++◌, length, Bool, Decides, Option, Some, Result, MatchResult}, List.{AllByRecursion}, declared.cmp.Ordering.TheVariants.{Less}}
+use Rattle.json.specs.{Token.{Token}, Token as token, Json.{Json, string}, Tree.{json_tokens, depth, HasNumbers}}
 use Rattle.borsh_walks.specs.declared.definition.Definition.{Definition}
-use Rattle.borsh_values.specs.Nodes.{Opens}
-use Rattle.borsh_values.specs.Walks.{IsCounted}
+use Rattle.borsh_values.specs.{Nodes.{Opens}, Walks.{IsCounted}}
 use Rattle.borsh_plan.specs.declared.named.Named.{Named}
-use Rattle.borsh_json.specs.declared.kinds.Kind.{Kind as Found}
-use Rattle.borsh_json.specs.declared.kinds.KeyKind.{KeyKind}
-use Rattle.borsh_json.specs.declared.error.WriteError.{WriteError}
-use Rattle.borsh_json.specs.declared.error.WriteError.TheVariants.{OutOfMemory, Refused, Element}
-use Rattle.borsh_json.specs.declared.output.Output.{Output}
-use Rattle.borsh_json.specs.declared.output.LongNumbers.{LongNumbers}
-use Rattle.borsh_json.specs.declared.output.LongNumbers.TheVariants.{Plain, Quoted}
-use Rattle.borsh_json.specs.declared.output.Output.TheVariants.{Compact, Pretty, Nothing}
-use Rattle.borsh_json.specs.declared.sources.EntryKey.{EntryKey}
-use Rattle.borsh_json.specs.Forms.{Form, form_of, shape_of_form, shapes}
-use Rattle.borsh_json.specs.Found.{IsPrimitiveKind}
-use Rattle.borsh_json.specs.Frames.{IsEntryKey}
-use Rattle.borsh_json.specs.NoJson.{RefusesOwn, RefusesElement}
-use Rattle.borsh_json.specs.Places.{AreKeysOf, IsKindOf}
-use Rattle.borsh_json.specs.InOrder.{IsEach}
-use Rattle.borsh_json.specs.Printed.{QuotesLong}
-use Rattle.borsh_json.specs.Represents.{SaysFirst, HaveBytes}
-use Rattle.borsh_json.specs.Table.{Keys, Kind, Part, HasKind, IsHex, key_json, key_order, truth, whole, float, float_size, raw}
+use Rattle.borsh_json.specs.{declared.kinds.Kind.{Kind as Found}, declared.kinds.KeyKind.{KeyKind}, declared.error.WriteError.{WriteError}, declared.error.WriteError.TheVariants.{OutOfMemory, Refused, Element}, declared.output.Output.{Output}, declared.output.LongNumbers.{LongNumbers}, declared.output.LongNumbers.TheVariants.{Plain, Quoted}, declared.output.Output.TheVariants.{Compact, Pretty, Nothing}, declared.sources.EntryKey.{EntryKey}, Forms.{Form, form_of, shape_of_form, shapes}, Found.{IsPrimitiveKind}, Frames.{IsEntryKey}, NoJson.{RefusesOwn, RefusesElement}, Places.{AreKeysOf, IsKindOf}, InOrder.{IsEach}, Printed.{QuotesLong}, Represents.{SaysFirst, HaveBytes}, Table.{Keys, Kind, Part, HasKind, IsHex, key_json, key_order, truth, whole, float, float_size, raw}}
 
 -- ---- tokens
 

@@ -2,14 +2,7 @@
 use Rattle.std.specs.Prelude.{◌≡◌, ◌⊎◌, ℕ, List, [], ◌∷◌, ◌++◌, map, All, if◌then◌else◌, codes, Option, Some}
 use Rattle.json.specs.Json.{Members, no_members, member, string, object, document}
 use Rattle.borsh_plan.specs.declared.named.Named.{Named}
-use Rattle.borsh_json.specs.declared.kinds.Elements.{Elements}
-use Rattle.borsh_json.specs.declared.kinds.Kind.{Kind as Found}
-use Rattle.borsh_json.specs.Descents.{HasKeys}
-use Rattle.borsh_json.specs.Forms.{Form}
-use Rattle.borsh_json.specs.Ordered.{other, HasOrder}
-use Rattle.borsh_json.specs.Orders.{HasKeyOrder, KindHasOrder, KindTellsOrder, TellsNoOrder}
-use Rattle.borsh_json.specs.Places.{IsKindOf, IsListOf, IsUnsayable}
-use Rattle.borsh_json.specs.Table.{Kind, no_bytes, truth, whole, float, raw, utf8, byte_list, list, row, inner, fields, optional, variants, entries, HasKind}
+use Rattle.borsh_json.specs.{declared.kinds.Elements.{Elements}, declared.kinds.Kind.{Kind as Found}, Descents.{HasKeys}, Forms.{Form}, Ordered.{other, HasOrder}, Orders.{HasKeyOrder, KindHasOrder, KindTellsOrder, TellsNoOrder}, Places.{IsKindOf, IsListOf, IsUnsayable}, Table.{Kind, no_bytes, truth, whole, float, raw, utf8, byte_list, list, row, inner, fields, optional, variants, entries, HasKind}}
 
 module _ (F : List ℕ → Option Form) where
   -- x is a set or map, of whose keys an order is told

@@ -1,18 +1,7 @@
 -- Why a member has no JSON: what a refusal of `to_json` says.
-use Rattle.std.specs.Prelude.{◌≡◌, ◌⊎◌, ⊤, ℕ, suc, ◌+◌, ◌*◌, ◌≤◌, List, [], ◌∷◌, ◌++◌, length, Bool, true, Option, string_bytes}
-use Rattle.std.specs.Float.{Format}
+use Rattle.std.specs.{Prelude.{◌≡◌, ◌⊎◌, ⊤, ℕ, suc, ◌+◌, ◌*◌, ◌≤◌, List, [], ◌∷◌, ◌++◌, length, Bool, true, Option, string_bytes}, Float.{Format}}
 use Rattle.json.specs.Json.{Json}
-use Rattle.borsh_json.specs.declared.error.JsonError.{JsonError}
-use Rattle.borsh_json.specs.declared.error.JsonError.TheVariants.{OutOfMemory, NoMember, NoValue, Ambiguous, NotJson, Refused}
-use Rattle.borsh_json.specs.declared.error.Refusal.{Refusal}
-use Rattle.borsh_json.specs.declared.error.Refusal.TheVariants.{TooDeep, RepeatedName, EmptyElements, NotBool, NotUtf8, Zero, NotNumber, Descends}
-use Rattle.borsh_json.specs.Descents.{HasDescent}
-use Rattle.borsh_json.specs.Forms.{Form}
-use Rattle.borsh_json.specs.InOrder.{Step, element}
-use Rattle.borsh_json.specs.Inside.{IsInside}
-use Rattle.borsh_json.specs.NoValue.{path_steps}
-use Rattle.borsh_json.specs.Represents.{HaveBytes}
-use Rattle.borsh_json.specs.Table.{Lengths, truth, whole, float, utf8, list, HasKind, HasEmptyElements, RepeatsName, Part}
+use Rattle.borsh_json.specs.{declared.error.JsonError.{JsonError}, declared.error.JsonError.TheVariants.{OutOfMemory, NoMember, NoValue, Ambiguous, NotJson, Refused}, declared.error.Refusal.{Refusal}, declared.error.Refusal.TheVariants.{TooDeep, RepeatedName, EmptyElements, NotBool, NotUtf8, Zero, NotNumber, Descends}, Descents.{HasDescent}, Forms.{Form}, InOrder.{Step, element}, Inside.{IsInside}, NoValue.{path_steps}, Represents.{HaveBytes}, Table.{Lengths, truth, whole, float, utf8, list, HasKind, HasEmptyElements, RepeatsName, Part}}
 
 module _ (F : List ℕ → Option Form) where
   -- no JSON says a value of the name whose bytes begin so, whatever parts and bytes follow

@@ -1,21 +1,9 @@
 -- Why a text says no value, or says one that isn't read: what an error of `from_json` says.
-use Rattle.std.specs.Prelude.{◌≡◌, ◌⊎◌, ⊤, ℕ, ℤ, ◌≤◌, List, [], ◌∷◌, ◌++◌, map, string_bytes, true, false, Option, Some, None, IsSome, slice_get}
-use Rattle.std.specs.List.{list_any}
-use Rattle.std.specs.Str.{bytes_eq}
-use Rattle.json.specs.Json.{Json, string, object, Members, no_members, member, document}
-use Rattle.json.specs.Find.{get_member}
+use Rattle.std.specs.{Prelude.{◌≡◌, ◌⊎◌, ⊤, ℕ, ℤ, ◌≤◌, List, [], ◌∷◌, ◌++◌, map, string_bytes, true, false, Option, Some, None, IsSome, slice_get}, List.{list_any}, Str.{bytes_eq}}
+use Rattle.json.specs.{Json.{Json, string, object, Members, no_members, member, document}, Find.{get_member}}
 use Rattle.borsh_walks.specs.Container.{Member}
-use Rattle.borsh_values.specs.declared.faults.Path.{Path}
-use Rattle.borsh_values.specs.declared.faults.PathStep.{PathStep}
-use Rattle.borsh_values.specs.declared.faults.PathStep.TheVariants.{Field, Place, Element, Variant}
-use Rattle.borsh_json.specs.declared.error.JsonError.{JsonError}
-use Rattle.borsh_json.specs.declared.error.JsonError.TheVariants.{OutOfMemory, NoMember, NoValue, Ambiguous, NotJson, Refused}
-use Rattle.borsh_json.specs.declared.error.Refusal.{Refusal}
-use Rattle.borsh_json.specs.declared.error.Refusal.TheVariants.{TooDeep, RepeatedName, EmptyElements, Descends, Expected, MissingField, UnknownName, RepeatedKey, Undefined}
-use Rattle.borsh_json.specs.Forms.{Form, shapes}
-use Rattle.borsh_json.specs.InOrder.{Step, field, place, element, variant, IsReached, Falls}
-use Rattle.borsh_json.specs.Represents.{HaveBytes, SaysFirst, SaysSome}
-use Rattle.borsh_json.specs.Table.{Lengths, Keys, fields, variants, entries, HasKind, HasEmptyElements, RepeatsName, Part, Entry, entries_of, key_json, IsVariant}
+use Rattle.borsh_values.specs.{Membership.{IsUndecided}, declared.faults.Path.{Path}, declared.faults.PathStep.{PathStep}, declared.faults.PathStep.TheVariants.{Field, Place, Element, Variant}}
+use Rattle.borsh_json.specs.{declared.error.JsonError.{JsonError}, declared.error.JsonError.TheVariants.{OutOfMemory, NoMember, NoValue, Ambiguous, NotJson, Refused}, declared.error.Refusal.{Refusal}, declared.error.Refusal.TheVariants.{TooDeep, RepeatedName, EmptyElements, Descends, Expected, MissingField, UnknownName, RepeatedKey, Undefined}, Forms.{Form, shapes}, InOrder.{Step, field, place, element, variant, IsReached, Falls}, Represents.{HaveBytes, SaysFirst, SaysSome}, Table.{Lengths, Keys, fields, variants, entries, HasKind, HasEmptyElements, RepeatsName, Part, Entry, entries_of, key_json, IsVariant}}
 
 -- ---- the path of a refusal
 
@@ -90,6 +78,13 @@ module _ (F : List ℕ → Option Form) (root : List ℕ) where
     SaysNothing TooDeep = ⊤
     SaysNothing Descends = ⊤
     SaysNothing refusal = SaysSome F root j → ⊥
+
+  -- the error of a check of bytes that the JSON says: an element falls that the path leads to, or a definition is ambiguous
+  abbrev pub ShowsFall : Json → JsonError → Type 0
+  ShowsFall j OutOfMemory = ⊤
+  ShowsFall j (Ambiguous x) = IsUndecided (shapes F) root x.now
+  ShowsFall j (Refused path refusal) = (refusal ≡ Descends) × (path.root.now ≡ root) × FailsAt j (path_steps path) Descends
+  ShowsFall j e = ⊥
 
   -- the error of a call is a true reason why the text has no answer: it isn't JSON; or it is, and says bytes that are no member of the root, or a part of it fails
   abbrev pub ShowsNoValue : List ℕ → JsonError → Type 0

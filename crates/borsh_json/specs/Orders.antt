@@ -1,32 +1,8 @@
 -- What the code finds of the orders of names, and what is still to be compared.
-use Rattle.std.specs.Prelude.{◌≡◌, ◌⊎◌, ⊤, ℕ, ◌*◌, ◌<◌, ◌≤◌, ◌^◌, ℤ, pos, All, Bool, Decides, MatchBool, List, [], ◌∷◌, ◌++◌, length, map, drop, replicate, reverse, Option, None, Some, Result, IfOk, IfSome, slice_get, MatchOption}
-use Rattle.std.specs.Borrow.{Bor}
-use Rattle.std.specs.Cmp.Lexicographic.{slice_cmp}
-use Rattle.std.specs.Ordering.{MatchOrdering, int_cmp, nat_cmp}
-use Rattle.std.specs.declared.cmp.Ordering.{Ordering}
-use Rattle.std.specs.declared.cmp.Ordering.TheVariants.{Less}
-use Rattle.borsh_walks.specs.Container.{Shape, references, tag}
-use Rattle.borsh_walks.specs.declared.definition.Definition.{Definition}
+use Rattle.std.specs.{Prelude.{◌≡◌, ◌⊎◌, ⊤, ℕ, ◌*◌, ◌<◌, ◌≤◌, ◌^◌, ℤ, pos, All, Bool, false, Decides, MatchBool, List, [], ◌∷◌, ◌++◌, length, map, drop, replicate, reverse, Option, None, Some, Result, IfOk, IfSome, slice_get, MatchOption}, Borrow.{Bor}, Cmp.Lexicographic.{slice_cmp}, Ordering.{MatchOrdering, int_cmp, nat_cmp}, declared.cmp.Ordering.{Ordering}, declared.cmp.Ordering.TheVariants.{Less}}
+use Rattle.borsh_walks.specs.{Container.{Shape, references, tag}, declared.definition.Definition.{Definition}}
 use Rattle.borsh_plan.specs.declared.named.Named.{Named}
-use Rattle.borsh_json.specs.declared.definitions.Definitions.{Definitions}
-use Rattle.borsh_json.specs.declared.formats.Collection.{Collection}
-use Rattle.borsh_json.specs.declared.kinds.KeyKind.{KeyKind}
-use Rattle.borsh_json.specs.declared.kinds.Kind.{Kind}
-use Rattle.borsh_json.specs.declared.kinds.Kind.TheVariants.{ByteList, Numbers, List as ListKind, Map}
-use Rattle.borsh_json.specs.declared.order.Ascent.{Ascent}
-use Rattle.borsh_json.specs.declared.order.Next.{Next}
-use Rattle.borsh_json.specs.declared.order.Next.TheVariants.{Value, Decided}
-use Rattle.borsh_json.specs.declared.order.Ordered.{Ordered}
-use Rattle.borsh_json.specs.declared.order.Ordered.TheVariants.{Single, Number, Text, Array, List as Counted, Tuple, Other}
-use Rattle.borsh_json.specs.declared.order.Pair.{Pair}
-use Rattle.borsh_json.specs.declared.order.Pending.{Pending}
-use Rattle.borsh_json.specs.declared.order.Pending.TheVariants.{Elements as TwoLists, Parts, Copies, PartCopies}
-use Rattle.borsh_json.specs.Forms.{Form, sequence, tuple, primitive, shape_of_form, HasNoBytes}
-use Rattle.borsh_json.specs.Descents.{HasKeys}
-use Rattle.borsh_json.specs.Found.{HasForm, IsCollection, IsNamed, forms_of, names_of}
-use Rattle.borsh_json.specs.Ordered.{Order, single, numbers, text, array, list, parts, other, OrdersBytes, HasOrder, IsNode, Compared, a_value, a_copy, elements, IsAtLeast}
-use Rattle.borsh_json.specs.Places.{AreKeysOf, IsAt, IsKindAt}
-use Rattle.borsh_json.specs.Table.{AreKeys, InRange, Keys}
+use Rattle.borsh_json.specs.{declared.definitions.Definitions.{Definitions}, declared.formats.Collection.{Collection}, declared.kinds.KeyKind.{KeyKind}, declared.kinds.Kind.{Kind}, declared.kinds.Kind.TheVariants.{ByteList, Numbers, List as ListKind, Map}, declared.order.Ascent.{Ascent}, declared.order.Next.{Next}, declared.order.Next.TheVariants.{Value, Decided}, declared.order.Ordered.{Ordered}, declared.order.Ordered.TheVariants.{Single, Number, Text, Array, List as Counted, Tuple, Other}, declared.order.Pair.{Pair}, declared.order.Pending.{Pending}, declared.order.Pending.TheVariants.{Elements as TwoLists, Parts, Copies, PartCopies}, Forms.{Form, sequence, tuple, primitive, shape_of_form, HasNoBytes}, Descents.{HasKeys}, Found.{HasForm, IsCollection, IsNamed, forms_of, names_of}, Ordered.{Order, single, numbers, text, array, list, parts, other, OrdersBytes, HasOrder, IsNode, Compared, a_value, a_copy, elements, IsAtLeast}, Places.{AreKeysOf, IsAt, IsKindAt}, Table.{AreKeys, InRange, Keys}}
 
 module _ (F : List ℕ → Option Form) (ns : List Named) where
   -- what was found of the name is its order
@@ -108,6 +84,17 @@ module _ (F : List ℕ → Option Form) where
   KindTellsOrder x (ListKind es) = TellsNoOrder x es.order
   KindTellsOrder x kind = ⊤
 
+-- a list of this kind need not ascend
+abbrev pub NeedNotAscend : Kind → Type 0
+NeedNotAscend (ByteList es) = es.order ≡ None
+NeedNotAscend (Numbers es) = es.order ≡ None
+NeedNotAscend (ListKind es) = es.order ≡ None
+NeedNotAscend kind = ⊤
+
+-- nor one of these
+abbrev pub NoneAscends : List (Option (Bor Definition × Kind)) → Type 0
+NoneAscends kinds = (i : ℕ) (found : Option (Bor Definition × Kind)) → slice_get kinds i ≡ Some found → IfSome found (λ r. NeedNotAscend r.1)
+
 -- the values of the definitions' name are ordered so
 abbrev pub OrderedBy : Definitions → List ℕ → Ordered → Type 0
 OrderedBy d x found = FindsOrder (forms_of d) (names_of d) x found
@@ -124,11 +111,12 @@ AreFoundKinds F ns kinds = (i : ℕ) (found : Option (Bor Definition × Kind)) �
 abbrev pub AreOrders : (List ℕ → Option Form) → List Named → List Ordered → Type 0
 AreOrders F ns orders = (i : ℕ) (x : List ℕ) (found : Ordered) → slice_get orders i ≡ Some found → IsAt ns i x → FindsOrder F ns x found
 
--- the kinds are those of all names, and they and the orders are right
-pub record HasKinds (d : Definitions) (kinds : List (Option (Bor Definition × Kind))) (orders : List Ordered) : Type 0 where
+-- the kinds are those of all names, they and the orders are right, and a list has to ascend or none has
+pub record HasKinds (d : Definitions) (kinds : List (Option (Bor Definition × Kind))) (orders : List Ordered) (ascends : Bool) : Type 0 where
   pub whole : length kinds ≡ length (names_of d)
   pub right : AreFoundKinds (forms_of d) (names_of d) kinds
   pub ordered : AreOrders (forms_of d) (names_of d) orders
+  pub free : ascends ≡ false → NoneAscends kinds
 
 -- two byte strings begin with values of the name, the first of which isn't below the second, as far as their order is told
 abbrev pub IsNotBelow : Definitions → List ℕ → List ℕ → List ℕ → Type 0

@@ -1,26 +1,10 @@
 -- Names by their places in a plan, and the kinds that the code finds of them.
-use Rattle.std.specs.Prelude.{◌≡◌, ℕ, ◌<◌, List, map, length, Option, Some, None, MatchOption, String, string_bytes}
-use Rattle.std.specs.Global.{Global}
-use Rattle.std.specs.Borrow.{Bor}
-use Rattle.std.specs.Float.{Format}
-use Rattle.std.specs.Str.{bytes_eq}
-use Rattle.std.specs.List.{IsDistinct}
+use Rattle.std.specs.{Prelude.{◌≡◌, ℕ, ◌<◌, List, map, length, Option, Some, None, MatchOption, String, string_bytes}, Global.{Global}, Borrow.{Bor}, Float.{Format}, Str.{bytes_eq}, List.{IsDistinct}}
 use Rattle.json.specs.Json.{Json}
-use Rattle.borsh_walks.specs.Container.{references}
-use Rattle.borsh_walks.specs.declared.definition.Definition.{Definition}
-use Rattle.borsh_plan.specs.declared.named.Named.{Named}
-use Rattle.borsh_plan.specs.Names.{name_of}
+use Rattle.borsh_walks.specs.{Container.{references}, declared.definition.Definition.{Definition}}
+use Rattle.borsh_plan.specs.{declared.named.Named.{Named}, Names.{name_of}}
 use Rattle.borsh_values.specs.Nodes.{packed_size}
-use Rattle.borsh_json.specs.declared.error.Refusal.{Refusal}
-use Rattle.borsh_json.specs.declared.error.Refusal.TheVariants.{RepeatedName as NameTwice, EmptyElements as NoElements}
-use Rattle.borsh_json.specs.declared.kinds.Flaw.{Flaw}
-use Rattle.borsh_json.specs.declared.kinds.Flaw.TheVariants.{RepeatedName, EmptyElements}
-use Rattle.borsh_json.specs.declared.kinds.Kind.{Kind as Found}
-use Rattle.borsh_json.specs.declared.kinds.Kind.TheVariants.{Number, Bool as Truth, Text, Bytes, Float, ByteList, Numbers, List as Elements, Map, Row, Newtype, Object, Optional, Choice, Refused}
-use Rattle.borsh_json.specs.declared.kinds.KeyKind.{KeyKind}
-use Rattle.borsh_json.specs.declared.kinds.KeyKind.TheVariants.{Text as TextKeys, Number as NumberKeys}
-use Rattle.borsh_json.specs.Forms.{Form, primitive, sequence, form_of, shape_of_form, shapes, HasNoBytes, field_bytes, variant_bytes}
-use Rattle.borsh_json.specs.Table.{Lengths, Keys, texts, numbers, Kind, truth, whole, float, float_size, raw, utf8, byte_list, list, row, inner, fields, optional, variants, entries, HasKind, HasEmptyElements, RepeatsName, Part, Says}
+use Rattle.borsh_json.specs.{declared.error.Refusal.{Refusal}, declared.error.Refusal.TheVariants.{RepeatedName as NameTwice, EmptyElements as NoElements}, declared.kinds.Flaw.{Flaw}, declared.kinds.Flaw.TheVariants.{RepeatedName, EmptyElements}, declared.kinds.Kind.{Kind as Found}, declared.kinds.Kind.TheVariants.{Number, Bool as Truth, Text, Bytes, Float, ByteList, Numbers, List as Elements, Map, Row, Newtype, Object, Optional, Choice, Refused}, declared.kinds.KeyKind.{KeyKind}, declared.kinds.KeyKind.TheVariants.{Text as TextKeys, Number as NumberKeys}, Forms.{Form, primitive, sequence, form_of, shape_of_form, shapes, HasNoBytes, field_bytes, variant_bytes}, Table.{Lengths, Keys, texts, numbers, Kind, truth, whole, float, float_size, raw, utf8, byte_list, list, row, inner, fields, optional, variants, entries, HasKind, HasEmptyElements, RepeatsName, Part, Says}}
 
 -- the name at the place is x
 abbrev pub IsAt : List Named → ℕ → List ℕ → Type 0

@@ -1,19 +1,7 @@
 -- The text of JSON: how it is laid out, and which of its values are numbers.
-use Rattle.std.specs.Prelude.{◌≡◌, ◌⊎◌, ℕ, List, Bool, true, false, Option, Some}
-use Rattle.std.specs.Float.{Format}
-use Rattle.std.specs.List.{Contains}
-use Rattle.json.specs.Json.{Json, document, number, string}
-use Rattle.json.specs.Layout.{pretty}
-use Rattle.json.specs.Lex.{tokens}
-use Rattle.json.specs.Print.{print}
-use Rattle.json.specs.Token.{Token}
-use Rattle.borsh_json.specs.declared.output.Layout.{Layout}
-use Rattle.borsh_json.specs.declared.output.Layout.TheVariants.{Compact, Pretty}
-use Rattle.borsh_json.specs.declared.output.LongNumbers.{LongNumbers}
-use Rattle.borsh_json.specs.declared.output.LongNumbers.TheVariants.{Plain, Quoted}
-use Rattle.borsh_json.specs.Forms.{Form}
-use Rattle.borsh_json.specs.InOrder.{IsEach}
-use Rattle.borsh_json.specs.Table.{HasKind, float, whole}
+use Rattle.std.specs.{Prelude.{◌≡◌, ◌⊎◌, ℕ, List, Bool, true, false, Option, Some}, Float.{Format}, List.{Contains}}
+use Rattle.json.specs.{Json.{Json, document, number, string}, Layout.{pretty}, Lex.{tokens}, Print.{print}, Token.{Token}}
+use Rattle.borsh_json.specs.{declared.output.Layout.{Layout}, declared.output.Layout.TheVariants.{Compact, Pretty}, declared.output.LongNumbers.{LongNumbers}, declared.output.LongNumbers.TheVariants.{Plain, Quoted}, Forms.{Form}, InOrder.{IsEach}, Table.{HasKind, float, whole}}
 
 -- on one line, or in several
 abbrev pub layout_if : Bool → Layout

@@ -1,8 +1,6 @@
 -- Whole numbers as text, and numbers that order them.
-use Rattle.std.specs.Prelude.{◌≡◌, ◌⊎◌, ℕ, suc, ℤ, pos, negsuc, ◌+◌, ◌-◌, ◌^◌, ◌<◌, ◌≤◌, List, length, slice_index, Bool, true, false, Option, Some, None}
-use Rattle.std.specs.Fmt.{signed_decimal}
-use Rattle.borsh_json.specs.Table.{Kind, whole, raw, InRange}
-use Rattle.borsh_json.specs.declared.numbers.Number.{Number}
+use Rattle.std.specs.{Prelude.{◌≡◌, ◌⊎◌, ℕ, suc, ℤ, pos, negsuc, ◌+◌, ◌-◌, ◌^◌, ◌<◌, ◌≤◌, List, length, slice_index, Bool, true, false, Option, Some, None}, Fmt.{signed_decimal}}
+use Rattle.borsh_json.specs.{Table.{Kind, whole, raw, InRange}, declared.numbers.Number.{Number}}
 
 -- the kind of a primitive of n bytes, by the number that was found of it
 abbrev pub number_found : ℕ → Option Number → Kind

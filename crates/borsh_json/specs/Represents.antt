@@ -2,8 +2,7 @@
 use Rattle.std.specs.Prelude.{◌≡◌, ℕ, List, [], ◌∷◌, ◌++◌, Option, Some}
 use Rattle.json.specs.Json.{Json, document}
 use Rattle.borsh_walks.specs.Container.{Member}
-use Rattle.borsh_json.specs.Forms.{Form, shapes}
-use Rattle.borsh_json.specs.Table.{Kind, HasKind, Part, Says}
+use Rattle.borsh_json.specs.{Forms.{Form, shapes}, Table.{Kind, HasKind, Part, Says}}
 
 module _ (F : List ℕ → Option Form) where
   -- JSON of the name says these bytes, and then those of its parts

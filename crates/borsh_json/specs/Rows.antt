@@ -1,24 +1,10 @@
 -- The rows of a value, and what each says of its bytes.
-use Rattle.std.specs.Prelude.{◌≡◌, ◌⊎◌, ⊤, ℕ, ℤ, ◌+◌, ◌==◌, List, [], ◌∷◌, ◌++◌, length, map, take, drop, false, codes, if◌then◌else◌, Option, Some, MatchOption, slice_get, IsUtf8}
-use Rattle.std.specs.Borrow.{Bor}
-use Rattle.std.specs.BTreeMap.{get_by_text}
-use Rattle.std.specs.Fmt.{decimal}
-use Rattle.borsh_walks.specs.Container.{IsZeroSize, Member, sequence as counted_sequence}
-use Rattle.borsh_walks.specs.declared.definition.Definition.{Definition}
-use Rattle.borsh_walks.specs.Definitions.{shape_of}
-use Rattle.borsh_plan.specs.Plan.{definitions_of, map_of, root_of}
-use Rattle.borsh_values.specs.Nodes.{IsCountOf, Opens}
-use Rattle.borsh_values.specs.Preorder.{bytes_left, names_left, plan_of, next_offset}
-use Rattle.borsh_values.specs.Tags.{IsVariantIndex}
-use Rattle.borsh_plan.specs.declared.plan.Plan.{Plan}
-use Rattle.borsh_values.specs.declared.nodes.Node.{Node}
-use Rattle.borsh_json.specs.declared.error.JsonError.{JsonError}
-use Rattle.borsh_json.specs.declared.rows.Rows.{Rows}
-use Rattle.borsh_json.specs.Errors.{IsNoRowsReason}
-use Rattle.borsh_json.specs.Floats.{IsFloatText, IsNan}
-use Rattle.borsh_json.specs.Forms.{Form, primitive, sequence, choice, IsByte}
-use Rattle.borsh_json.specs.Places.{lengths_of}
-use Rattle.borsh_json.specs.Table.{any_length, Kind, no_bytes, truth, whole, float, raw, utf8, byte_list, list, row, inner, fields, optional, variants, entries, primitive_kind, IsWhole}
+use Rattle.std.specs.{Prelude.{◌≡◌, ◌⊎◌, ⊤, ℕ, ℤ, ◌+◌, ◌<◌, ◌==◌, List, [], ◌∷◌, ◌++◌, length, map, take, drop, false, codes, if◌then◌else◌, Option, Some, MatchOption, slice_get, IsUtf8}, Borrow.{Bor}, BTreeMap.{get_by_text}, Fmt.{decimal}}
+use Rattle.borsh_walks.specs.Container.{Member, sequence as counted_sequence}
+use Rattle.borsh_plan.specs.{Plan.{definitions_of, map_of, root_of}, declared.plan.Plan.{Plan}}
+use Rattle.borsh_values.specs.{Nodes.{IsCountOf}, Preorder.{GivesNode, bytes_left, levels_left, plan_of, next_offset}, declared.{faults.Path.Path, preorder.Preorder.Preorder}, Tags.{IsVariantIndex}, declared.nodes.Node.{Node}}
+use Rattle.json.specs.Json.{max_depth}
+use Rattle.borsh_json.specs.{declared.error.JsonError.TheVariants.{Refused}, declared.error.JsonError.{JsonError}, declared.rows.Rows.{Rows}, Errors.{IsNoRowsReason}, Floats.{IsFloatText, IsNan}, Forms.{Form, primitive, sequence, choice, IsByte}, Places.{lengths_of}, Table.{any_length, Kind, no_bytes, truth, whole, float, raw, utf8, byte_list, list, row, inner, fields, optional, variants, entries, primitive_kind, IsWhole}}
 
 -- the plan by which rows are given
 abbrev pub rows_plan : Rows → Bor Plan
@@ -29,27 +15,24 @@ pub record BeginsRows (l : Bor Plan) (all : List ℕ) (r : Rows) : Type 0 where
   pub plan : rows_plan r ≡ l
   pub bytes : bytes_left r.nodes ≡ all
   pub offset : next_offset r.nodes ≡ 0
-  pub names : names_left r.nodes ≡ root_of l.now ∷ []
+  pub levels : map (λ l. l.2) (levels_left r.nodes) ≡ (root_of l.now ∷ []) ∷ []
+  pub path : r.nodes.path.steps.items ≡ []
 
-module _ (l : Plan) where
-  -- values of the first of these names are to be read; where a value has no bytes it is passed, and where its parts alone have some these come in its place, until those names are left
-  pub data TakesNothing : List (List ℕ) → List (List ℕ) → Type 0 where
-    nothing : {xs : List (List ℕ)} → TakesNothing xs xs
-    passing : {x : List ℕ} {xs ys : List (List ℕ)} → IsZeroSize (definitions_of l) x → TakesNothing xs ys → TakesNothing (x ∷ xs) ys
-    opening : {x : List ℕ} {xs ys : List (List ℕ)} (d : Definition) (parts : List (List ℕ)) → get_by_text (map_of l) x ≡ Some d → Opens (definitions_of l) (shape_of d) [] parts → TakesNothing (parts ++ xs) ys → TakesNothing (x ∷ xs) ys
+-- nodes without bytes are given
+pub data GivesEmpty (old : Preorder) : Preorder → Type 0 where
+  none : GivesEmpty old old
+  one_more : {now new : Preorder} (n : Node) → GivesEmpty old now → GivesNode now new n → n.bytes.now ≡ [] → plan_of new ≡ plan_of now → GivesEmpty old new
 
--- the row has the first of the bytes that are left, and says how many come before; its name is the next that is to be read, and they are what the definition of the name encodes before its parts, which come next
+-- the row has the first of the bytes that are left, and says how many come before; it is the node that comes next behind those without bytes
 pub record IsNextRow (old new : Rows) (n : Node) : Type 0 where
   pub some : n.bytes.now ≡ [] → ⊥
   pub bytes : bytes_left old.nodes ≡ n.bytes.now ++ bytes_left new.nodes
   pub offset : n.offset ≡ next_offset old.nodes
   pub next : next_offset new.nodes ≡ next_offset old.nodes + length n.bytes.now
   pub defined : get_by_text (map_of (rows_plan old).now) n.name.now ≡ Some n.definition.now
-  pub parts : List (List ℕ)
-  pub opens : Opens (definitions_of (rows_plan old).now) (shape_of n.definition.now) n.bytes.now parts
-  pub others : List (List ℕ)
-  pub named : TakesNothing (rows_plan old).now (names_left old.nodes) (n.name.now ∷ others)
-  pub after : names_left new.nodes ≡ parts ++ others
+  pub now : Preorder
+  pub empty : GivesEmpty old.nodes now
+  pub gives : GivesNode now new.nodes n
 
 -- none is given only where no bytes are left
 abbrev pub GivesRow : Rows → Rows → Option Node → Type 0
@@ -58,6 +41,22 @@ GivesRow old new found = MatchOption found (bytes_left old.nodes ≡ []) (λ n. 
 -- why there is no next row of any member of the root
 abbrev pub IsNoRow : Plan → JsonError → Type 0
 IsNoRow l e = (bytes : List ℕ) → Member (definitions_of l) (root_of l) bytes → IsNoRowsReason (definitions_of l) (root_of l) bytes e
+
+-- behind nodes without bytes one comes that more than 128 values are around, and the path is its own
+pub record IsDeepNode (old : Preorder) (path : Path) : Type 0 where
+  pub now : Preorder
+  pub new : Preorder
+  pub node : Node
+  pub empty : GivesEmpty old now
+  pub gives : GivesNode now new node
+  pub deep : max_depth < node.depth
+  pub root : path.root.now ≡ root_of (plan_of old).now
+  pub steps : path.steps.items ≡ new.path.steps.items
+
+-- a refusal has the path of such a node
+abbrev pub NestsTooDeep : Preorder → JsonError → Type 0
+NestsTooDeep old (Refused path refusal) = IsDeepNode old path
+NestsTooDeep old e = ⊤
 
 -- `false` or `true`
 abbrev pub IsTruthText : List ℕ → List ℕ → Type 0

@@ -1,18 +1,7 @@
 -- How the values of a name are written as JSON: the kinds of names, and what JSON of each kind says.
-use Rattle.std.specs.Prelude.{◌≡◌, ◌⊎◌, ℕ, suc, zero, ◌*◌, ◌<◌, ◌≤◌, ◌^◌, ℤ, pos, negsuc, List, [], ◌∷◌, ◌++◌, length, map, Bool, true, false, ◌&&◌, ◌==◌, if◌then◌else◌, nat_le, codes, count_by, Option, Some, None, option_map, option_and_then, Ok, IsUtf8, is_nan, from_bits}
-use Rattle.std.specs.Float.{Float, Format, binary32, binary64, inf}
-use Rattle.std.specs.Float.Parse.{parse_float}
-use Rattle.std.specs.Str.{bytes_eq}
-use Rattle.std.specs.Str.Parse.{signed_digits_value}
-use Rattle.std.specs.Fmt.{signed_decimal}
-use Rattle.std.specs.List.{IsDistinct}
-use Rattle.std.specs.List.Sorted.{IsPermutation, IsStrictlySortedBy}
-use Rattle.std.specs.declared.cmp.Ordering.{Ordering}
-use Rattle.std.specs.Ordering.{nat_cmp, int_cmp}
-use Rattle.std.specs.Cmp.Lexicographic.{slice_cmp}
+use Rattle.std.specs.{Prelude.{◌≡◌, ◌⊎◌, ℕ, suc, zero, ◌*◌, ◌<◌, ◌≤◌, ◌^◌, ℤ, pos, negsuc, List, [], ◌∷◌, ◌++◌, length, map, Bool, true, false, ◌&&◌, ◌==◌, if◌then◌else◌, nat_le, codes, count_by, Option, Some, None, option_map, option_and_then, Ok, IsUtf8, is_nan, from_bits}, Float.{Float, Format, binary32, binary64, inf}, Float.Parse.{parse_float}, Str.{bytes_eq}, Str.Parse.{signed_digits_value}, Fmt.{signed_decimal}, List.{IsDistinct}, List.Sorted.{IsPermutation, IsStrictlySortedBy}, declared.cmp.Ordering.{Ordering}, Ordering.{nat_cmp, int_cmp}, Cmp.Lexicographic.{slice_cmp}}
 use Rattle.hex.specs.Hex.{decode_of}
-use Rattle.json.specs.Json.{Json, null, boolean, number, string, array, object, Items, no_items, item, Members, no_members, member}
-use Rattle.json.specs.Find.{get_member}
+use Rattle.json.specs.{Json.{Json, null, boolean, number, string, array, object, Items, no_items, item, Members, no_members, member}, Find.{get_member}}
 use Rattle.borsh_walks.specs.Container.{tag, little_endian}
 use Rattle.borsh_json.specs.Forms.{Form, primitive, sequence, tuple, choice, named, unnamed, no_fields, HasNoBytes, IsList, IsByte, IsOption, IsMap}
 

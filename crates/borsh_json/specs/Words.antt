@@ -1,15 +1,15 @@
 -- The words that contracts of this crate cite, from where they are defined.
 pub use Rattle.borsh_json.specs.Descents.{PrimitivesDescend}
-pub use Rattle.borsh_json.specs.Errors.{IsNoJsonReason, IsNoMemberReason, IsNoRowsReason, IsPartError, IsReadRefusal, IsTextReason, IsUnreadable}
+pub use Rattle.borsh_json.specs.Errors.{IsNoJsonReason, IsNoMemberReason, IsNoRowsReason, IsTextReason}
 pub use Rattle.borsh_json.specs.Forms.{Form, HasNoBytes, IsByte, IsMap, IsOption, IsUnit, choice, field_bytes, form_of, form_of_struct, forms_in, sequence, shape_of_form, shapes, tuple, unnamed, variant_bytes}
 pub use Rattle.borsh_json.specs.Found.{AreEntries, HasForm, IsCollection, IsMapName, IsNamed, IsPrimitiveKind, IsRepeated, IsSetName, SaysBy, TellsKind, forms_of, joined, names_of}
-pub use Rattle.borsh_json.specs.Frames.{AddsList, AddsOrFalls, AreKeyed, AreSorted, AscentFalls, AscentRises, BeginsAscending, DeniesKey, DeniesRead, ElementsFall, FailsRead, GivesPart, HasBegun, HasEnded, HasEntries, HasFields, HasItems, HasNoNumber, HasPath, HasRead, HaveOneEach, IsArrayOf, IsDoing, IsElementFall, IsEntryKey, IsExpected, IsKeyReason, IsLeft, IsNext, IsNextEntry, IsOf, IsOfRead, IsOpened, IsOpenedOrFalls, IsPath, IsRank, IsUnexpected, IsText, IsUnread, IsVariantAt, NamesVariant, NoneFalls, NoneLeft, Opens, ReadsOn, SaysArray, ShowsRead, Wanted, error_steps, first_steps, found_step, steps_at, steps_through}
+pub use Rattle.borsh_json.specs.Frames.{AddsList, AreKeyed, AreSorted, DeniesKey, DeniesRead, FailsRead, GivesPart, HasBegun, HasEnded, HasEntries, HasFields, HasItems, HasNoNumber, HasPath, HasRead, HaveOneEach, IsArrayOf, IsDoing, IsElementFall, IsEntryKey, IsExpected, IsKeyReason, IsLeft, IsNext, IsNextEntry, IsOf, IsOfRead, IsOpened, IsPath, IsRank, IsUnexpected, IsText, IsUnread, IsVariantAt, NamesVariant, NoneFalls, NoneLeft, Opens, ReadsOn, SaysArray, ShowsRead, Wanted, first_steps, found_step, steps_at, steps_through}
 pub use Rattle.borsh_json.specs.NoJson.{ShowsNoJson}
-pub use Rattle.borsh_json.specs.InOrder.{InOrder, IsRepresented, Step, TextRepresents, element as element_step, place as place_step}
-pub use Rattle.borsh_json.specs.NoValue.{IsGivenUp, ShowsNoValue, step_of}
+pub use Rattle.borsh_json.specs.InOrder.{InOrder, IsRepresented, NeedsNoCheck, Step, TextRepresents, element as element_step, place as place_step}
+pub use Rattle.borsh_json.specs.NoValue.{IsGivenUp, ShowsFall, ShowsNoValue, step_of}
 pub use Rattle.borsh_json.specs.Ordered.{AreNumbers, IsSequenceName, IsTreeMapName, OrdersBytes, node_size, variant_of}
 pub use Rattle.borsh_json.specs.Ordered.{array as array_order}
-pub use Rattle.borsh_json.specs.Orders.{AreOrders, ArePrimitives, ComparesCopies, ComparesFronts, ComparesNumbers, ComparesTexts, DecidesAscent, DecidesFall, FindsBytesAt, FindsCopies, FindsKeysOf, FindsKind, FindsKindAt, FindsNext, FindsNoBytesAt, FindsOrder, HasElements, HasKeyOrder, HasOrderAt, IsCut, IsNotBelow, IsPartAt, KindHasOrder, KindTellsOrder, KnowsNoOrder, OrderedBy, OrdersKeys, TakesBoth, TakesCounts, TakesSame, TellsNoOrder, TellsOrders, TellsOther}
+pub use Rattle.borsh_json.specs.Orders.{AreOrders, ArePrimitives, ComparesCopies, ComparesFronts, ComparesNumbers, ComparesTexts, DecidesAscent, DecidesFall, FindsBytesAt, FindsCopies, FindsKeysOf, FindsKind, FindsKindAt, FindsNext, FindsNoBytesAt, FindsOrder, HasElements, HasKeyOrder, HasOrderAt, IsCut, IsNotBelow, IsPartAt, KindHasOrder, KindTellsOrder, KnowsNoOrder, NeedNotAscend, OrderedBy, OrdersKeys, TakesBoth, TakesCounts, TakesSame, TellsNoOrder, TellsOrders, TellsOther}
 pub use Rattle.borsh_json.specs.Places.{AreKeysOf, IsAt, IsKindAt, IsKindOf, IsRefusalOf, lengths_of}
 pub use Rattle.borsh_json.specs.Ranks.{HasRank, IsLeading, HasNoLeadingZero, number_found, rank_of}
 pub use Rattle.borsh_json.specs.Represents.{HaveBytes, SaysFirst, TextSays}

@@ -1,55 +1,10 @@
 -- What was written of a value, and the JSON that may still follow: the invariant of the writer's loop.
-use Rattle.std.specs.Prelude.{◌≡◌, ◌⊎◌, ⊤, ℕ, suc, ◌+◌, ◌<◌, ◌≤◌, List, [], ◌∷◌, ◌++◌, length, map, replicate, drop, Bool, true, false, Option, Some, None, Result, MatchResult, MatchOption, IfSome, option_map, MatchBool}
-use Rattle.std.specs.declared.cmp.Ordering.TheVariants.{Less}
-use Rattle.json.specs.Token.{Token}
-use Rattle.json.specs.Json.{Json, null, Items, Members, no_members, member}
-use Rattle.json.specs.Tree.{json_tokens, items_tokens, members_tokens, depth, items_depth, members_depth, HasNumbers, ItemsHaveNumbers, MembersHaveNumbers}
+use Rattle.std.specs.{Prelude.{◌≡◌, ◌⊎◌, ⊤, ℕ, suc, ◌+◌, ◌<◌, ◌≤◌, List, [], ◌∷◌, ◌++◌, length, map, replicate, drop, Bool, true, false, Option, Some, None, Result, MatchResult, MatchOption, IfSome, option_map, MatchBool}, declared.cmp.Ordering.TheVariants.{Less}}
+use Rattle.json.specs.{Token.{Token}, Json.{Json, null, Items, Members, no_members, member}, Tree.{json_tokens, items_tokens, members_tokens, depth, items_depth, members_depth, HasNumbers, ItemsHaveNumbers, MembersHaveNumbers}}
 use Rattle.borsh_walks.specs.Container.{product, IsIn}
-use Rattle.borsh_plan.specs.Plan.{root_of}
-use Rattle.borsh_values.specs.Nodes.{Opens, AreElementsOf}
-use Rattle.borsh_values.specs.Walks.{IsReadTo}
-use Rattle.borsh_values.specs.Membership.{IsUndecided}
-use Rattle.borsh_plan.specs.declared.named.Named.{Named}
-use Rattle.borsh_values.specs.declared.nodes.Node.{Node}
-use Rattle.borsh_json.specs.declared.definitions.Definitions.{Definitions}
-use Rattle.borsh_json.specs.declared.error.Refusal.TheVariants.{TooDeep, Descends}
-use Rattle.borsh_json.specs.declared.error.PartError.{PartError}
-use Rattle.borsh_json.specs.declared.error.PartError.TheVariants.{OutOfMemory as NoPartMemory, Refused as RefusedPart}
-use Rattle.borsh_json.specs.declared.error.JsonError.{JsonError}
-use Rattle.borsh_json.specs.declared.error.JsonError.TheVariants.{OutOfMemory as NoMemory, NoMember, NoValue, Ambiguous, NotJson, Refused as RefusedBytes}
-use Rattle.borsh_json.specs.declared.error.WriteError.{WriteError}
-use Rattle.borsh_json.specs.declared.error.WriteError.TheVariants.{OutOfMemory, Refused, Element}
-use Rattle.borsh_json.specs.declared.kinds.Elements.{Elements as FoundElements}
-use Rattle.borsh_json.specs.declared.kinds.Entries.{Entries as FoundEntries}
-use Rattle.borsh_json.specs.declared.kinds.Flaw.{Flaw}
-use Rattle.borsh_json.specs.declared.kinds.KeyKind.{KeyKind}
-use Rattle.borsh_json.specs.declared.kinds.Kind.{Kind as Found}
-use Rattle.borsh_json.specs.declared.kinds.Kind.TheVariants.{Numbers, List as ListKind, Map, Row as RowKind, Newtype as NewtypeKind, Object as ObjectKind, Refused as RefusedKind}
-use Rattle.borsh_json.specs.declared.order.Ascent.{Ascent}
-use Rattle.borsh_json.specs.declared.order.Ordered.{Ordered}
-use Rattle.borsh_json.specs.declared.output.LongNumbers.{LongNumbers}
-use Rattle.borsh_json.specs.declared.output.Output.{Output}
-use Rattle.borsh_json.specs.declared.position.Parts.{Parts}
-use Rattle.borsh_json.specs.declared.position.Parts.TheVariants.{Root, List as Elements, Row, Object, Entries as MapEntries, Newtype, Some as Present, Variant}
-use Rattle.borsh_json.specs.declared.position.Part.{Part as FoundPart}
-use Rattle.borsh_json.specs.declared.position.Place.{Place}
-use Rattle.borsh_json.specs.declared.sources.EntryKey.{EntryKey}
-use Rattle.borsh_json.specs.declared.writing.Writing.{Writing}
-use Rattle.borsh_json.specs.Checked.{Due, one, ascending, AreChecked}
-use Rattle.borsh_json.specs.Descents.{HasDescent}
-use Rattle.borsh_json.specs.Forms.{Form, tuple, form_of, shape_of_form, shapes, HasNoBytes}
-use Rattle.borsh_json.specs.Frames.{Wanted, IsWanted, IsEntryKey, IsOf, IsPath, GivesPart, NoneFalls, first_steps, last_steps}
-use Rattle.borsh_json.specs.Found.{forms_of, names_of}
-use Rattle.borsh_json.specs.Places.{IsAt, AreKeysOf, IsKindOf}
-use Rattle.borsh_json.specs.Orders.{HasKeyOrder, KindHasOrder, IsNotBelow, OrderedBy}
-use Rattle.borsh_json.specs.Represents.{SaysFirst}
-use Rattle.borsh_json.specs.InOrder.{Step, place, element, InOrder}
-use Rattle.borsh_json.specs.Inside.{LeadTo}
-use Rattle.borsh_json.specs.Leaves.{Holds, Adds, IsOpenedAs, RefusesValue, WritesLeaf, long_of, AreWritten}
-use Rattle.borsh_json.specs.NoJson.{RefusesBytes}
-use Rattle.borsh_json.specs.Only.{IsOpened, AreOnly}
-use Rattle.borsh_json.specs.NoValue.{path_steps}
-use Rattle.borsh_json.specs.Table.{Keys, Part, row_parts, Entry, entries_of, entry_parts, key_json, key_order}
+use Rattle.borsh_plan.specs.{Plan.{root_of}, declared.named.Named.{Named}}
+use Rattle.borsh_values.specs.{Nodes.{Opens, AreElementsOf}, Walks.{IsReadTo}, Membership.{IsUndecided}, declared.nodes.Node.{Node}}
+use Rattle.borsh_json.specs.{declared.definitions.Definitions.{Definitions}, declared.error.Refusal.TheVariants.{TooDeep, Descends}, declared.error.PartError.{PartError}, declared.error.PartError.TheVariants.{OutOfMemory as NoPartMemory, Refused as RefusedPart}, declared.error.JsonError.{JsonError}, declared.error.JsonError.TheVariants.{OutOfMemory as NoMemory, NoMember, NoValue, Ambiguous, NotJson, Refused as RefusedBytes}, declared.error.WriteError.{WriteError}, declared.error.WriteError.TheVariants.{OutOfMemory, Refused, Element}, declared.kinds.Elements.{Elements as FoundElements}, declared.kinds.Entries.{Entries as FoundEntries}, declared.kinds.Flaw.{Flaw}, declared.kinds.KeyKind.{KeyKind}, declared.kinds.Kind.{Kind as Found}, declared.kinds.Kind.TheVariants.{Numbers, List as ListKind, Map, Row as RowKind, Newtype as NewtypeKind, Object as ObjectKind, Refused as RefusedKind}, declared.order.Ascent.{Ascent}, declared.order.Ordered.{Ordered}, declared.output.LongNumbers.{LongNumbers}, declared.output.Output.{Output}, declared.position.Parts.{Parts}, declared.position.Parts.TheVariants.{Root, List as Elements, Row, Object, Entries as MapEntries, Newtype, Some as Present, Variant}, declared.position.Part.{Part as FoundPart}, declared.position.Place.{Place}, declared.sources.EntryKey.{EntryKey}, declared.writing.Writing.{Writing}, Checked.{Due, one, ascending, AreChecked}, Descents.{HasDescent}, Forms.{Form, tuple, form_of, shape_of_form, shapes, HasNoBytes}, Frames.{Wanted, IsWanted, IsEntryKey, IsOf, IsPath, GivesPart, NoneFalls, first_steps, last_steps}, Found.{forms_of, names_of}, Places.{IsAt, AreKeysOf, IsKindOf}, Orders.{HasKeyOrder, KindHasOrder, IsNotBelow, OrderedBy}, Represents.{HaveBytes, SaysFirst}, InOrder.{Step, place, element, InOrder}, Inside.{LeadTo}, Leaves.{Holds, Adds, IsOpenedAs, RefusesValue, WritesLeaf, long_of, AreWritten}, NoJson.{RefusesBytes}, Only.{IsOpened, AreOnly}, NoValue.{path_steps}, Table.{Keys, Part, row_parts, Entry, entries_of, entry_parts, key_json, key_order}}
 
 -- ---- what is left to be written of a place
 
@@ -420,9 +375,9 @@ module _ (d : Definitions) (w : Writing) where
   IsWrittenOn true = IsWritingAt w.position.place
   IsWrittenOn false = HasWritten
 
--- JSON of the root was written that can be printed and read, says the bytes, and in which what has to ascend does
+-- JSON of the root was written that can be printed and read, and says the bytes; in any that says them what has to ascend does
 abbrev pub WritesJson : (List ℕ → Option Form) → List ℕ → List ℕ → Output → Type 0
-WritesJson F root bytes out = (j : Json) × Holds out (json_tokens j) × HasNumbers j × (depth j ≤ 128) × AreWritten F (long_of out) ((root, j) ∷ []) bytes × InOrder F root j
+WritesJson F root bytes out = (j : Json) × Holds out (json_tokens j) × HasNumbers j × (depth j ≤ 128) × AreWritten F (long_of out) ((root, j) ∷ []) bytes × ((i : Json) → HaveBytes F ((root, i) ∷ []) bytes → InOrder F root i)
 
 -- an error of the writer of these definitions
 abbrev pub StopsBy : Definitions → List ℕ → JsonError → Type 0

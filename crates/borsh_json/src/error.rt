@@ -43,8 +43,6 @@ pub enum ReadError {
     OutOfMemory,
     /// What is wrong with the part.
     Refused(Refusal),
-    /// The element of this index isn't above the one before it.
-    Descends(usize),
 }
 
 /// Why a part was not written; the writer knows its path.

@@ -1,7 +1,7 @@
 // What the JSON of a part says by its definition: its own bytes, and the parts that it has.
-ghost use Rattle.borsh_json.specs.Words.{AddsList, AddsOrFalls, BeginsWith, DeniesRead, ElementsFall, Form, FoundMap, FoundObject, FoundOrder, FoundRow, HasKeyOrder, HasKind, InItems, InMembers, IsArrayOf, IsAt, IsDistinct, IsExpected, IsHex, IsKindOf, IsNumber, IsOpened, IsOpenedOrFalls, IsUnexpected, IsVariantAt, Json, JsonItems, JsonMembers, KindHasOrder, KindTellsOrder, KnowsNoOrder, NamedPlace, NamesVariant, NoneFalls, OneSource, Opens, OutOfMemory, SaysArray, TableKind, array, byte_list, bytes_eq, float, float_size, form_of, forms_in, lengths_of, list_parts, map_of, no_bytes, object, optional, plan_names, raw, spec_variants, string, tag, truth, utf8, variant_bytes, whole};
+ghost use Rattle.borsh_json.specs.Words.{AddsList, BeginsWith, DeniesRead, Form, FoundMap, FoundObject, FoundOrder, FoundRow, HasKind, InItems, InMembers, IsArrayOf, IsAt, IsDistinct, IsExpected, IsHex, IsKindOf, IsNumber, IsOpened, IsUnexpected, IsVariantAt, Json, JsonItems, JsonMembers, NamedPlace, NamesVariant, OneSource, Opens, OutOfMemory, SaysArray, TableKind, array, byte_list, bytes_eq, float, float_size, form_of, forms_in, lengths_of, list_parts, map_of, no_bytes, object, optional, plan_names, raw, spec_variants, string, tag, truth, utf8, variant_bytes, whole};
 ghost use Rattle.std.specs.Float.{Format};
-ghost use Rattle.std.specs.Prelude.{◌≡◌, ◌++◌, ◌≤◌, [], ℕ, List, IfSome, Option, MatchOption, MatchResult, None, OnOk, Some, false, length, map, option_map, pos, string_bytes, take};
+ghost use Rattle.std.specs.Prelude.{◌≡◌, ◌++◌, ◌≤◌, [], ℕ, List, IfSome, Option, MatchOption, MatchResult, OnOk, Some, false, length, map, option_map, pos, string_bytes, take};
 
 use crate::digits::hexadecimal;
 use crate::error::{ReadError, Refusal};
@@ -9,7 +9,6 @@ use crate::floats::bits_of;
 use crate::kinds::{Elements, Entries, KeyKind, Kind, NamedFields, Variants};
 use crate::maps::{fields_of, sorted_entries};
 use crate::numbers::Number;
-use crate::order::{Ordered, first_descent};
 use crate::position::{Parts, Place};
 use crate::prefixes::{put_count, put_tag};
 use crate::sources::Source;
@@ -39,7 +38,7 @@ pub fn open_part<'a, 't, 's>(
         let ns = plan_names json.now.plan.now in
         (x : List ℕ) (j : Json) → IsAt ns at x →
         BeginsWith element.entry j →
-        IsOpenedOrFalls F ns x j out.old.items out.new.items result }
+        IsOpened F ns x j out.old.items out.new.items result }
 {
     if json.is_zero_size(at) {
         return open_null(json.alloc(), &element);
@@ -62,8 +61,8 @@ fn open_kind<'a, 't, 's>(
     ensures { let F = forms_in (map_of json.now.plan.now) in
         let ns = plan_names json.now.plan.now in let f = form_of definition.now in
         (x : List ℕ) (j : Json) → IsAt ns at x → F x ≡ Some f →
-        IsKindOf F ns x f kind.entry → KindHasOrder F ns x kind.entry → KindTellsOrder F x kind.entry →
-        BeginsWith element.entry j → IsOpenedOrFalls F ns x j out.old.items out.new.items result }
+        IsKindOf F ns x f kind.entry →
+        BeginsWith element.entry j → IsOpened F ns x j out.old.items out.new.items result }
 {
     let alloc = json.alloc();
     match kind {
@@ -88,7 +87,7 @@ fn open_kind<'a, 't, 's>(
 /// The only part of a value.
 fn only<'a, 't, 's>(parts: Parts<'a>, element: Element<'t, 's>) -> Option<Frame<'a, 't, 's>>
     ensures { MatchOption result ⊥ (λ f. (f.place.parts ≡ parts.entry) × (f.place.begun ≡ 0) ×
-        (f.source ≡ OneSource (Some element.entry)) × (f.place.ascent ≡ None)) }
+        (f.source ≡ OneSource (Some element.entry))) }
 {
     Some(Frame {
         place: Place::new(parts),
@@ -281,44 +280,19 @@ fn open_byte_list<'a, 't, 's>(
 ) -> Opened<'a, 't, 's>
     ensures { (F : List ℕ → Option Form) (ns : List NamedPlace) (x : List ℕ) (j : Json) (e : List ℕ) →
         IsAt ns elements.at e → HasKind F x (byte_list (lengths_of (form_of definition.now)) e) →
-        elements.size ≡ 1 → HasKeyOrder F ns x elements.order → (elements.order ≡ None → KnowsNoOrder F x) →
         BeginsWith element.now j →
-        IsOpenedOrFalls F ns x j out.old.items out.new.items result }
+        IsOpened F ns x j out.old.items out.new.items result }
 {
     let Some(text) = element.as_str() else {
         return open_items(alloc, definition, elements, element, out);
     };
     match digits_of(alloc, text) {
-        Ok(bytes) => match put_ascending(alloc, definition, elements, bytes.as_slice(), out) {
+        Ok(bytes) => match put_list(alloc, definition, bytes.as_slice(), out) {
             Ok(()) => Ok(None),
             Err(error) => Err(error),
         },
         Err(error) => Err(error),
     }
-}
-
-/// Adds a list of bytes, which have to ascend where the elements do.
-fn put_ascending(
-    alloc: Global,
-    definition: &Definition,
-    elements: Elements,
-    bytes: &[u8],
-    out: &mut Vec<u8>,
-) -> Result<(), ReadError>
-    ensures added { AddsOrFalls elements (lengths_of (form_of definition.now)) bytes.now out.old.items out.new.items result }
-    ensures ascends { OnOk result (NoneFalls elements bytes.now) }
-{
-    match descent_in(elements, bytes) {
-        Some(index) => Err(ReadError::Descends(index)),
-        None => put_list(alloc, definition, bytes, out),
-    }
-}
-
-/// The first primitive of a list that isn't above the one before it, where these have to ascend.
-fn descent_in(elements: Elements, bytes: &[u8]) -> Option<usize>
-    ensures { MatchOption result (NoneFalls elements bytes.now) (ElementsFall elements bytes.now) }
-{
-    first_descent(elements.order?, usize::from(elements.size), bytes)
 }
 
 /// Adds a list of bytes.
@@ -423,8 +397,7 @@ fn open_items<'a, 't, 's>(
 ) -> Opened<'a, 't, 's>
     ensures { (F : List ℕ → Option Form) (ns : List NamedPlace) (x : List ℕ) (j : Json)
         (kind : TableKind) (e : List ℕ) →
-        IsAt ns elements.at e → HasKind F x kind → HasKeyOrder F ns x elements.order →
-        (elements.order ≡ None → KnowsNoOrder F x) →
+        IsAt ns elements.at e → HasKind F x kind →
         SaysArray F j kind (lengths_of (form_of definition.now)) e → BeginsWith element.now j →
         IsOpened F ns x j out.old.items out.new.items result }
 {
@@ -434,10 +407,6 @@ fn open_items<'a, 't, 's>(
                 let parts: Parts<'a> = Parts::List(elements.at, count as u64);
                 let place: Place<'a, 'static> = Place::new(parts);
                 let source = Source::Items(items);
-                if count < 2 {
-                    return Ok(Some(Frame { place, source }));
-                }
-                let place = place.in_order(elements.order);
                 Ok(Some(Frame { place, source }))
             }
             Err(error) => Err(error),

@@ -1,6 +1,6 @@
 // The reader's loop over the parts of a value.
-ghost use Rattle.borsh_json.specs.Words.{AreKeysOf, AscentFalls, AscentRises, BeginsAscending, BeginsWith, DeniesKey, Entry, FailsRead, Form, HasBegun, HasEnded, HasEntries, HasPath, HasRead, HaveBytes, InOrder, IsAt, IsDoing, IsEntryKey, IsFull, IsNext, IsNextEntry, IsUnread, Json, JsonPart, Keys, NamedPlace, NextMissing, NextPart, ReadsOn, SaysFirst, form_of, forms_in, forms_of, key_json, map_of, names_of, root_of, steps_at, steps_through};
-ghost use Rattle.std.specs.Prelude.{◌≡◌, ◌∷◌, ◌++◌, [], true, IfErr, IfOk, ℕ, List, MatchBool, MatchOption, MatchResult, OnOk, Option, length};
+ghost use Rattle.borsh_json.specs.Words.{AreKeysOf, BeginsWith, DeniesKey, Entry, FailsRead, Form, HasBegun, HasEnded, HasEntries, HasPath, HasRead, HaveBytes, IsAt, IsDoing, IsEntryKey, IsFull, IsNext, IsNextEntry, IsUnread, Json, JsonPart, Keys, NamedPlace, NextMissing, NextPart, ReadsOn, SaysFirst, form_of, forms_in, forms_of, key_json, map_of, names_of, root_of, steps_at, steps_through};
+ghost use Rattle.std.specs.Prelude.{◌≡◌, ◌∷◌, ◌++◌, [], true, IfErr, IfOk, ℕ, List, MatchOption, MatchResult, OnOk, Option, length};
 
 use crate::error::{PartError, PartResult, ReadError, Refusal};
 use crate::kinds::{Entries, KeyKind};
@@ -9,7 +9,7 @@ use crate::position::{Key, Place, Position};
 use crate::sources::{EntryKey, Source};
 use crate::table::Table;
 use json::Element;
-use std::alloc::{AllocError, Global};
+use std::alloc::Global;
 use std::mem;
 
 /// What comes next of the parts of a value.
@@ -28,7 +28,7 @@ pub fn read_value<'a>(json: &Table<'a, '_>, element: Element<'_, '_>) -> PartRes
     ensures { let F = forms_in (map_of json.now.plan.now) in
         let root = root_of json.now.plan.now in
         (j : Json) → BeginsWith element.entry j →
-        MatchResult result (λ v. HaveBytes F ((root, j) ∷ []) v.items × InOrder F root j)
+        MatchResult result (λ v. HaveBytes F ((root, j) ∷ []) v.items)
         (λ e. IsUnread F root j e) }
 {
     let alloc = json.alloc();
@@ -70,9 +70,6 @@ impl<'a, 't, 's> Reading<'a, 't, 's> {
         ensures { (root : List ℕ) (j : Json) → HasRead json.now root j self.old →
             ReadsOn json.now root j self.new result }
     {
-        if !ascends(json, &mut self.position.place, self.out.as_slice())? {
-            return Err(self.position.refused_element(Refusal::Descends));
-        }
         match take_next(
             json,
             &mut self.position.place,
@@ -149,25 +146,6 @@ impl<'a, 't, 's> Reading<'a, 't, 's> {
     }
 }
 
-/// Whether the element that was read last is above the one before it, where elements have to ascend.
-fn ascends(
-    json: &Table<'_, '_>,
-    place: &mut Place<'_, '_>,
-    bytes: &[u8],
-) -> Result<bool, AllocError>
-    ensures same { (place.new.parts ≡ place.old.parts) × (place.new.begun ≡ place.old.begun) }
-    ensures begins { IfOk result (λ ascends. BeginsAscending place.old.ascent (length bytes.now) place.new.ascent) }
-    ensures tells { IfOk result (λ ascends. MatchBool ascends
-        (AscentRises json.now place.old.ascent bytes.now) (AscentFalls json.now place.old.ascent bytes.now)) }
-{
-    let Some(ascent) = &mut place.ascent else {
-        return Ok(true);
-    };
-    let ascends = ascent.ascends(json, bytes)?;
-    ascent.begin(bytes.len());
-    Ok(ascends)
-}
-
 /// What comes next. The key of an entry is added.
 fn take_next<'a, 't, 's>(
     json: &Table<'a, '_>,
@@ -175,7 +153,7 @@ fn take_next<'a, 't, 's>(
     source: &mut Source<'t, 's>,
     out: &mut Vec<u8>,
 ) -> Result<Next<'t, 's>, ReadError>
-    ensures parts { (place.new.parts ≡ place.old.parts) × (place.new.ascent ≡ place.old.ascent) }
+    ensures parts { place.new.parts ≡ place.old.parts }
     ensures next { let F = forms_of json.now in let ns = names_of json.now in
         (d : ℕ) (x : List ℕ) (i : Json) (own : List ℕ) (ds : List JsonPart) →
         IsDoing F ns place.old source.old d x i own ds → MatchResult result

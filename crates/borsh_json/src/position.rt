@@ -1,5 +1,5 @@
 // Where in a value the reader or writer is.
-ghost use Rattle.borsh_json.specs.Words.{AscendsFrom, GivesPart, HasPath, IsElementFall, IsFull, IsOf, IsOfRead, IsOfWrite, IsPartError, IsPath, IsReadRefusal, IsUnreadable, NoneFalls, Root, Step, TooDeep, element_step, error_steps, first_steps, found_step, place_step, step_of, steps_at, steps_through, write_steps};
+ghost use Rattle.borsh_json.specs.Words.{AscendsFrom, GivesPart, HasPath, IsElementFall, IsFull, IsOf, IsOfRead, IsOfWrite, IsPath, NoneFalls, Root, Step, element_step, first_steps, found_step, place_step, step_of, steps_at, steps_through, write_steps};
 ghost use Rattle.borsh_json.specs.declared.error.Refusal.TheVariants.{Descends};
 ghost use Rattle.std.specs.Prelude.{◌≡◌, ◌+◌, ◌^◌, ◌<◌, ◌≤◌, ◌∷◌, ◌++◌, [], true, false, ℕ, List, None, length, map, IfErr, IfOk, IfSome, MatchOption, OnOk};
 
@@ -200,8 +200,6 @@ impl<'a, 'k> Position<'a, 'k> {
 
     /// Goes into the parts of the part that was begun last.
     pub fn enter(&mut self, place: Place<'a, 'k>) -> PartResult<'a, ()>
-        ensures reading { IfErr result (IsPartError IsUnreadable) }
-        ensures too_deep { IfErr result (IsOf TooDeep) }
         ensures full { IfErr result (IsFull (length self.old.outer.items)) }
         ensures room { OnOk result (length self.old.outer.items < 128) }
         ensures path { IfErr result (HasPath self.old.root.now (steps_through self.old.outer.items ++ steps_at self.old.place)) }
@@ -217,8 +215,6 @@ impl<'a, 'k> Position<'a, 'k> {
 
     /// Refuses more brackets where as many as may be are around.
     pub fn check_room(&self) -> PartResult<'a, ()>
-        ensures reading { IfErr result (IsPartError IsUnreadable) }
-        ensures too_deep { IfErr result (IsOf TooDeep) }
         ensures full { IfErr result (IsFull (length self.now.outer.items)) }
         ensures path { IfErr result (HasPath self.now.root.now (steps_through self.now.outer.items ++ steps_at self.now.place)) }
         ensures room { OnOk result (length self.now.outer.items < 128) }
@@ -248,7 +244,6 @@ impl<'a, 'k> Position<'a, 'k> {
 
     /// Refuses a primitive of a list that isn't above the one before it, where these have to ascend.
     pub fn check_ascent(&self, elements: Elements, bytes: &[u8]) -> PartResult<'a, ()>
-        ensures reading { IfErr result (IsPartError IsUnreadable) }
         ensures descends { IfErr result (IsOf Descends) }
         ensures falls { let s = self.now in IfErr result (IsElementFall s.root.now
             (steps_through s.outer.items ++ steps_at s.place) elements bytes.now) }
@@ -267,22 +262,19 @@ impl<'a, 'k> Position<'a, 'k> {
     pub fn refused(&self, refusal: Refusal) -> PartError<'a>
         ensures same { IsOf refusal result }
         ensures path { HasPath self.now.root.now (steps_through self.now.outer.items ++ steps_at self.now.place) result }
-        ensures reading { IsUnreadable refusal → IsPartError IsUnreadable result }
     {
         refused_at(self.path(), refusal)
     }
 
-    /// The error of the part that was begun last, or of an element of it.
+    /// The error of the part that was begun last and not read.
     pub fn refused_part(&self, error: ReadError) -> PartError<'a>
         ensures same { IsOfRead error result }
         ensures path { HasPath self.now.root.now
-            (error_steps (steps_through self.now.outer.items ++ steps_at self.now.place) error) result }
-        ensures reading { IsReadRefusal error → IsPartError IsUnreadable result }
+            (steps_through self.now.outer.items ++ steps_at self.now.place) result }
     {
         match error {
             ReadError::OutOfMemory => PartError::OutOfMemory,
             ReadError::Refused(refusal) => self.refused(refusal),
-            ReadError::Descends(index) => refused_at(self.path_to(index), Refusal::Descends),
         }
     }
 
@@ -295,7 +287,6 @@ impl<'a, 'k> Position<'a, 'k> {
         match error {
             ReadError::OutOfMemory => PartError::OutOfMemory,
             ReadError::Refused(refusal) => refused_at(self.path_of_key(), refusal),
-            ReadError::Descends(_) => refused_at(self.path_of_key(), Refusal::Descends),
         }
     }
 
@@ -317,7 +308,6 @@ impl<'a, 'k> Position<'a, 'k> {
         ensures same { IsOf refusal result }
         ensures path { HasPath self.now.root.now (steps_through self.now.outer.items ++
             first_steps self.now.place.parts self.now.place.begun) result }
-        ensures reading { IsUnreadable refusal → IsPartError IsUnreadable result }
     {
         refused_at(self.path_of_element(), refusal)
     }
@@ -389,7 +379,6 @@ impl<'a, 'k> Position<'a, 'k> {
 fn refused_at<'a>(path: Result<Path<'a>, AllocError>, refusal: Refusal) -> PartError<'a>
     ensures same { IsOf refusal result }
     ensures path { (root : List ℕ) (steps : List Step) → IfOk path.entry (IsPath root steps) → HasPath root steps result }
-    ensures reading { IsUnreadable refusal → IsPartError IsUnreadable result }
 {
     match path {
         Ok(path) => PartError::Refused(path, refusal),

@@ -73,7 +73,10 @@ impl<'a, 'l> Table<'a, 'l> {
     {
         let bytes = self.read_text(text)?;
         match self.membership(bytes.as_slice())? {
-            Membership::Member => Ok(bytes),
+            Membership::Member => match self.check_order(bytes.as_slice()) {
+                Ok(()) => Ok(bytes),
+                Err(error) => Err(error),
+            },
             Membership::NoMember(_) => Err(JsonError::NoValue),
             Membership::Ambiguous(name) => Err(JsonError::Ambiguous(name)),
         }
@@ -83,7 +86,7 @@ impl<'a, 'l> Table<'a, 'l> {
     pub(crate) fn read_text(&self, text: &str) -> Result<Vec<u8>, JsonError<'a>>
         ensures says { let plan = self.now.plan.now in let F = forms_in (map_of plan) in
             IfOk result (λ bytes. (j : Json) × (document text.now ≡ Some j) ×
-            HaveBytes F ((root_of plan, j) ∷ []) bytes.items × InOrder F (root_of plan) j) }
+            HaveBytes F ((root_of plan, j) ∷ []) bytes.items) }
         ensures denies { let plan = self.now.plan.now in
             IfErr result (ShowsNoValue (forms_in (map_of plan)) (root_of plan) text.now) }
         ensures reason { let plan = self.now.plan.now in

@@ -1,7 +1,6 @@
 // What each of the bytes of a value is.
 ghost use Rattle.borsh_json.specs.Words.{IsNoMemberReason, IsNoRowsReason, IsPrimitiveKind, IsWhole, Member, definitions_of, float, float_size, form_of, forms_in, primitive_kind, root_of};
-ghost use Rattle.borsh_json.specs.Rows.{BeginsRows, GivesRow, IsNoRow, IsPrimitiveText, IsQuoted, IsTextOf, IsValueText, counted, rows_plan};
-ghost use Rattle.borsh_values.specs.Preorder.{GivesNext, plan_of};
+ghost use Rattle.borsh_json.specs.Rows.{BeginsRows, GivesRow, IsNoRow, IsPrimitiveText, IsQuoted, IsTextOf, IsValueText, NestsTooDeep, counted, rows_plan};
 ghost use Rattle.std.specs.Float.{Format};
 ghost use Rattle.std.specs.Prelude.{◌≡◌, ◌≤◌, [], false, ℕ, Decides, IfErr, IfOk, List, MatchOption, OnOk, string_bytes};
 
@@ -66,19 +65,26 @@ impl<'a, 'l, 'b> Rows<'a, 'l, 'b> {
     /// The next row; none where all bytes are in a row. After an error the rows are to be dropped.
     ///
     /// Determined: a row has the first of the bytes that are left, at least one, and its offset is the number of bytes before them;
-    /// its name is the next to be read, whose definition in the map encodes them before its parts. The only refusal is
-    /// `TooDeep`, of values that nest more than 128 deep. Left open: memory; `TooDeep` for any value; a row's depth: tested.
+    /// its name is the next to be read, whose definition in the map encodes them before its parts, and its depth is the number of
+    /// values around it. The only refusal is `TooDeep`, with its path, where a value inside of more than 128 others comes next.
+    /// Left open: memory.
     pub fn next(&mut self) -> Result<Option<Node<'a, 'b>>, JsonError<'a>>
         ensures row { IfOk result (λ found. GivesRow self.old self.new found) }
         ensures plan { rows_plan self.new ≡ rows_plan self.old }
         ensures reason { IfErr result (IsNoRow (rows_plan self.old).now) }
+        ensures deep { IfErr result (NestsTooDeep self.old.nodes) }
     {
         for _ in 0..u64::MAX {
-            let Some(node) = next_node(&mut self.nodes)? else {
-                return Ok(None);
+            let node = match self.nodes.next() {
+                Ok(Some(node)) => node,
+                Ok(None) => return Ok(None),
+                Err(PreorderError::OutOfMemory) => return Err(JsonError::OutOfMemory),
+                Err(PreorderError::Ambiguous(name)) => return Err(JsonError::Ambiguous(name)),
             };
             if node.depth > MAX_DEPTH {
-                return Err(self.too_deep());
+                let Path { root, steps } = self.nodes.path();
+                let steps = Vec::from_slice(self.alloc, steps.as_slice())?;
+                return Err(JsonError::Refused(Path { root, steps }, Refusal::TooDeep));
             }
             if !node.bytes.is_empty() {
                 return Ok(Some(node));
@@ -87,34 +93,12 @@ impl<'a, 'l, 'b> Rows<'a, 'l, 'b> {
         Err(JsonError::OutOfMemory)
     }
 
-    /// The path of the row that was given last. Left open: any path: tested.
-    pub fn path(&self) -> &Path<'a> {
-        self.nodes.path()
-    }
-
-    fn too_deep(&self) -> JsonError<'a>
-        ensures { IsNoRow (rows_plan self.now).now result }
+    /// The path of the row that was given last, or of the root. Left open: none.
+    pub fn path(&self) -> &Path<'a>
+        ensures root { result.now.root.now ≡ root_of (rows_plan self.now).now }
+        ensures path { result.now ≡ self.now.nodes.path }
     {
-        let Path { root, steps } = self.nodes.path();
-        match Vec::from_slice(self.alloc, steps.as_slice()) {
-            Ok(steps) => JsonError::Refused(Path { root, steps }, Refusal::TooDeep),
-            Err(_) => JsonError::OutOfMemory,
-        }
-    }
-}
-
-/// The next node of a member.
-fn next_node<'a, 'b>(
-    nodes: &mut Preorder<'a, '_, 'b>,
-) -> Result<Option<Node<'a, 'b>>, JsonError<'a>>
-    ensures gives { IfOk result (λ found. GivesNext nodes.old nodes.new found) }
-    ensures plan { plan_of nodes.new ≡ plan_of nodes.old }
-    ensures reason { IfErr result (IsNoRow (plan_of nodes.old).now) }
-{
-    match nodes.next() {
-        Ok(found) => Ok(found),
-        Err(PreorderError::OutOfMemory) => Err(JsonError::OutOfMemory),
-        Err(PreorderError::Ambiguous(name)) => Err(JsonError::Ambiguous(name)),
+        self.nodes.path()
     }
 }
 

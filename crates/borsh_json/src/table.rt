@@ -1,7 +1,7 @@
 // The table of the names of a plan, and how the values of each are written as JSON.
-ghost use Rattle.borsh_json.specs.Words.{Form, HasNoBytes, HasOrderAt, IsAt, IsKindAt, IsPartAt, KindTellsOrder, OrderedBy, definitions_of, forms_in, forms_of, map_of, names_of, plan_names, references, root_of, shape_of_form};
+ghost use Rattle.borsh_json.specs.Words.{Form, HasNoBytes, HasOrderAt, IsAt, IsKindAt, IsPartAt, KindTellsOrder, NeedNotAscend, NeedsNoCheck, OrderedBy, definitions_of, forms_in, forms_of, map_of, names_of, plan_names, references, root_of, shape_of_form};
 ghost use Rattle.borsh_values.specs.Membership.{IsAnswer};
-ghost use Rattle.std.specs.Prelude.{◌≡◌, ◌+◌, ◌<◌, ◌^◌, ℕ, List, Decides, IfOk, IfSome, Some, slice_get};
+ghost use Rattle.std.specs.Prelude.{◌≡◌, ◌+◌, ◌<◌, ◌^◌, ℕ, false, List, Decides, IfOk, IfSome, Some, slice_get};
 
 use crate::definitions::Definitions;
 use crate::kinds::Kind;
@@ -23,6 +23,8 @@ pub struct Table<'a, 'l> {
     kinds: Vec<Option<(&'a Definition, Kind<'a>)>>,
     /// Of each name how its values are ordered; empty where there is no set or map.
     orders: Vec<Ordered>,
+    /// Whether a list has to ascend.
+    ascends: bool,
     indexes: Indexes<'a>,
 }
 
@@ -40,7 +42,7 @@ impl<'a, 'l> Model for Table<'a, 'l> {
 
     ghost view = { λ j. j.definitions };
 
-    ghost invariant = { λ j. HasKinds j.definitions j.kinds.items j.orders.items };
+    ghost invariant = { λ j. HasKinds j.definitions j.kinds.items j.orders.items j.ascends };
 }
 
 impl<'a, 'l> Table<'a, 'l> {
@@ -60,8 +62,10 @@ impl<'a, 'l> Table<'a, 'l> {
         let definitions = Definitions::new(alloc, plan);
         let count = plan.len();
         let mut kinds = Vec::with_capacity(alloc, count)?;
+        let mut ascends = false;
         for at in 0..count {
             let kind = definitions.find_kind(at)?;
+            ascends = ascends_with(ascends, kind);
             kinds.push(kind)?;
         }
         let orders = if have_order(kinds.as_slice()) {
@@ -74,6 +78,7 @@ impl<'a, 'l> Table<'a, 'l> {
             definitions,
             kinds,
             orders,
+            ascends,
             indexes,
         })
     }
@@ -144,6 +149,13 @@ impl<'a, 'l> Table<'a, 'l> {
         }
     }
 
+    /// Whether a list has to ascend; else all that a text says is in order.
+    pub(crate) fn ascends(&self) -> bool
+        ensures { let plan = self.now.plan.now in result ≡ false → NeedsNoCheck (forms_in (map_of plan)) (root_of plan) }
+    {
+        self.ascends
+    }
+
     /// Where the variant of a name may be in an enum of many.
     pub(crate) fn variant_index(&self, at: usize, name: &str) -> Option<usize> {
         self.indexes.get(&at)?.get(name).copied()
@@ -160,20 +172,35 @@ impl<'a, 'l> Table<'a, 'l> {
     }
 }
 
+/// Whether a list of the kind has to ascend that was found, or one before it has.
+fn ascends_with(before: bool, found: Option<(&Definition, Kind<'_>)>) -> bool
+    ensures { result ≡ false → (before ≡ false) × IfSome found.entry (λ r. NeedNotAscend r.1) }
+{
+    match found {
+        Some((_, kind)) => before || is_ordered(kind),
+        None => before,
+    }
+}
+
+/// Whether a list of the kind has to ascend.
+fn is_ordered(kind: Kind<'_>) -> bool
+    ensures { result ≡ false → NeedNotAscend kind.entry }
+{
+    match kind {
+        Kind::ByteList(elements) | Kind::Numbers(elements) | Kind::List(elements) => {
+            elements.order.is_some()
+        }
+        _ => false,
+    }
+}
+
 /// Whether one of the kinds is that of a set or map.
 fn have_order(kinds: &[Option<(&Definition, Kind<'_>)>]) -> bool {
     for kind in kinds {
         let Some((_, kind)) = kind else {
             continue;
         };
-        let is_ordered = match kind {
-            Kind::ByteList(elements) | Kind::Numbers(elements) | Kind::List(elements) => {
-                elements.order.is_some()
-            }
-            Kind::Map(_, _) => true,
-            _ => false,
-        };
-        if is_ordered {
+        if matches!(kind, Kind::Map(_, _)) || is_ordered(*kind) {
             return true;
         }
     }

@@ -1,11 +1,11 @@
 // A value as JSON.
-ghost use Rattle.borsh_json.specs.Words.{Adds, AreKeysOf, BeginsNext, EntryOf, Form, FoundBytes, FoundElements, FoundKeyKind, FoundList, FoundNumbers, FoundPart, HasNoBytes, HasNode, Holds, IsAbove, IsAt, IsAwaitingAt, IsBegunOf, IsEntryKey, IsGivenUp, IsKeyPut, IsKindOf, IsLast, IsNoJsonReason, IsPartWritten, IsRepresented, IsWritingAt, IsWrittenNext, Keys, KindHasOrder, KindTellsOrder, Member, NamedPlace, NoneFallsIn, Place, RefusesElements, RisesAt, ShowsNoJson, StopsBy, TellsAscent, TextRepresents, WritesJson, definitions_in, definitions_of, ends_of, form_of, forms_in, forms_of, map_of, names_of, root_of, shapes, steps_at, steps_through};
+ghost use Rattle.borsh_json.specs.Words.{Adds, AreKeysOf, BeginsNext, EntryOf, Form, FoundBytes, FoundElements, FoundKeyKind, FoundList, FoundNumbers, FoundPart, HasNoBytes, HasNode, HaveBytes, Holds, InOrder, IsAbove, IsAt, IsAwaitingAt, IsBegunOf, IsEntryKey, IsGivenUp, IsKeyPut, IsKindOf, IsLast, IsNoJsonReason, IsPartWritten, IsRepresented, IsWritingAt, IsWrittenNext, Json, Keys, KindHasOrder, KindTellsOrder, Member, NamedPlace, NoneFallsIn, Place, RefusesElements, RisesAt, ShowsFall, ShowsNoJson, StopsBy, TellsAscent, TextRepresents, WritesJson, definitions_in, definitions_of, ends_of, form_of, forms_in, forms_of, map_of, names_of, root_of, shapes, steps_at, steps_through};
 ghost use Rattle.borsh_json.specs.Ascii.{IsInLine, IsPlain, IsSameJson};
 ghost use Rattle.borsh_json.specs.Printed.{HasQuotedNumbers, IsPrinted};
 ghost use Rattle.borsh_json.specs.declared.output.Layout.TheVariants.{Compact};
 ghost use Rattle.borsh_json.specs.declared.output.LongNumbers.TheVariants.{Quoted};
 ghost use Rattle.borsh_json.specs.declared.output.Characters.TheVariants.{Any, Ascii};
-ghost use Rattle.std.specs.Prelude.{◌≡◌, ◌<◌, ◌++◌, [], ℕ, All, Decides, IfErr, IfOk, IfSome, IsUtf8, List, MatchResult, OnOk, Option, Some, length, string_bytes, true};
+ghost use Rattle.std.specs.Prelude.{◌≡◌, ◌<◌, ◌++◌, ◌∷◌, [], ℕ, All, Decides, IfErr, IfOk, IfSome, IsUtf8, List, MatchResult, OnOk, Option, Some, length, string_bytes, true};
 
 use crate::ascii::{in_ascii, is_ascii};
 use crate::error::{JsonError, PartResult, Refusal};
@@ -147,6 +147,30 @@ pub fn text_of(bytes: Vec<u8>) -> String
     match String::from_utf8(bytes) {
         Ok(text) => text,
         Err(_) => unreachable!(),
+    }
+}
+
+impl<'a, 'l> Table<'a, 'l> {
+    /// Refuses a member that a text says where a list of it has to ascend and doesn't.
+    pub(crate) fn check_order(&self, bytes: &[u8]) -> Result<(), JsonError<'a>>
+        requires { Member (shapes (forms_of self.now)) (root_of self.now.plan.now) bytes.now }
+        ensures in_order { let F = forms_of self.now in let root = root_of self.now.plan.now in (j : Json) →
+            HaveBytes F ((root, j) ∷ []) bytes.now → OnOk result (InOrder F root j) }
+        ensures falls { let F = forms_of self.now in let root = root_of self.now.plan.now in (j : Json) →
+            HaveBytes F ((root, j) ∷ []) bytes.now → IfErr result (ShowsFall F root j) }
+    {
+        if !self.ascends() {
+            return Ok(());
+        }
+        match write_value(self, bytes, Output::Nothing) {
+            Ok(_) => Ok(()),
+            Err(JsonError::Ambiguous(name)) => Err(JsonError::Ambiguous(name)),
+            Err(JsonError::Refused(path, Refusal::Descends)) => {
+                Err(JsonError::Refused(path, Refusal::Descends))
+            }
+            // No other part is refused of what was read, which doesn't nest too deep.
+            Err(_) => Err(JsonError::OutOfMemory),
+        }
     }
 }
 

@@ -1,14 +1,14 @@
 -- Answers of a walk.
-use Rattle.std.proofs.Common.{◌≡◌, ℕ, suc, zero, Some, ◌+◌, ◌-◌, ◌<◌, ◌≤◌, List, [], ◌∷◌, ◌++◌, length, take, drop, Ok, Err, refl, sym, ◌∙◌, ap, subst, arith, append_assoc, append-nil, length-append, length-drop, drop-drop, take-add, take-append-drop, length-take-le, inl, inr, ◌^◌, ◌⊎◌}
+use Rattle.std.proofs.Common.{Bor, ◌≡◌, ℕ, suc, zero, Some, ◌+◌, ◌-◌, ◌<◌, ◌≤◌, List, [], ◌∷◌, ◌++◌, length, take, drop, Ok, Err, refl, sym, ◌∙◌, ap, subst, arith, append_assoc, append-nil, length-append, length-drop, drop-drop, take-add, take-append-drop, length-take-le, inl, inr, ◌^◌, ◌⊎◌}
 use Rattle.std.specs.Prelude.{Option, Result, IfOk}
 use Rattle.std.proofs.lemmas.Bool.{cases_lt}
 use Rattle.borsh_walks.specs.Container.{Shape, primitive, sequence, product, choice, Member, Reached, stays, Rule, tag_too_wide, tag_too_narrow, tag_not_power_of_two, empty_length_range, Breaks, is_empty, is_not_power, is_too_wide, is_too_narrow, is_wide_choice, IsValid}
 use Rattle.borsh_walks.specs.RulesAnswer.{KeepsWidths, IsWidth}
 use Rattle.borsh_values.specs.declared.faults.Reason.TheVariants.{BytesLeft, TooShort as IsShort, Count, Tag, MissingDefinition, Recursive}
 use Rattle.borsh_values.specs.declared.fronts.Front.TheVariants.{Value, TooShort, NoMember, Ambiguous}
-use Rattle.borsh_values.specs.declared.members.Membership.TheVariants.{Member as IsMember, NoMember as IsNoMember, Ambiguous as IsAmbiguous}
+use Rattle.borsh_values.specs.declared.members.Membership.TheVariants.{Ambiguous as IsAmbiguous}
 use Rattle.borsh_values.specs.declared.{faults.Fault.Fault, faults.Reason.Reason, fronts.Front.Front, members.Membership.Membership}
-use Rattle.borsh_values.specs.Membership.{BeginsWith, Refuses, other_count, other_tag, Why, IsWhy, Stops, IsFault, IsFaultAt, StopsAt, IsFront, HasNoFront, IsFrontAnswer, AnswersFront, IsDecidedFront, IsUndecided, IsDecided, IsAnswer, AnswersMembership}
+use Rattle.borsh_values.specs.Membership.{BeginsWith, Refuses, other_count, other_tag, Why, IsWhy, Stops, IsFault, IsFaultAt, StopsAt, IsFront, HasNoFront, IsFrontAnswer, AnswersFront, IsUndecided, IsAnswer, AnswersMembership}
 use Rattle.borsh_values.specs.Nodes.{Reads}
 use Rattle.borsh_values.specs.Cursor.{NoneBegins, Begun, before}
 use Rattle.borsh_values.proofs.MemberLaws.{begun_end}
@@ -164,25 +164,14 @@ module _ (C : List ℕ → Option Shape) where
   pub answers : {root bytes : List ℕ} {E : Type 0} (result : Result Membership E) → IfOk result (λ a. IsAnswer C root bytes a) → AnswersMembership C root bytes result
   answers {root} {bytes} result h = record { answer = h; decided = λ v u. decided bytes v u result h }
     where
-      never : {root : List ℕ} (bytes : List ℕ) (a : Membership) → IsValid C root → IsUnambiguous C root → IsAnswer C root bytes a → IsDecided a
-      never bytes IsMember v u h = tt
-      never bytes (IsNoMember f) v u h = tt
-      never bytes (IsAmbiguous x) v u h = none_ambiguous x.now v u h
-
-      decided : {root : List ℕ} (bytes : List ℕ) {E : Type 0} → IsValid C root → IsUnambiguous C root → (result : Result Membership E) → IfOk result (λ a. IsAnswer C root bytes a) → IfOk result (λ a. IsDecided a)
-      decided bytes v u (Ok a) h = never bytes a v u h
+      decided : {root : List ℕ} (bytes : List ℕ) {E : Type 0} → IsValid C root → IsUnambiguous C root → (result : Result Membership E) → IfOk result (λ a. IsAnswer C root bytes a) → IfOk result (λ a. (x : Bor (List ℕ)) → a ≡ IsAmbiguous x → ⊥)
+      decided {root} bytes v u (Ok a) h = λ x e. none_ambiguous x.now v u (subst (λ a. IsAnswer C root bytes a) e h)
       decided bytes v u (Err e) h = tt
 
   -- so it gets how the bytes begin
   pub fronts : {root bytes : List ℕ} {E : Type 0} (result : Result Front E) → IfOk result (λ a. IsFrontAnswer C root bytes a) → AnswersFront C root bytes result
   fronts {root} {bytes} result h = record { answer = h; decided = λ v u. decided v u result h }
     where
-      never : (a : Front) → IsValid C root → IsUnambiguous C root → IsFrontAnswer C root bytes a → IsDecidedFront a
-      never (Value n) v u h = tt
-      never (TooShort f) v u h = tt
-      never (NoMember f) v u h = tt
-      never (Ambiguous x) v u h = none_ambiguous x.now v u h
-
-      decided : {E : Type 0} → IsValid C root → IsUnambiguous C root → (result : Result Front E) → IfOk result (λ a. IsFrontAnswer C root bytes a) → IfOk result (λ a. IsDecidedFront a)
-      decided v u (Ok a) h = never a v u h
+      decided : {E : Type 0} → IsValid C root → IsUnambiguous C root → (result : Result Front E) → IfOk result (λ a. IsFrontAnswer C root bytes a) → IfOk result (λ a. (x : Bor (List ℕ)) → a ≡ Ambiguous x → ⊥)
+      decided v u (Ok a) h = λ x e. none_ambiguous x.now v u (subst (λ a. IsFrontAnswer C root bytes a) e h)
       decided v u (Err e) h = tt

@@ -1,3 +1,4 @@
+pub mod TableProps
 pub mod Bytes
 pub mod TakesLaws
 pub mod Answers

@@ -1,30 +1,33 @@
 -- The steps of a cursor, and its folds.
-use Rattle.std.proofs.Common.{◌≡◌, ℕ, suc, ◌+◌, ◌-◌, ◌<◌, ◌≤◌, List, [], ◌∷◌, ◌++◌, length, take, drop, reverse, replicate, set, get_or, Some, None, refl, sym, ◌∙◌, ap, subst, take-append-drop, append-nil, append_assoc, Ok, zero, arith, length-append, ◌⊎◌, inl, inr}
-use Rattle.std.specs.Prelude.{Option, Vec, Result}
+use Rattle.std.proofs.Common.{◌≡◌, ℕ, suc, ◌+◌, ◌-◌, ◌<◌, ◌≤◌, List, [], ◌∷◌, ◌++◌, length, take, drop, reverse, replicate, set, get_or, Some, None, refl, sym, ◌∙◌, ap, subst, take-append-drop, append-nil, Ok, zero, arith, length-append, ◌⊎◌, inl, inr}
+use Rattle.std.specs.Prelude.{Err, IfOk, Option, Vec, Result, leb, false, map, option_to_list, slice_get}
+use Rattle.std.proofs.lemmas.List.{length-map, length-reverse}
+use Rattle.std.proofs.lemmas.Bool.{le-leb, lt-leb}
 use Rattle.std.proofs.Math.Logic.{∥∥₁_elim, ∥∥₁_map}
 use Rattle.std.specs.{Borrow.Bor, Global.Global, BTreeMap.btree_map_len, BTreeMap.get_by_text, Coded.Coded-set, Coded.le_prop}
 use Rattle.borsh_walks.specs.declared.definition.Definition.{Definition}
 use Rattle.borsh_walks.specs.Container.{IsZeroSize, Member, Members, Reached, Shape}
 use Rattle.borsh_walks.specs.Definitions.{shape_of}
 use Rattle.borsh_values.specs.declared.cursor.Event.TheVariants.{Open as AtOpen, Pass as AtPass, Close as AtClose, End as AtEnd, Fault as AtFault, Undecided as AtUndecided}
-use Rattle.borsh_values.specs.declared.{cursor.Cursor.Cursor, cursor.Event.Event, faults.Reason.Reason, faults.Reason.TheVariants.Recursive as IsRecursive, frames.Frame.Frame, frames.Rest.Rest, frames.Rest.TheVariants.Copies, frames.Rest.TheVariants.Parts, frames.Step.Step, frames.Mark.Mark, frames.Mark.TheVariants.Empty, frames.Mark.TheVariants.Open, runs.Passed.Passed, fronts.Front.Front, fronts.Front.TheVariants.Value, fronts.Front.TheVariants.Ambiguous, nodes.Node.Node, preorder.Preorder.Preorder}
+use Rattle.borsh_values.specs.declared.{cursor.Cursor.Cursor, cursor.Event.Event, faults.PathStep.PathStep, faults.Reason.Reason, faults.Reason.TheVariants.Recursive as IsRecursive, frames.Frame.Frame, frames.Rest.Rest, frames.Rest.TheVariants.Copies, frames.Rest.TheVariants.Parts, frames.Step.Step, frames.Mark.Mark, frames.Mark.TheVariants.Empty, frames.Mark.TheVariants.Open, runs.Passed.Passed, fronts.Front.Front, fronts.Front.TheVariants.Value, fronts.Front.TheVariants.Ambiguous, nodes.Node.Node, preorder.Preorder.Preorder}
 use Rattle.borsh_plan.specs.Plan.{definitions_of, map_of, names_of, root_of}
-use Rattle.borsh_plan.specs.Names.{name_at, name_of}
+use Rattle.borsh_plan.specs.Names.{found_definition, name_at, name_of}
 use Rattle.borsh_plan.specs.declared.plan.Plan.{Plan}
 use Rattle.borsh_walks.proofs.Laws.{zero_member}
 use Rattle.borsh_walks.proofs.Propositions.{coded_name, zero_prop}
-use Rattle.borsh_values.specs.Cursor.{Fits, Going, Happens, IsBegun, IsCursor, IsInValue, IsOpenable, IsStopped, Moves, OpensFull, PassesCopies, before, name_in, pending_names, Begun, IsAnswerOf, Stays, StepsOn, KnownAs, NoneBegins, OnlyEmpty, Shows, past_copies, pending, remaining}
+use Rattle.borsh_values.specs.Cursor.{Fits, Going, Happens, IsBegun, IsCursor, IsInValue, IsOpenable, IsStopped, Moves, OpensFull, PassesCopies, before, name_in, pending_names, Begun, IsAnswerOf, Stays, StepsOn, KnownAs, NoneBegins, OnlyEmpty, Shows, past_copies, pending, remaining, frames}
 use Rattle.borsh_values.specs.Free.{IsFreeFront}
-use Rattle.borsh_values.specs.Tags.{AreTagTables, Tables, tables_prop}
+use Rattle.borsh_values.specs.Tags.{AreTagTables, Tables}
+use Rattle.borsh_values.proofs.TableProps.{tables_prop}
 use Rattle.borsh_plan.specs.declared.named.Named.{Named}
-use Rattle.borsh_plan.proofs.Laws.{reached}
+use Rattle.borsh_plan.proofs.Laws.{looked_up, reached, root_there}
 use Rattle.borsh_plan.proofs.Places.{name_there}
-use Rattle.borsh_values.specs.Nodes.{Opens}
+use Rattle.borsh_values.specs.Nodes.{IsStep, Opens}
 use Rattle.borsh_values.proofs.Answers.{before_whole, suffix_on, answers_no, is_front}
 use Rattle.borsh_values.proofs.Walk.{going_skip, known_empty, less_skip, going_reached, going_next, going_denied, room, going_new, going_on, going_past, going_pass, going_up, going_up_empty, going_back, going_leads, less_new, less_on, less_past, less_pass, next_names, left, passes, with_rest}
 use Rattle.borsh_values.proofs.MemberLaws.{members_head, no_more}
 use Rattle.borsh_values.specs.Membership.{IsFrontAnswer, StopsAt, IsUndecided, Why}
-use Rattle.borsh_values.specs.Preorder.{AreZero, GivesNode}
+use Rattle.borsh_values.specs.Preorder.{GivesNode, Level, PassesTo, here, past_end, passed, level_of}
 
 -- ---- each step of a cursor
 fits_prop : (ns : List Named) (r : Rest) → IsProp (Fits ns r)
@@ -82,12 +85,12 @@ module _ (c : Cursor) (s : Step) (g : StepsOn (names_of c.plan.now) c.frame.rest
   skips h r e =
       let ns = (names_of c.plan.now) in
       let p = passes ns c.frame.rest s g in
-      let copies : List (List ℕ) = replicate (suc p.0) (name_in c s.at) in
-      let names : pending_names c ≡ copies ++ (remaining ns (past_copies c.frame.rest s) ++ pending ns (reverse c.stack.items)) = ap (λ l. l ++ pending ns (reverse c.stack.items)) p.1 ∙ append_assoc copies (remaining ns (past_copies c.frame.rest s)) (pending ns (reverse c.stack.items)) in
       record {
         left = refl;
-        others = p.0;
-        names = names ∙ ap (λ t. copies ++ (remaining ns t ++ pending ns (reverse c.stack.items))) (sym e);
+        count = p.0;
+        others = r;
+        names = p.1 ∙ ap (λ t. replicate (suc p.0) (name_in c s.at) ++ remaining ns t) (sym e);
+        after = refl;
         moves = subst (λ t. Moves c (record c { frame = with_rest c.frame t })) (sym e) (∥∥₁_elim h le_prop λ i. less_skip c.plan.now i.going s g);
       }
 
@@ -96,16 +99,16 @@ module _ (c : Cursor) (s : Step) (g : StepsOn (names_of c.plan.now) c.frame.rest
 
   -- the next name is opened
   module _ (d : Definition) (n : ℕ) (r : Rest) (o : IsOpenable c s.at d n r) where
-    pub begun : (k : Cursor) (own : List ℕ) → own ≡ take n c.left.now → k.left.now ≡ drop n c.left.now → pending (names_of c.plan.now) (k.frame ∷ reverse k.stack.items) ≡ remaining (names_of c.plan.now) r ++ (remaining (names_of c.plan.now) s.others ++ pending (names_of c.plan.now) (reverse c.stack.items)) → IsBegun c k s.at d own
+    pub begun : (k : Cursor) (own : List ℕ) → own ≡ take n c.left.now → k.left.now ≡ drop n c.left.now → (let around = with_rest c.frame s.others ∷ reverse c.stack.items in (frames k ≡ record { at = s.at; start = length c.left.now; rest = r } ∷ around) ⊎ ((remaining (names_of c.plan.now) r ≡ []) × (frames k ≡ around))) → IsBegun c k s.at d own
     begun k own e l b = record {
       within = g.within;
       bytes = sym (take-append-drop n c.left.now) ∙ ap (λ z. z ++ drop n c.left.now) (sym e) ∙ ap (λ z. own ++ z) (sym l);
       defined = o.defined;
-      parts = remaining (names_of c.plan.now) r;
-      others = remaining (names_of c.plan.now) s.others;
+      parts = r;
+      others = s.others;
       opened = subst (λ z. Opens (definitions_of c.plan.now) (shape_of d) z (remaining (names_of c.plan.now) r)) (sym e) o.opens.0.opens;
       before = g.parts;
-      behind = b;
+      after = b;
     }
 
 module _ (c : Cursor) (i : IsCursor c) (s : Step) (g : StepsOn (names_of c.plan.now) c.frame.rest s) where
@@ -187,6 +190,19 @@ module _ (c : Cursor) (i : IsCursor c) (s : Step) (g : StepsOn (names_of c.plan.
             subst (λ b. left (map_of c.plan.now) (names_of c.plan.now) (length b) 0 (with_rest c.frame s.others ∷ reverse c.stack.items) < left (map_of c.plan.now) (names_of c.plan.now) (length c.left.now) c.idle (c.frame ∷ reverse c.stack.items)) (sym ea) (less_past c.plan.now i.going s g (shape_of d) o.shape n r o.opens more),
           )
 
+-- tables have no part in what happens
+pub other_tables_happen : {E : Type 0} (c new : Cursor) (ts : Tables) (r : Result Event E) → IfOk r (λ e. Happens (record c { tables = ts }) new e) → IfOk r (λ e. Happens c new e)
+other_tables_happen c new ts (Err e) h = tt
+other_tables_happen c new ts (Ok e) h = same e h
+  where
+    same : (e : Event) → Happens (record c { tables = ts }) new e → Happens c new e
+    same (AtOpen at d own) h = (record { within = h.0.within; bytes = h.0.bytes; defined = h.0.defined; parts = h.0.parts; others = h.0.others; opened = h.0.opened; before = h.0.before; after = h.0.after }, h.1)
+    same (AtPass at) h = record { left = h.left; count = h.count; others = h.others; names = h.names; after = h.after; moves = h.moves }
+    same AtClose h = h
+    same AtEnd h = h
+    same (AtFault at r) h = h
+    same (AtUndecided at) h = h
+
 -- a value begins only where a name comes next, and is that name's
 module _ (old new : Cursor) where
   pub none_full : (e : Event) → remaining (names_of old.plan.now) old.frame.rest ≡ [] → Happens old new e → OpensFull old e
@@ -195,7 +211,7 @@ module _ (old new : Cursor) where
   pub next_full : (s : Step) → StepsOn (names_of old.plan.now) old.frame.rest s → (IsZeroSize (definitions_of old.plan.now) (name_in old s.at) → ⊥) → (e : Event) → Happens old new e → OpensFull old e
   next_full s g some e h = λ at d own q z.
       let k = subst (λ e. Happens old new e) q h in
-      let b : remaining (names_of old.plan.now) old.frame.rest ≡ name_in old at ∷ k.0.others = k.0.before in
+      let b : remaining (names_of old.plan.now) old.frame.rest ≡ name_in old at ∷ remaining (names_of old.plan.now) k.0.others = k.0.before in
       let p : remaining (names_of old.plan.now) old.frame.rest ≡ name_in old s.at ∷ remaining (names_of old.plan.now) s.others = g.parts in
       let same : name_in old at ≡ name_in old s.at = cc in
       some (subst (λ x. IsZeroSize (definitions_of old.plan.now) x) same z)
@@ -216,7 +232,7 @@ module _ (c : Cursor) (i : IsCursor c) (none : remaining (names_of c.plan.now) c
 pub moves_on : (old new : Cursor) (e : Event) → IsAnswerOf new e None → Happens old new e → Moves old new
 moves_on old new (AtOpen at d own) a h = h.1
 moves_on old new (AtPass at) a h = h.moves
-moves_on old new AtClose a h = h.2
+moves_on old new AtClose a h = h.3
 moves_on old new AtEnd a h = cc
 moves_on old new (AtFault at r) a h = absurd a
 moves_on old new (AtUndecided at) a h = (let e = a.1 in cc)
@@ -249,50 +265,47 @@ last_is old new (AtUndecided at) a i s h w k =
     subst (λ z. IsFrontAnswer (definitions_of old.plan.now) (root_of old.plan.now) old.bytes.now z) (sym q) u
 
 -- ---- nodes of a value, one after another
-module _ (C : List ℕ → Option Shape) where
-  zeros_more : (xs ys : List (List ℕ)) → AreZero C xs → AreZero C ys → AreZero C (xs ++ ys)
-  zeros_more [] ys h k = k
-  zeros_more (x ∷ xs) ys h k = (h.0, zeros_more xs ys h.1 k)
+-- the levels of frames
+abbrev pub levels : Cursor → List Frame → List Level
+levels c fs = map (level_of c.plan.now c.bytes.now) fs
 
-  zero_copies : (k : ℕ) (x : List ℕ) → IsZeroSize C x → AreZero C (replicate k x)
-  zero_copies zero x z = tt
-  zero_copies (suc k) x z = (z, zero_copies k x z)
-
-  -- of the names all before these were passed
-  abbrev pub PassedTo : List (List ℕ) → List (List ℕ) → Type 0
-  PassedTo names now = (zeros : List (List ℕ)) × AreZero C zeros × (names ≡ zeros ++ now)
-
-  passed_copies : (names old new : List (List ℕ)) (k : ℕ) (x : List ℕ) → PassedTo names old → IsZeroSize C x → old ≡ replicate k x ++ new → PassedTo names new
-  passed_copies names old new k x h z e = (h.0 ++ replicate k x, zeros_more h.0 (replicate k x) h.1 (zero_copies k x z), h.2 ∙ ap (λ l. h.0 ++ l) e ∙ sym (append_assoc h.0 (replicate k x) new))
+-- copies of a name of zero size are passed
+pass_copies : {C : List ℕ → Option Shape} {old ls : List Level} {d : Option Definition} {bytes : List ℕ} (k : ℕ) (x : List ℕ) (xs : List (List ℕ)) → IsZeroSize C x → PassesTo C old ((d, bytes, replicate k x ++ xs) ∷ ls) → PassesTo C old ((d, bytes, xs) ∷ ls)
+pass_copies zero x xs z p = p
+pass_copies (suc k) x xs z p = pass_copies k x xs z (passed z p)
 
 -- so far no node is given: names of zero size are passed
 pub record NoneYet (old now : Cursor) : Type 0 where
   pub plan : now.plan ≡ old.plan
   pub bytes : now.bytes ≡ old.bytes
   pub left : now.left ≡ old.left
-  pub passed : PassedTo (definitions_of old.plan.now) (pending_names old) (pending_names now)
+  pub passes : PassesTo (definitions_of old.plan.now) (levels old (frames old)) (levels now (frames now))
 
 pub none_yet : (c : Cursor) → NoneYet c c
-none_yet c = record { plan = refl; bytes = refl; left = refl; passed = ([], tt, refl) }
+none_yet c = record { plan = refl; bytes = refl; left = refl; passes = here }
 
 module _ (old now : Cursor) (h : NoneYet old now) (new : Cursor) (s : Stays now new) where
-  onward : new.left ≡ now.left → PassedTo (definitions_of old.plan.now) (pending_names old) (pending (names_of now.plan.now) (new.frame ∷ reverse new.stack.items)) → NoneYet old new
-  onward e p = record {
+  -- the frame is another
+  onward : new.left ≡ now.left → (fs : List Frame) → frames new ≡ fs → PassesTo (definitions_of old.plan.now) (levels old (frames old)) (levels now fs) → NoneYet old new
+  onward e fs f p = record {
     plan = s.0 ∙ h.plan;
     bytes = s.1 ∙ h.bytes;
     left = e ∙ h.left;
-    passed = subst (λ (l : Bor Plan). PassedTo (definitions_of old.plan.now) (pending_names old) (pending (names_of l.now) (new.frame ∷ reverse new.stack.items))) (sym s.0) p;
+    passes = subst (λ (l : Bor Plan). PassesTo (definitions_of old.plan.now) (levels old (frames old)) (map (level_of l.now new.bytes.now) (frames new))) (sym s.0)
+        (subst (λ (b : Bor (List ℕ)). PassesTo (definitions_of old.plan.now) (levels old (frames old)) (map (level_of now.plan.now b.now) (frames new))) (sym s.1)
+        (subst (λ fs. PassesTo (definitions_of old.plan.now) (levels old (frames old)) (levels now fs)) (sym f) p));
   }
+
+  -- the names that are left of the frame
+  at_frame : (xs : List (List ℕ)) → remaining (names_of now.plan.now) now.frame.rest ≡ xs → PassesTo (definitions_of old.plan.now) (levels old (frames old)) ((let l = level_of now.plan.now now.bytes.now now.frame in (l.0, l.1, xs)) ∷ levels now (reverse now.stack.items))
+  at_frame xs e = subst (λ xs. PassesTo (definitions_of old.plan.now) (levels old (frames old)) ((let l = level_of now.plan.now now.bytes.now now.frame in (l.0, l.1, xs)) ∷ levels now (reverse now.stack.items))) e h.passes
 
   -- copies of one more are passed
   passed_on : (x : List ℕ) → IsZeroSize (definitions_of now.plan.now) x → PassesCopies now new x → NoneYet old new
   passed_on x z p =
       let zero : IsZeroSize (definitions_of old.plan.now) x = subst (λ (l : Bor Plan). IsZeroSize (definitions_of l.now) x) h.plan z in
-      onward p.left (passed_copies (definitions_of old.plan.now) (pending_names old) (pending_names now) (pending (names_of now.plan.now) (new.frame ∷ reverse new.stack.items)) (suc p.others) x h.passed zero p.names)
-
-  -- a value ends
-  closed : new.left ≡ now.left → pending (names_of now.plan.now) (new.frame ∷ reverse new.stack.items) ≡ pending_names now → NoneYet old new
-  closed e p = onward e (subst (λ ps. PassedTo (definitions_of old.plan.now) (pending_names old) ps) (sym p) h.passed)
+      let ns = names_of now.plan.now in
+      onward p.left (with_rest now.frame p.others ∷ reverse now.stack.items) p.after (pass_copies (suc p.count) x (remaining ns p.others) zero (at_frame (replicate (suc p.count) x ++ remaining ns p.others) p.names))
 
 module _ (old now : Cursor) (h : NoneYet old now) (i : ∥ IsInValue now ∥₁) where
   -- all values end
@@ -309,7 +322,7 @@ module _ (old now : Cursor) (h : NoneYet old now) (i : ∥ IsInValue now ∥₁)
     goes_on (inl p) =
         let zero = ∥∥₁_elim i (zero_prop (definitions_of now.plan.now)) λ v. (subst (λ e. Shows now e) p.1 (w v)).1 in
         passed_on old now h new s (name_in now p.0) zero (subst (λ e. Happens now new e) p.1 k)
-    goes_on (inr p) = let q = subst (λ e. Happens now new e) p k in closed old now h new s q.0 q.1
+    goes_on (inr p) = let q = subst (λ e. Happens now new e) p k in onward old now h new s q.0 (reverse now.stack.items) q.2 (past_end (at_frame old now h new s [] q.1))
 
     pub undecided : (at : ℕ) → ((r : Reason) × (e ≡ AtFault at r)) ⊎ (e ≡ AtUndecided at) → (x : List ℕ) → x ≡ name_in now at → IsUndecided (definitions_of old.plan.now) (root_of old.plan.now) x
     undecided at (inl p) x n = absurd (not_stopped (name_in now at) p.0 λ v. subst (λ e. Shows now e) p.1 (w v))
@@ -317,32 +330,78 @@ module _ (old now : Cursor) (h : NoneYet old now) (i : ∥ IsInValue now ∥₁)
         let q = subst (λ e. Happens now new e) p k in
         subst (λ (l : Bor Plan). IsUndecided (definitions_of l.now) (root_of l.now) x) h.plan (subst (λ y. IsUndecided (definitions_of now.plan.now) (root_of now.plan.now) y) (sym n) q.1)
 
+-- the level around the root
+pub root_level : (l : Plan) (bytes : List ℕ) → level_of l bytes (record { at = 0; start = length bytes + 1; rest = Copies 0 1 }) ≡ (None, bytes, root_of l ∷ [])
+root_level l bytes =
+    let far : leb (length bytes + 1) (length bytes) ≡ false = lt-leb (length bytes + 1) (length bytes) (omega arith) in
+    let none : length bytes - (length bytes + 1) ≡ 0 = omega arith in
+    rw (far, none, (root_there l).1) refl
+
 -- the next node
 module _ (old new : Preorder) (now : Cursor) (h : NoneYet old.cursor now) (i : ∥ IsInValue now ∥₁) (s : Stays now new.cursor) where
-  pub given : (n : Node) → IsBegun now new.cursor n.at n.definition.now n.bytes.now → n.name.now ≡ name_in now n.at → n.offset ≡ length now.bytes.now - length now.left.now → (IsZeroSize (definitions_of now.plan.now) (name_in now n.at) → ⊥) → GivesNode old new n
-  given n b name offset some =
-      let ns = names_of now.plan.now in
-      let own = n.bytes.now in
-      let others : List (List ℕ) = b.others ++ pending ns (reverse now.stack.items) in
-      let back : IsZeroSize (definitions_of old.cursor.plan.now) n.name.now → IsZeroSize (definitions_of now.plan.now) (name_in now n.at) = λ z. subst (λ x. IsZeroSize (definitions_of now.plan.now) x) name (subst (λ (l : Bor Plan). IsZeroSize (definitions_of l.now) n.name.now) (sym h.plan) z) in
-      let all = ap (λ b. length b.now) h.bytes in
-      let left = ap (λ b. length b.now) h.left in
-      let all_new = ap (λ b. length b.now) s.1 in
-      let split = ap length b.bytes ∙ length-append own new.cursor.left.now in
-      let within : length now.left.now ≤ length now.bytes.now = ∥∥₁_elim i le_prop λ v. v.cursor.within in
-      let there = name_there ns n.at b.within in
-      record {
-        place = ap (λ (l : Bor Plan). name_of (names_of l.now) n.at) (sym h.plan) ∙ there ∙ ap (λ x. Some x) (sym name);
-        defined = subst (λ (l : Bor Plan). get_by_text (map_of l.now) n.name.now ≡ Some n.definition.now) h.plan (ap (λ x. get_by_text (map_of now.plan.now) x) name ∙ b.defined);
-        bytes = ap (λ b. b.now) (sym h.left) ∙ b.bytes;
-        offset = omega (arith, offset, all, left);
-        next = omega (arith, all, left, all_new, split, within);
-        zeros = h.passed.0;
-        parts = b.parts;
-        others = others;
-        none = h.passed.1;
-        some = λ z. some (back z);
-        before = h.passed.2 ∙ ap (λ l. h.passed.0 ++ (l ++ pending ns (reverse now.stack.items))) b.before ∙ ap (λ x. h.passed.0 ++ (x ∷ others)) (sym name);
-        opens = subst (λ (l : Bor Plan). Opens (definitions_of l.now) (shape_of n.definition.now) own b.parts) h.plan b.opened;
-        after = ap (λ (l : Bor Plan). pending (names_of l.now) (new.cursor.frame ∷ reverse new.cursor.stack.items)) s.0 ∙ b.behind;
-      }
+  -- the step to the part that comes next
+  abbrev pub LeadsOn : Option PathStep → Type 0
+  LeadsOn step = let l = level_of now.plan.now now.bytes.now now.frame in IsStep l.0 l.1 (length l.2) step
+
+  module _ (n : Node) (b : IsBegun now new.cursor n.at n.definition.now n.bytes.now) (name : n.name.now ≡ name_in now n.at) where
+    low : length now.left.now ≤ length now.bytes.now
+    low = ∥∥₁_elim i le_prop λ v. v.cursor.within
+
+    abbrev parts : List (List ℕ)
+    parts = remaining (names_of now.plan.now) b.parts
+
+    abbrev beside : Level
+    beside = level_of now.plan.now now.bytes.now (with_rest now.frame b.others)
+
+    abbrev outer : List Level
+    outer = levels now (reverse now.stack.items)
+
+    -- the level of its parts
+    begins : level_of now.plan.now now.bytes.now (record { at = n.at; start = length now.left.now; rest = b.parts }) ≡ (Some n.definition.now, old.cursor.left.now, parts)
+    begins =
+        let there : found_definition (slice_get (names_of now.plan.now) n.at) ≡ Some n.definition.now = sym (looked_up now.plan.now (name_in now n.at) n.at (name_there (names_of now.plan.now) n.at b.within)) ∙ b.defined in
+        let rest : drop (length now.bytes.now - length now.left.now) now.bytes.now ≡ old.cursor.left.now = ∥∥₁_elim i (Coded-set coded_name _ _) (λ v. sym v.cursor.suffix) ∙ ap (λ b. b.now) h.left in
+        rw (le-leb (length now.left.now) (length now.bytes.now) low, there, rest) refl
+
+    after : PassesTo (definitions_of old.cursor.plan.now) ((Some n.definition.now, old.cursor.left.now, parts) ∷ beside ∷ outer) (levels now (frames new.cursor))
+    after =
+        let C = definitions_of old.cursor.plan.now in
+        let first : Level = (Some n.definition.now, old.cursor.left.now, parts) in
+        elim b.after [
+          | inl e ↦ subst (λ ls. PassesTo C (first ∷ beside ∷ outer) ls) (sym (ap (λ fs. levels now fs) e ∙ ap (λ l. l ∷ beside ∷ outer) begins)) here
+          | inr e ↦
+              let left : PassesTo C (first ∷ beside ∷ outer) (beside ∷ outer) = past_end (subst (λ (xs : List (List ℕ)). PassesTo C (first ∷ beside ∷ outer) ((Some n.definition.now, old.cursor.left.now, xs) ∷ beside ∷ outer)) e.0 here) in
+              subst (λ ls. PassesTo C (first ∷ beside ∷ outer) ls) (sym (ap (λ fs. levels now fs) e.1)) left
+        ]
+
+    pub given : n.offset ≡ length now.bytes.now - length now.left.now → (IsZeroSize (definitions_of now.plan.now) (name_in now n.at) → ⊥) → n.depth ≡ length now.stack.items → (step : Option PathStep) → LeadsOn step → new.path.steps.items ≡ take (n.depth - 1) old.path.steps.items ++ option_to_list step → GivesNode old new n
+    given offset some depth step leads path =
+        let ns = names_of now.plan.now in
+        let own = n.bytes.now in
+        let C = definitions_of old.cursor.plan.now in
+        let next : remaining ns now.frame.rest ≡ n.name.now ∷ beside.2 = b.before ∙ ap (λ x. x ∷ beside.2) (sym name) in
+        let back : IsZeroSize (definitions_of old.cursor.plan.now) n.name.now → IsZeroSize (definitions_of now.plan.now) (name_in now n.at) = λ z. subst (λ x. IsZeroSize (definitions_of now.plan.now) x) name (subst (λ (l : Bor Plan). IsZeroSize (definitions_of l.now) n.name.now) (sym h.plan) z) in
+        let all = ap (λ b. length b.now) h.bytes in
+        let left = ap (λ b. length b.now) h.left in
+        let all_new = ap (λ b. length b.now) s.1 in
+        let split = ap length b.bytes ∙ length-append own new.cursor.left.now in
+        let there = name_there ns n.at b.within in
+        record {
+          place = ap (λ (l : Bor Plan). name_of (names_of l.now) n.at) (sym h.plan) ∙ there ∙ ap (λ x. Some x) (sym name);
+          defined = subst (λ (l : Bor Plan). get_by_text (map_of l.now) n.name.now ≡ Some n.definition.now) h.plan (ap (λ x. get_by_text (map_of now.plan.now) x) name ∙ b.defined);
+          bytes = ap (λ b. b.now) (sym h.left) ∙ b.bytes;
+          offset = omega (arith, offset, all, left);
+          next = omega (arith, all, left, all_new, split, low);
+          some = λ z. some (back z);
+          around = beside;
+          outer = outer;
+          before = at_frame old.cursor now h new.cursor s (n.name.now ∷ beside.2) next;
+          parts = parts;
+          opens = subst (λ (l : Bor Plan). Opens (definitions_of l.now) (shape_of n.definition.now) own parts) h.plan b.opened;
+          after = subst (λ (l : Bor Plan). PassesTo C ((Some n.definition.now, old.cursor.left.now, parts) ∷ beside ∷ outer) (map (level_of l.now new.cursor.bytes.now) (frames new.cursor))) (sym s.0)
+              (subst (λ (bytes : Bor (List ℕ)). PassesTo C ((Some n.definition.now, old.cursor.left.now, parts) ∷ beside ∷ outer) (map (level_of now.plan.now bytes.now) (frames new.cursor))) (sym s.1) after);
+          depth = depth ∙ sym (length-map (reverse now.stack.items) (level_of now.plan.now now.bytes.now) ∙ length-reverse now.stack.items);
+          step = step;
+          leads = subst (λ (xs : List (List ℕ)). IsStep beside.0 beside.1 (length xs) step) next leads;
+          path = path;
+        }

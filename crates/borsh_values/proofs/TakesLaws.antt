@@ -13,7 +13,7 @@ use Rattle.borsh_walks.proofs.Laws.{length-tag, tag-zero, among-replicate, varia
 use Rattle.borsh_values.specs.Unambiguous.{DistinctTags}
 use Rattle.borsh_values.specs.Nodes.{packed_size, OpensElements, Opens}
 use Rattle.borsh_values.specs.Membership.{BeginsWith, Refuses, few_for_elements, few_for_primitive, other_count, other_tag}
-use Rattle.borsh_values.specs.Cursor.{remaining, required_by, OnlyEmpty, AllOnlyEmpty, OpensOnce, NoneBegins, Takes, TakesElements, OpensAs}
+use Rattle.borsh_values.specs.Cursor.{remaining, required_by, OnlyEmpty, AllOnlyEmpty, OpensOnce, HasOneTag, NoneBegins, Takes, TakesElements, OpensAs}
 use Rattle.borsh_values.specs.Tags.{FoundAs}
 use Rattle.borsh_values.proofs.TagLaws.{listed_at, only_name}
 use Rattle.borsh_values.proofs.MemberLaws.{packed_is, copies_are, same_front, one_count, member_as, only_empty_members, opens_once, once_variant}
@@ -65,6 +65,7 @@ takes_parts C qs bytes = record {
   only_empty = λ _ x c a. parts_only_empty C c a;
   opens = (refl, refl);
   once = opens_once C (product qs) [] qs tt (refl, refl);
+  alone = tt;
   mentioned = λ p a. a;
   needs = λ _ p a. a;
 }
@@ -75,6 +76,7 @@ takes_primitive C n bytes low small none = record {
   only_empty = λ z x c a. primitive_only_empty C z none c;
   opens = (length_take n bytes low, small, refl);
   once = opens_once C (primitive n) (take n bytes) [] tt (length_take n bytes low, small, refl);
+  alone = tt;
   mentioned = λ p a. elim a [ ];
   needs = λ _ p a. elim a [ ];
 }
@@ -149,6 +151,7 @@ takes_sequence C w lo hi k e bytes packed unambiguous low high within t =
       only_empty = λ z x c a. sequence_only_empty C w lo hi k e unambiguous low high z c a;
       opens = opened;
       once = opens_once C (sequence w lo hi e) (take w bytes) (replicate k e) unambiguous opened;
+      alone = tt;
       mentioned = λ p a. subst (λ y. IsIn p (y ∷ [])) (sym (among-replicate k a)) first;
       needs = sequence_needs w lo hi k e unambiguous low high;
     }
@@ -185,6 +188,7 @@ module _ (C : List ℕ → Option Shape) (w lo hi k n : ℕ) (e : List ℕ) (pac
       only_empty = λ z x c a. packed_only_empty z c;
       opens = packed_opened;
       once = opens_once C (sequence w lo hi e) (take (w + k * suc n) bytes) [] unambiguous packed_opened;
+      alone = tt;
       mentioned = λ p a. elim a [ ];
       needs = λ _ p a. elim a [ ];
     }
@@ -225,12 +229,13 @@ in_variants : {k : ℤ} {p q : List ℕ} {vs : List (ℤ × List ℕ)} → IsLis
 in_variants listed first = variant-listed listed
 in_variants listed (later a) = elim a [ ]
 
-pub takes_choice : (C : List ℕ → Option Shape) (w : ℕ) (k : ℤ) (p bytes : List ℕ) (vs : List (ℤ × List ℕ)) → IsListedVariant k p vs → ((j : ℤ) (q : List ℕ) → IsListedVariant j q vs → tag w j ≡ tag w k → q ≡ p) → (w ≡ 0 → (q : List ℕ) → IsIn q (p ∷ []) → IsIn q (required_by (choice w vs))) → (w ≡ 0 → vs ≡ (k, p) ∷ []) → w ≤ length bytes → tag w k ≡ take w bytes → Takes C (choice w vs) bytes w (p ∷ [])
-takes_choice C w k p bytes vs listed one needs single within t = record {
+pub takes_choice : (C : List ℕ → Option Shape) (w : ℕ) (k : ℤ) (p bytes : List ℕ) (vs : List (ℤ × List ℕ)) → IsListedVariant k p vs → ((j : ℤ) (q : List ℕ) → IsListedVariant j q vs → tag w j ≡ tag w k → q ≡ p) → (w ≡ 0 → (q : List ℕ) → IsIn q (p ∷ []) → IsIn q (required_by (choice w vs))) → (w ≡ 0 → vs ≡ (k, p) ∷ []) → w ≤ length bytes → tag w k ≡ take w bytes → HasOneTag (choice w vs) (take w bytes) → Takes C (choice w vs) bytes w (p ∷ [])
+takes_choice C w k p bytes vs listed one needs single within t alone = record {
   within = within;
   only_empty = λ z x c a. choice_only_empty C w k p vs listed one single z c (a p first);
   opens = (k, p, listed, sym t, refl);
   once = subst (λ b. OpensOnce C (choice w vs) b (p ∷ [])) t (once_variant C w vs k p one);
+  alone = alone;
   mentioned = λ q a. in_variants listed a;
   needs = needs;
 }
@@ -309,7 +314,8 @@ found_choice C w size i p bytes vs z within g at =
     (λ j q a b. f.2 j q a (ap (λ i. tag i j) l ∙ b ∙ k ∙ sym t))
     (λ zero_is q a. single_needs w k0 p vs (f.3 (t ∙ no_front w bytes zero_is)) zero_is q a)
     (λ zero_is. f.3 (t ∙ no_front w bytes zero_is))
-    (omega arith) k)
+    (omega arith) k
+    (λ m n j k p q a b c d. g.4 m j p a (ap (λ i. tag i j) l ∙ c ∙ sym t) ∙ sym (g.4 n k q b (ap (λ i. tag i k) l ∙ d ∙ sym t))))
 
 pub found_none_choice : (w size : ℕ) (bytes : List ℕ) (vs : List (ℤ × List ℕ)) → size ≡ w → size ≤ length bytes → FoundAs vs (take size bytes) Nothing → (C : List ℕ → Option Shape) (x : List ℕ) → C x ≡ Some (choice w vs) → (more : List ℕ) → BeginsWith C x (bytes ++ more) → ⊥
 found_none_choice w size bytes vs z within f C x c more m =

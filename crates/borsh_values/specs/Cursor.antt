@@ -1,7 +1,7 @@
 -- Where a walk over the bytes of a value is, and what its steps find.
-use Rattle.std.specs.Prelude.{◌≡◌, ◌≢◌, AllPairs, ℕ, Bool, true, false, suc, zero, ◌+◌, ◌*◌, ◌≤◌, ◌<◌, ◌^◌, List, [], ◌∷◌, ◌++◌, length, take, drop, replicate, sum_by, Option, Some, None, MatchOption, get_or, ⊤, ◌⊎◌, ◌-◌, reverse}
+use Rattle.std.specs.Prelude.{◌≡◌, ◌≢◌, AllPairs, ℕ, ℤ, slice_get, Bool, true, false, suc, zero, ◌+◌, ◌*◌, ◌≤◌, ◌<◌, ◌^◌, List, [], ◌∷◌, ◌++◌, length, take, drop, replicate, sum_by, Option, Some, None, MatchOption, get_or, ⊤, ◌⊎◌, ◌-◌, reverse}
 use Rattle.std.specs.{Borrow.Bor, BTreeMap.btree_map_len, BTreeMap.get_by_text}
-use Rattle.borsh_walks.specs.Container.{Shape, sequence, product, choice, IsIn, Member, references, IsZeroSize, IsDefined, Members, Reached}
+use Rattle.borsh_walks.specs.Container.{Shape, sequence, product, choice, tag, IsIn, Member, references, IsZeroSize, IsDefined, Members, Reached}
 use Rattle.borsh_walks.specs.{RulesAnswer.KeepsWidths, RulesAnswer.IsWidth, Definitions.shape_of, declared.definition.Definition.Definition}
 use Rattle.borsh_walks.proofs.Measure.{work}
 use Rattle.borsh_plan.specs.Names.{name_at, shape_at, parts_in}
@@ -77,6 +77,11 @@ AllOnlyEmpty C ps = (p : List ℕ) → IsIn p ps → OnlyEmpty C p
 abbrev pub OpensOnce : (List ℕ → Option Shape) → Shape → List ℕ → List (List ℕ) → Type 0
 OpensOnce C d own ns = (b : List ℕ) (ms : List (List ℕ)) (r s : List ℕ) → Opens C d b ms → b ++ r ≡ own ++ s → (b ≡ own) × (r ≡ s) × (ms ≡ ns)
 
+-- no two variants of an enum have the tag that these own bytes are
+abbrev pub HasOneTag : Shape → List ℕ → Type 0
+HasOneTag (choice w vs) own = (m n : ℕ) (j k : ℤ) (p q : List ℕ) → slice_get vs m ≡ Some (j, p) → slice_get vs n ≡ Some (k, q) → tag w j ≡ own → tag w k ≡ own → m ≡ n
+HasOneTag d own = ⊤
+
 -- no member of the name begins with the bytes, nor with these and more, unless the reason is that they are too few
 abbrev pub NoneBegins : (List ℕ → Option Shape) → Reason → List ℕ → List ℕ → Type 0
 NoneBegins C r x bytes = (more : List ℕ) → (r ≡ TooShort → more ≡ []) → BeginsWith C x (bytes ++ more) → ⊥
@@ -90,6 +95,7 @@ pub record Takes (C : List ℕ → Option Shape) (d : Shape) (bytes : List ℕ) 
   -- the n bytes are those that the definition encodes before its parts ns, and no other bytes are
   pub opens : Opens C d (take n bytes) ns
   pub once : OpensOnce C d (take n bytes) ns
+  pub alone : HasOneTag d (take n bytes)
   -- the names are written in the definition
   pub mentioned : (p : List ℕ) → IsIn p ns → IsIn p (references d)
   -- where no byte is taken, they are required
@@ -181,6 +187,10 @@ pub record IsInValue (c : Cursor) : Type 0 where
   pub cursor : IsCursor c
   pub member : Member (definitions_of c.plan.now) (root_of c.plan.now) c.bytes.now
 
+-- the innermost value that is read, and those around it
+abbrev pub frames : Cursor → List Frame
+frames c = c.frame ∷ reverse c.stack.items
+
 -- ---- at most so many steps are left
 abbrev pub steps_of : List Named → List Frame → ℕ
 steps_of ns fs = sum_by (λ f. step_count ns f.rest) fs
@@ -190,7 +200,7 @@ abbrev pub opens : ℕ → ℕ → ℕ → ℕ
 opens D len idle = len * suc D + (D - idle)
 
 abbrev pub steps_left : Cursor → ℕ
-steps_left c = (3 + work references (map_of c.plan.now).entries) * opens (btree_map_len (map_of c.plan.now)) (length c.left.now) c.idle + steps_of (names_of c.plan.now) (c.frame ∷ reverse c.stack.items)
+steps_left c = (3 + work references (map_of c.plan.now).entries) * opens (btree_map_len (map_of c.plan.now)) (length c.left.now) c.idle + steps_of (names_of c.plan.now) (frames c)
 
 -- ---- steps
 abbrev pub name_in : Cursor → ℕ → List ℕ
@@ -198,7 +208,7 @@ name_in c at = name_at (names_of c.plan.now) at
 
 -- the names that are still to be read
 abbrev pub pending_names : Cursor → List (List ℕ)
-pending_names c = pending (names_of c.plan.now) (c.frame ∷ reverse c.stack.items)
+pending_names c = pending (names_of c.plan.now) (frames c)
 
 -- the plan and all bytes stay
 abbrev pub Stays : Cursor → Cursor → Type 0
@@ -227,24 +237,28 @@ pub record IsBegun (old new : Cursor) (at : ℕ) (d : Definition) (own : List �
   pub within : at < length (names_of old.plan.now)
   pub bytes : old.left.now ≡ own ++ new.left.now
   pub defined : get_by_text (map_of old.plan.now) (name_in old at) ≡ Some d
-  pub parts : List (List ℕ)
-  pub others : List (List ℕ)
-  pub opened : Opens (definitions_of old.plan.now) (shape_of d) own parts
-  pub before : remaining (names_of old.plan.now) old.frame.rest ≡ name_in old at ∷ others
-  pub behind : pending (names_of old.plan.now) (new.frame ∷ reverse new.stack.items) ≡ parts ++ (others ++ pending (names_of old.plan.now) (reverse old.stack.items))
+  pub parts : Rest
+  pub others : Rest
+  pub opened : Opens (definitions_of old.plan.now) (shape_of d) own (remaining (names_of old.plan.now) parts)
+  pub before : remaining (names_of old.plan.now) old.frame.rest ≡ name_in old at ∷ remaining (names_of old.plan.now) others
+  -- it is the innermost, but may be left out where it has no parts
+  pub after : let around = record old.frame { rest = others } ∷ reverse old.stack.items in
+      (frames new ≡ record { at = at; start = length old.left.now; rest = parts } ∷ around) ⊎ ((remaining (names_of old.plan.now) parts ≡ []) × (frames new ≡ around))
 
 -- copies of the name at the place are passed, without a byte
 pub record PassesCopies (old new : Cursor) (x : List ℕ) : Type 0 where
   pub left : new.left ≡ old.left
-  pub others : ℕ
-  pub names : pending_names old ≡ replicate (suc others) x ++ pending (names_of old.plan.now) (new.frame ∷ reverse new.stack.items)
+  pub count : ℕ
+  pub others : Rest
+  pub names : remaining (names_of old.plan.now) old.frame.rest ≡ replicate (suc count) x ++ remaining (names_of old.plan.now) others
+  pub after : frames new ≡ record old.frame { rest = others } ∷ reverse old.stack.items
   pub moves : Moves old new
 
 -- what a step finds, and where it leads
 abbrev pub Happens : Cursor → Cursor → Event → Type 0
 Happens old new (Open at d own) = IsBegun old new at d.now own.now × Moves old new
 Happens old new (Pass at) = PassesCopies old new (name_in old at)
-Happens old new Close = (new.left ≡ old.left) × (pending (names_of old.plan.now) (new.frame ∷ reverse new.stack.items) ≡ pending_names old) × Moves old new
+Happens old new Close = (new.left ≡ old.left) × (remaining (names_of old.plan.now) old.frame.rest ≡ []) × (frames new ≡ reverse old.stack.items) × Moves old new
 Happens old new End = (new.left ≡ old.left) × (pending_names old ≡ [])
 Happens old new (Fault at r) = new.left ≡ old.left
 Happens old new (Undecided at) = (new.left ≡ old.left) × IsUndecided (definitions_of old.plan.now) (root_of old.plan.now) (name_in old at)

@@ -1,13 +1,7 @@
 -- What is answered of bytes: whether they are a value, how they begin, and where and why they stop being one.
-use Rattle.std.specs.Prelude.{◌≡◌, ℕ, ◌+◌, ◌*◌, ◌≤◌, ◌<◌, ℤ, pos, List, [], ◌∷◌, ◌++◌, length, take, drop, Option, Some, None, ⊤, Result, IfOk, ◌-◌}
-use Rattle.borsh_walks.specs.Container.{Shape, primitive, sequence, choice, IsListedVariant, tag, Member, Reached, IsValid}
-use Rattle.borsh_walks.specs.RulesAnswer.{KeepsWidths}
-use Rattle.borsh_values.specs.declared.faults.Reason.TheVariants.{BytesLeft, TooShort, Count, Tag, MissingDefinition, Recursive}
-use Rattle.borsh_values.specs.declared.members.Membership.TheVariants.{Member as IsMember, NoMember, Ambiguous}
-use Rattle.borsh_values.specs.declared.fronts.Front.TheVariants.{Value, TooShort as ShortFront, NoMember as NoFront, Ambiguous as Unclear}
-use Rattle.borsh_values.specs.Nodes.{packed_size, Opens, Reads}
-use Rattle.borsh_values.specs.declared.{faults.Fault.Fault, faults.Reason.Reason, members.Membership.Membership, fronts.Front.Front}
-use Rattle.borsh_values.specs.Unambiguous.{UnambiguousShape, IsUnambiguous}
+use Rattle.std.specs.{Prelude.{◌≡◌, ℕ, ◌+◌, ◌*◌, ◌≤◌, ◌<◌, ℤ, pos, List, [], ◌∷◌, ◌++◌, length, take, drop, Option, Some, None, Result, IfOk, ◌-◌}, Borrow.{Bor}}
+use Rattle.borsh_walks.specs.{Container.{Shape, primitive, sequence, choice, IsListedVariant, tag, Member, Reached, IsValid}, RulesAnswer.{KeepsWidths}}
+use Rattle.borsh_values.specs.{declared.faults.Reason.TheVariants.{BytesLeft, TooShort, Count, Tag, MissingDefinition, Recursive}, declared.members.Membership.TheVariants.{Member as IsMember, NoMember, Ambiguous}, declared.fronts.Front.TheVariants.{Value, TooShort as ShortFront, NoMember as NoFront, Ambiguous as Unclear}, Nodes.{packed_size, Opens, Reads}, declared.{faults.Fault.Fault, faults.Reason.Reason, members.Membership.Membership, fronts.Front.Front}, Unambiguous.{UnambiguousShape, IsUnambiguous}}
 
 module _ (C : List ℕ → Option Shape) where
   -- some of the first bytes, or all, are a member of the name
@@ -64,11 +58,6 @@ IsUndecided C root x = (d : Shape) × Reached C root x × (C x ≡ Some d) × (U
 abbrev pub IsAmbiguousName : (List ℕ → Option Shape) → List ℕ → List ℕ → Type 0
 IsAmbiguousName C root x = (d : Shape) × Reached C root x × (C x ≡ Some d) × (UnambiguousShape d → ⊥)
 
--- yes or no
-abbrev pub IsDecided : Membership → Type 0
-IsDecided (Ambiguous x) = ⊥
-IsDecided a = ⊤
-
 module _ (C : List ℕ → Option Shape) (root bytes : List ℕ) where
   -- each answer is right
   abbrev pub IsAnswer : Membership → Type 0
@@ -81,7 +70,7 @@ module _ (C : List ℕ → Option Shape) (root bytes : List ℕ) where
     -- an answer is right
     pub answer : IfOk result (λ a. IsAnswer a)
     -- a container that is valid and unambiguous gets yes or no
-    pub decided : IsValid C root → IsUnambiguous C root → IfOk result (λ a. IsDecided a)
+    pub decided : IsValid C root → IsUnambiguous C root → IfOk result (λ a. (x : Bor (List ℕ)) → a ≡ Ambiguous x → ⊥)
 
 -- the fault is of the name and the reason, where so many of all bytes are left
 abbrev pub IsFaultAt : ℕ → ℕ → List ℕ → Reason → Fault → Type 0
@@ -92,11 +81,6 @@ abbrev pub StopsAt : ℕ → ℕ → List ℕ → Reason → Front → Type 0
 StopsAt all left name reason (ShortFront f) = IsFaultAt all left name reason f × (reason ≡ TooShort)
 StopsAt all left name reason (NoFront f) = IsFaultAt all left name reason f × (reason ≡ TooShort → ⊥)
 StopsAt all left name reason a = ⊥
-
--- yes, no, or too short
-abbrev pub IsDecidedFront : Front → Type 0
-IsDecidedFront (Unclear x) = ⊥
-IsDecidedFront a = ⊤
 
 module _ (C : List ℕ → Option Shape) (root bytes : List ℕ) where
   -- the first n bytes are a member, and no other front is, whatever bytes follow
@@ -122,4 +106,4 @@ module _ (C : List ℕ → Option Shape) (root bytes : List ℕ) where
   -- the answer is right, and a container that is valid and unambiguous gets one
   pub record AnswersFront {E : Type 0} (result : Result Front E) : Type 0 where
     pub answer : IfOk result (λ a. IsFrontAnswer a)
-    pub decided : IsValid C root → IsUnambiguous C root → IfOk result (λ a. IsDecidedFront a)
+    pub decided : IsValid C root → IsUnambiguous C root → IfOk result (λ a. (x : Bor (List ℕ)) → a ≡ Unclear x → ⊥)

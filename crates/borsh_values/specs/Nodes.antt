@@ -1,6 +1,9 @@
 -- The nodes of a value: its parts in preorder, each with the bytes that it encodes before its own parts.
-use Rattle.std.specs.Prelude.{◌≡◌, ℕ, suc, zero, ◌*◌, ◌<◌, ◌≤◌, ℤ, pos, List, [], ◌∷◌, ◌++◌, length, replicate, take, drop, Option, Some, None, MatchOption, All}
-use Rattle.borsh_walks.specs.Container.{Shape, primitive, sequence, product, choice, IsListedVariant, tag}
+use Rattle.std.specs.Prelude.{◌≡◌, ℕ, suc, zero, ◌*◌, ◌-◌, ◌<◌, ◌≤◌, ℤ, pos, List, [], ◌∷◌, ◌++◌, length, replicate, take, drop, Option, Some, None, MatchOption, option_and_then, option_map, slice_get, string_bytes, All}
+use Rattle.std.specs.Borrow.{Bor}
+use Rattle.borsh_walks.specs.Container.{Shape, primitive, sequence, product, choice, IsListedVariant, references, tag}
+use Rattle.borsh_walks.specs.{Definitions.shape_of, declared.definition.Definition.Definition, declared.definition.Definition.TheVariants.Sequence, declared.definition.Definition.TheVariants.Enum, declared.definition.Definition.TheVariants.Struct, declared.definition.Fields.TheVariants.NamedFields}
+use Rattle.borsh_values.specs.declared.faults.{PathStep.PathStep, PathStep.TheVariants.Field, PathStep.TheVariants.Place, PathStep.TheVariants.Element, PathStep.TheVariants.Variant}
 use Rattle.borsh_values.specs.Tags.{number_of, IsVariantIndex}
 
 -- how many bytes an element has, by the definition of its name, if elements are listed with their sequence: primitives of some bytes; 0 for others
@@ -36,6 +39,14 @@ IsCountOf d own found = found ≡ None
 abbrev pub AreElementsOf : Shape → List ℕ → List ℕ → Type 0
 AreElementsOf (sequence w lo hi e) own es = es ≡ drop w own
 AreElementsOf d own es = es ≡ own
+
+-- the step to the part with which n are left of a value of this definition, which these bytes begin with; none where they say no count or variant
+abbrev pub IsStep : Option Definition → List ℕ → ℕ → Option PathStep → Type 0
+IsStep None bytes n s = s ≡ None
+IsStep (Some (Sequence w r e)) bytes n s = (count : Option ℕ) × IsCountOf (shape_of (Sequence w r e)) bytes count × (s ≡ option_map (λ k. Element (k - n)) count)
+IsStep (Some (Enum w vs)) bytes n s = (found : Option ℕ) × (name : Option (Bor (List ℕ))) × IsVariantOf (shape_of (Enum w vs)) bytes found × (s ≡ option_map Variant name) × (option_map (λ x. x.now) name ≡ option_and_then (λ i. option_map (λ v. string_bytes v.1) (slice_get vs.items i)) found)
+IsStep (Some (Struct (NamedFields fs))) bytes n s = (name : Option (Bor (List ℕ))) × (s ≡ option_map Field name) × (option_map (λ x. x.now) name ≡ option_map (λ f. string_bytes f.0) (slice_get fs.items (length fs.items - n)))
+IsStep (Some d) bytes n s = s ≡ Some (Place (length (references (shape_of d)) - n))
 
 module _ (C : List ℕ → Option Shape) where
   -- bytes are read of the names ps and the names qs are left: each definition in turn is opened, and its parts come next

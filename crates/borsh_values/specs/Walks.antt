@@ -6,7 +6,7 @@ use Rattle.borsh_walks.specs.{declared.definition.Definition.Definition, Definit
 use Rattle.borsh_plan.specs.Plan.{map_of, names_of, root_of}
 use Rattle.borsh_plan.specs.Names.{name_of}
 use Rattle.borsh_values.specs.declared.{frames.Opened.Opened, frames.Opened.TheVariants.Taken, nodes.Node.Node, walker.Walker.Walker}
-use Rattle.borsh_values.specs.{Membership.IsUndecided, Nodes.Opens, Nodes.Reads, Cursor.OpensOnce}
+use Rattle.borsh_values.specs.{Membership.IsUndecided, Nodes.Opens, Nodes.Reads, Cursor.HasOneTag, Cursor.OpensOnce}
 
 -- of a member of the root the bytes `done` are read, these names come next, and the bytes `left` are members of them
 abbrev pub IsReadTo : (List ℕ → Option Shape) → List ℕ → List ℕ → List (List ℕ) → List ℕ → Type 0
@@ -30,10 +30,10 @@ module _ {A : Type 0} (m : BTreeMap (String A) Definition) where
     pub bytes : old.left.now ≡ n.bytes.now ++ new.left.now
     pub offset : n.offset ≡ old.offset
     pub next : new.offset ≡ old.offset + length n.bytes.now
-    -- the parts of the value
     pub parts : List (List ℕ)
     pub opens : Opens (definitions_in m) (shape_of n.definition.now) n.bytes.now parts
     pub once : OpensOnce (definitions_in m) (shape_of n.definition.now) n.bytes.now parts
+    pub alone : HasOneTag (shape_of n.definition.now) n.bytes.now
     pub counted : IsCounted (shape_of n.definition.now)
     -- own bytes are taken: whichever the parts are, they come next
     pub onward : (root done : List ℕ) (ns ps : List (List ℕ)) → Opens (definitions_in m) (shape_of n.definition.now) n.bytes.now ns → IsReadTo (definitions_in m) root done (x ∷ ps) old.left.now → IsReadTo (definitions_in m) root (done ++ n.bytes.now) (ns ++ ps) new.left.now

@@ -1,7 +1,8 @@
 // The one walk over the bytes of a value.
-ghost use Rattle.borsh_plan.specs.Plan.{definitions_of, names_of, root_of};
-ghost use Rattle.borsh_values.specs.Cursor.{Happens, IsCursor, IsInValue, IsOpenable, Moves, OpensFull, Shows, Stays, pending_names, StepsOn, KnownAs, remaining};
-ghost use Rattle.std.specs.Prelude.{IfOk, None, Some, [], false, true, ◌∷◌, ◌-◌, ◌<◌, ◌≤◌, ◌≡◌, drop, get_or, length, replicate, slice_set, take};
+ghost use Rattle.borsh_plan.specs.Plan.{definitions_of, names_of};
+ghost use Rattle.borsh_values.specs.Cursor.{Happens, IsCursor, IsInValue, IsOpenable, Moves, OpensFull, Shows, Stays, StepsOn, KnownAs, frames, remaining};
+ghost use Rattle.borsh_values.specs.declared.frames.{Frame.Frame, Rest.TheVariants.Copies};
+ghost use Rattle.std.specs.Prelude.{IfOk, None, Some, [], false, true, ◌∷◌, ◌+◌, ◌-◌, ◌<◌, ◌≤◌, ◌≡◌, drop, get_or, length, replicate, slice_set, take};
 
 use crate::faults::{Path, Reason, path_to};
 use crate::frames::{Frame, Mark, Opened, Rest, Step, after_copies, next_part};
@@ -98,7 +99,8 @@ impl<'a, 'p, 'b> Cursor<'a, 'p, 'b> {
         ensures plan { IfOk result (λ c. c.plan ≡ plan.entry) }
         ensures bytes { IfOk result (λ c. c.bytes ≡ bytes.entry) }
         ensures left { IfOk result (λ c. c.left ≡ bytes.entry) }
-        ensures begins { IfOk result (λ c. pending_names c ≡ root_of c.plan.now ∷ []) }
+        ensures begins { let first : Frame = record { at = 0; start = length bytes.now + 1; rest = Copies 0 1 } in
+            IfOk result (λ c. frames c ≡ first ∷ []) }
     {
         let marks = unmarked(alloc, plan.len())?;
         Ok(Cursor {
@@ -127,7 +129,9 @@ impl<'a, 'p, 'b> Cursor<'a, 'p, 'b> {
     }
 
     /// How many values the next one is in.
-    pub fn depth(&self) -> usize {
+    pub fn depth(&self) -> usize
+        ensures { result ≡ length self.now.stack.items }
+    {
         self.stack.len()
     }
 
@@ -137,7 +141,9 @@ impl<'a, 'p, 'b> Cursor<'a, 'p, 'b> {
     }
 
     /// The value that the next one is a part of.
-    pub fn around(&self) -> Frame {
+    pub fn around(&self) -> Frame
+        ensures { result ≡ self.now.frame }
+    {
         self.frame
     }
 

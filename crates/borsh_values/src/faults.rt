@@ -1,8 +1,12 @@
 // Where bytes stop being a member, and why.
+ghost use Rattle.borsh_plan.specs.Plan.{names_of};
+ghost use Rattle.borsh_values.specs.{Cursor.remaining, Nodes.IsStep, Preorder.level_of};
+ghost use Rattle.std.specs.Prelude.{length, ◌≡◌};
 
+use crate::cursor::after;
 use crate::frames::{Frame, Rest};
 use crate::names::Name;
-use crate::tags::{number, variant_at};
+use crate::nodes::{count_in, variant_in};
 use borsh_plan::Plan;
 use borsh_walks::{Definition, Fields};
 use std::alloc::{AllocError, Global};
@@ -96,59 +100,40 @@ impl<'a> fmt::Display for Fault<'a> {
     }
 }
 
-// The bytes at a place, where there are as many.
-fn bytes_at(bytes: &[u8], place: usize, width: u8) -> &[u8] {
-    let width = usize::from(width);
-    if place <= bytes.len() && width <= bytes.len() - place {
-        &bytes[place..place + width]
-    } else {
-        &bytes[..0]
-    }
-}
-
-// The step to a part of which `others` follow, in a value of this definition that begins at `place`.
-fn part_step<'a>(
-    definition: &'a Definition,
-    bytes: &[u8],
-    place: usize,
-    others: u64,
-) -> Option<PathStep<'a>> {
-    match definition {
-        Definition::Sequence {
-            length_width,
-            length_range,
-            ..
-        } => {
-            let own = bytes_at(bytes, place, *length_width);
-            let count = if own.is_empty() || own.len() > 8 {
-                length_range.start
-            } else {
-                number(own)
-            };
-            let left = count.checked_sub(others)?;
-            Some(PathStep::Element(left.checked_sub(1)?))
-        }
-        Definition::Enum {
-            tag_width,
-            variants,
-        } => {
-            let index = variant_at(variants, bytes_at(bytes, place, *tag_width))?;
-            let (_, name, _) = variants.get(index)?;
-            Some(PathStep::Variant(name.as_str()))
-        }
-        _ => None,
+// How many names are still to be read.
+fn count_left(plan: &Plan<'_>, rest: Rest) -> u64
+    ensures { result ≡ length (remaining (names_of plan.now) rest) }
+{
+    match rest {
+        Rest::Copies(_, count) => count,
+        Rest::Parts(at, next) => plan.parts(at).len().saturating_sub(next) as u64,
     }
 }
 
 /// The step from the value of a frame to the part that comes next.
-pub fn next_step<'a>(plan: &Plan<'a>, bytes: &[u8], frame: Frame) -> Option<PathStep<'a>> {
+pub fn next_step<'a>(plan: &Plan<'a>, bytes: &[u8], frame: Frame) -> Option<PathStep<'a>>
+    ensures { let l = level_of plan.now bytes.now frame in IsStep l.0 l.1 (length l.2) result }
+{
+    let own = after(bytes, bytes.len().checked_sub(frame.start)?);
     let definition = plan.definition(frame.at)?;
-    match frame.rest {
-        Rest::Copies(_, count) => {
-            let place = bytes.len().checked_sub(frame.start)?;
-            part_step(definition, bytes, place, count.checked_sub(1)?)
+    let left = count_left(plan, frame.rest);
+    let index = (plan.parts(frame.at).len() as u64).saturating_sub(left) as usize;
+    match definition {
+        Definition::Sequence { .. } => {
+            let count = count_in(definition, own)?;
+            Some(PathStep::Element(count.saturating_sub(left)))
         }
-        Rest::Parts(_, next) => Some(field_step(definition, next)),
+        Definition::Enum { variants, .. } => {
+            let (_, name, _) = variants.get(variant_in(definition, own)?)?;
+            Some(PathStep::Variant(name.as_str()))
+        }
+        Definition::Struct {
+            fields: Fields::NamedFields(fields),
+        } => {
+            let (name, _) = fields.get(index)?;
+            Some(PathStep::Field(name.as_str()))
+        }
+        _ => Some(PathStep::Place(index)),
     }
 }
 
@@ -180,16 +165,4 @@ pub fn path_to<'a>(
     }
     let root = plan.root();
     Ok(Path { root, steps })
-}
-
-/// The step to the part at `index` of a struct or tuple.
-pub fn field_step<'a>(definition: &'a Definition, index: usize) -> PathStep<'a> {
-    if let Definition::Struct {
-        fields: Fields::NamedFields(fields),
-    } = definition
-        && let Some((name, _)) = fields.get(index)
-    {
-        return PathStep::Field(name.as_str());
-    }
-    PathStep::Place(index)
 }

@@ -37,11 +37,18 @@ pub struct Node<'a, 'b> {
 pub fn variant_of(node: &Node<'_, '_>) -> Option<usize>
     ensures { IsVariantOf (shape_of node.now.definition.now) node.now.bytes.now result }
 {
-    match node.definition {
+    variant_in(node.definition, node.bytes)
+}
+
+/// The same of a value that begins with these bytes.
+pub fn variant_in(definition: &Definition, bytes: &[u8]) -> Option<usize>
+    ensures { IsVariantOf (shape_of definition.now) bytes.now result }
+{
+    match definition {
         Definition::Enum {
             tag_width,
             variants,
-        } => variant_at(variants, tag_in(node.bytes, usize::from(*tag_width))),
+        } => variant_at(variants, tag_in(bytes, usize::from(*tag_width))),
         _ => None,
     }
 }
@@ -63,7 +70,14 @@ fn tag_in(bytes: &[u8], width: usize) -> &[u8]
 pub fn count_of(node: &Node<'_, '_>) -> Option<u64>
     ensures { IsCountOf (shape_of node.now.definition.now) node.now.bytes.now result }
 {
-    match node.definition {
+    count_in(node.definition, node.bytes)
+}
+
+/// The same of a value that begins with these bytes.
+pub fn count_in(definition: &Definition, bytes: &[u8]) -> Option<u64>
+    ensures { IsCountOf (shape_of definition.now) bytes.now result }
+{
+    match definition {
         Definition::Sequence {
             length_width: 0,
             length_range,
@@ -71,8 +85,8 @@ pub fn count_of(node: &Node<'_, '_>) -> Option<u64>
         } => Some(length_range.start),
         Definition::Sequence { length_width, .. } => {
             let width = usize::from(*length_width);
-            if width <= 8 && width <= node.bytes.len() {
-                Some(number(&node.bytes[..width]))
+            if width <= 8 && width <= bytes.len() {
+                Some(number(&bytes[..width]))
             } else {
                 None
             }

@@ -2,7 +2,7 @@
 ghost use Rattle.borsh_plan.specs.Plan.{definitions_of, root_of};
 ghost use Rattle.borsh_walks.specs.Container.{Member};
 ghost use Rattle.borsh_values.specs.Cursor.{IsInValue};
-ghost use Rattle.std.specs.Prelude.{IfErr, IfOk, [], ◌∷◌, ◌≡◌};
+ghost use Rattle.std.specs.Prelude.{IfErr, IfOk, None, OnOk, [], option_to_list, take, ◌++◌, ◌-◌, ◌∷◌, ◌≡◌};
 
 use crate::cursor::{Cursor, Event};
 use crate::faults::{Path, PathStep, next_step};
@@ -47,10 +47,11 @@ pub struct Preorder<'a, 'p, 'b> {
     path: Path<'a>,
     // The bytes are a member of the root, some of which are read; also after an error.
     ghost inside: { ∥ IsInValue cursor ∥₁ },
+    ghost rooted: { path.root.now ≡ root_of cursor.plan.now },
 }
 
 impl<'a, 'p, 'b> Preorder<'a, 'p, 'b> {
-    ghost use Rattle.borsh_values.specs.Preorder.{GivesNext, IsNotGiven, bytes_left, names_left, next_offset, plan_of};
+    ghost use Rattle.borsh_values.specs.Preorder.{GivesNext, IsNotGiven, bytes_left, levels_left, next_offset, plan_of};
 
     /// In front of the first node of a value of the plan's root. The only error is that an allocation failed. Left open: memory.
     pub fn new(
@@ -60,7 +61,8 @@ impl<'a, 'p, 'b> Preorder<'a, 'p, 'b> {
     ) -> Result<Preorder<'a, 'p, 'b>, AllocError>
         requires member { Member (definitions_of plan.now) (root_of plan.now) bytes.now }
         ensures plan { IfOk result (λ p. plan_of p ≡ plan.entry) }
-        ensures names { IfOk result (λ p. names_left p ≡ root_of plan.now ∷ []) }
+        ensures levels { IfOk result (λ p. levels_left p ≡ (None, bytes.now, root_of plan.now ∷ []) ∷ []) }
+        ensures path { IfOk result (λ p. p.path.steps.items ≡ []) }
         ensures bytes { IfOk result (λ p. bytes_left p ≡ bytes.now) }
         ensures offset { IfOk result (λ p. next_offset p ≡ 0) }
     {
@@ -76,8 +78,7 @@ impl<'a, 'p, 'b> Preorder<'a, 'p, 'b> {
 
     /// The next node, whose depth is the number of values around it; none where all bytes have been given. After an error the nodes
     /// are to be dropped. `Ambiguous` is never returned where the definitions that are reached are valid and unambiguous.
-    ///
-    /// Left open: memory, and depths: tested.
+    /// Left open: memory.
     pub fn next(&mut self) -> Result<Option<Node<'a, 'b>>, PreorderError<'a>>
         ensures gives { IfOk result (λ found. GivesNext self.old self.new found) }
         ensures plan { plan_of self.new ≡ plan_of self.old }
@@ -111,8 +112,11 @@ impl<'a, 'p, 'b> Preorder<'a, 'p, 'b> {
         }
     }
 
-    /// The path of the node that was given last, or of the root. Left open: any path: tested.
-    pub fn path(&self) -> &Path<'a> {
+    /// The path of the node that was given last, or of the root. Left open: none.
+    pub fn path(&self) -> &Path<'a>
+        ensures root { result.now.root.now ≡ root_of (plan_of self.now).now }
+        ensures path { result.now ≡ self.now.path }
+    {
         &self.path
     }
 }
@@ -122,7 +126,11 @@ fn lead_on<'a>(
     path: &mut Path<'a>,
     depth: usize,
     step: Option<PathStep<'a>>,
-) -> Result<(), AllocError> {
+) -> Result<(), AllocError>
+    ensures root { path.new.root ≡ path.old.root }
+    ensures steps { OnOk result (path.new.steps.items ≡
+        take (depth - 1) path.old.steps.items ++ option_to_list step.entry) }
+{
     path.steps.truncate(depth.saturating_sub(1));
     if let Some(step) = step {
         path.steps.push(step)?;

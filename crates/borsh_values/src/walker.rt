@@ -1,6 +1,6 @@
 // A value that is walked part by part.
 ghost use Rattle.borsh_plan.specs.Plan.{definitions_of};
-ghost use Rattle.borsh_values.specs.Tags.{AreTagTables, tables_prop};
+ghost use Rattle.borsh_values.specs.Tags.{AreTagTables};
 ghost use Rattle.std.specs.Prelude.{IfOk, IfSome, ◌+◌, ◌<◌, ◌^◌, ◌≡◌, length};
 
 use crate::cursor::{after, front};
@@ -31,7 +31,7 @@ pub struct Walker<'a, 'l, 'b> {
     pub left: &'b [u8],
     /// How many bytes of the value come before these.
     pub offset: usize,
-    pub ghost tabled: { AreTagTables (definitions_of plan.now) tables } by { tables_prop (definitions_of plan.now) tables },
+    pub ghost tabled: { ∥ AreTagTables (definitions_of plan.now) tables ∥₁ },
     pub ghost small: { offset + length left.now < 2 ^ 64 },
 }
 

@@ -1,10 +1,6 @@
-use Rattle.std.proofs.Common.{◌≡◌, ◌∙◌, Some, refl, sym, ap, subst, codes, bytes_eq}
-use Rattle.std.proofs.lemmas.Slice.Eq.{bytes_eq-Decides}
-use Rattle.borsh_json.specs.Forms.{primitive, sequence, IsByte, IsList}
-use Rattle.borsh_json.specs.Found.{forms_of}
-use Rattle.borsh_json.proofs.FoundLaws.{list_element, on_true}
-use Rattle.borsh_json.proofs.NameLaws.{ne_false}
-use Rattle.borsh_json.proofs.kinds.is_text.Goals as goal
+use Rattle.std.proofs.{Common.{◌≡◌, ◌∙◌, Some, refl, sym, ap, subst, codes, bytes_eq}, lemmas.Slice.Eq.{bytes_eq-Decides}}
+use Rattle.borsh_json.specs.{Forms.{primitive, sequence, IsByte, IsList}, Found.{forms_of}}
+use Rattle.borsh_json.proofs.{FoundLaws.{list_element, on_true}, NameLaws.{ne_false}, kinds.is_text.Goals as goal}
 
 pub returns : goal.returns
 returns c = λ x h.

@@ -1,14 +1,8 @@
-use Rattle.std.proofs.Common.{◌≡◌, ◌∙◌, ◌∷◌, [], Some, refl, length, map, string_bytes, sym, ap, subst, bytes_eq}
+use Rattle.std.proofs.{Common.{◌≡◌, ◌∙◌, ◌∷◌, [], Some, refl, length, map, string_bytes, sym, ap, subst, bytes_eq}, lemmas.List.{length-map}, lemmas.Simd.{map-map}}
 use Rattle.std.specs.List.{IsDistinct}
-use Rattle.std.proofs.lemmas.List.{length-map}
-use Rattle.std.proofs.lemmas.Simd.{map-map}
 use Rattle.borsh_walks.specs.Forms.{field_bytes}
-use Rattle.borsh_json.specs.Forms.{form_of_struct, unnamed}
-use Rattle.borsh_json.specs.Found.{forms_of}
-use Rattle.borsh_json.specs.Table.{ComesTwice}
-use Rattle.borsh_json.proofs.FoundLaws.{one_part, on_some}
-use Rattle.borsh_json.proofs.NameLaws.{fields_repeated, newtype_kind}
-use Rattle.borsh_json.proofs.kinds.kind_of_struct.Goals as goal
+use Rattle.borsh_json.specs.{Forms.{form_of_struct, unnamed}, Found.{forms_of}, Table.{ComesTwice}}
+use Rattle.borsh_json.proofs.{FoundLaws.{one_part, on_some}, NameLaws.{fields_repeated, newtype_kind}, kinds.kind_of_struct.Goals as goal}
 
 pub returns-in-Some-clause-kind : goal.returns-in-Some-clause-kind
 returns-in-Some-clause-kind c = λ x h full.

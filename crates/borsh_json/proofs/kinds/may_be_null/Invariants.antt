@@ -1,6 +1,5 @@
 use Rattle.std.proofs.Common.{◌-◌, ℕ, List}
-use Rattle.borsh_json.specs.Table.{MayBeNull}
-use Rattle.borsh_json.specs.Found.{IsNamed, forms_of}
+use Rattle.borsh_json.specs.{Table.{MayBeNull}, Found.{IsNamed, forms_of}}
 use Rattle.borsh_json.proofs.kinds.may_be_null.Given as goal
 
 abbrev pub invariant-loop : goal.invariant-loop

@@ -1,9 +1,6 @@
 use Rattle.std.proofs.Common.{◌≡◌, ◌⊎◌, inr, ℕ, List, MatchResult, subst, sym, Result, Ok, Err}
 use Rattle.borsh_walks.specs.Definitions.{definitions_in}
-use Rattle.borsh_json.specs.Errors.{IsNoJsonReason}
-use Rattle.borsh_json.specs.Forms.{forms_in}
-use Rattle.borsh_json.specs.InOrder.{TextRepresents}
-use Rattle.borsh_json.specs.NoValue.{IsGivenUp}
+use Rattle.borsh_json.specs.{Errors.{IsNoJsonReason}, Forms.{forms_in}, InOrder.{TextRepresents}, NoValue.{IsGivenUp}}
 use Rattle.borsh_json.proofs.laws.json_gives_back.Goals as goal
 
 or_else : {A E : Type 0} (P : A → Type 0) (Q R : E → Type 0) (r : Result A E) → MatchResult r P Q → MatchResult r P (λ e. R e ⊎ Q e)

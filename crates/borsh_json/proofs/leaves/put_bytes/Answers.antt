@@ -2,8 +2,7 @@ use Rattle.std.proofs.Common.{[], ◌∷◌, arith, refl, subst, sym}
 use Rattle.hex.proofs.HexLemmas.{decode_of-encode_lower}
 use Rattle.hex.specs.Hex.{encode_lower}
 use Rattle.json.specs.Token.{string}
-use Rattle.borsh_json.specs.declared.output.Output.{Output}
-use Rattle.borsh_json.specs.Leaves.{Adds}
+use Rattle.borsh_json.specs.{declared.output.Output.{Output}, Leaves.{Adds}}
 use Rattle.borsh_json.proofs.leaves.put_bytes.Goals as goal
 
 -- nothing is kept, so the digits needn't be made

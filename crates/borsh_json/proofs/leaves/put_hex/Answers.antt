@@ -1,7 +1,5 @@
-use Rattle.std.proofs.Common.{◌∙◌, ◌<◌, [], ◌∷◌, List, ℕ, ap, arith, refl, subst, sym, IsAscii, IsOk, IsUtf8, MatchResult, Result, Ok, Err}
+use Rattle.std.proofs.{Common.{◌∙◌, ◌<◌, [], ◌∷◌, List, ℕ, ap, arith, refl, subst, sym, IsAscii, IsOk, IsUtf8, MatchResult, Result, Ok, Err}, lemmas.Str.{IsUtf8-from_ascii}, lemmas.Str.Ascii.{IsAscii-cons, IsAscii-nil}}
 use Rattle.std.specs.List.{AllByRecursion}
-use Rattle.std.proofs.lemmas.Str.{IsUtf8-from_ascii}
-use Rattle.std.proofs.lemmas.Str.Ascii.{IsAscii-cons, IsAscii-nil}
 use Rattle.hex.proofs.HexLemmas.{IsAscii-encode_with, decode_of-encode_lower}
 use Rattle.hex.specs.Hex.{encode_lower, lower_digits}
 use Rattle.json.specs.Json.{string}

@@ -1,6 +1,5 @@
-use Rattle.std.proofs.Common.{◌≡◌, ℕ, ◌-◌, ◌≤◌, List, [], ◌∷◌, ◌++◌, length, slice_set, ap, append-nil, arith, subst, OnOk, ◌∙◌}
+use Rattle.std.proofs.{Common.{◌≡◌, ℕ, ◌-◌, ◌≤◌, List, [], ◌∷◌, ◌++◌, length, slice_set, ap, append-nil, arith, subst, OnOk, ◌∙◌}, lemmas.List.{drop_all}}
 use Rattle.hex.specs.Hex.{encode_lower}
-use Rattle.std.proofs.lemmas.List.{drop_all}
 use borrow.Rule.Slice.PartMut.{post_of, put_mid}
 use Rattle.borsh_json.proofs.leaves.spell.Goals as goal
 

@@ -1,6 +1,5 @@
 use Rattle.std.proofs.Common.{◌≡◌, ◌+◌, [], length}
-use Rattle.json.specs.Json.{Items}
-use Rattle.json.specs.Find.{InItems}
+use Rattle.json.specs.{Json.{Items}, Find.{InItems}}
 use Rattle.borsh_json.specs.Table.{list_parts}
 use Rattle.borsh_json.proofs.opening.count_items.Given as goal
 

@@ -1,6 +1,5 @@
 use Rattle.std.proofs.Common.{◌≤◌, ◌-◌, ℕ, List, map, drop, length, ℤ}
-use Rattle.borsh_json.specs.Forms.{variant_bytes}
-use Rattle.borsh_json.specs.Table.{IsVariant}
+use Rattle.borsh_json.specs.{Forms.{variant_bytes}, Table.{IsVariant}}
 use Rattle.borsh_json.proofs.opening.first_named.Given as goal
 
 abbrev pub invariant-loop-tag : goal.invariant-loop-tag

@@ -1,38 +1,29 @@
 use Rattle.std.proofs.Common.{inl, inr, ℕ, List, sym, ◌∙◌, subst, refl, length}
-use Rattle.json.specs.Json.{Json, string}
-use Rattle.borsh_json.specs.Forms.{form_of}
-use Rattle.borsh_json.specs.Places.{lengths_of}
-use Rattle.borsh_json.specs.Table.{byte_list, IsPrefixed, IsHex}
-use Rattle.borsh_json.proofs.OpeningLaws.{opened, opened_digits, said, string_is, refuses_or}
-use Rattle.borsh_json.proofs.BytesFall.{bytes_fall, digits_rise}
-use Rattle.borsh_json.proofs.PartsLaws.{no_text, byte_said}
-use Rattle.borsh_json.proofs.RepresentsLaws.{hex_one}
-use Rattle.borsh_json.proofs.opening.open_byte_list.Goals as goal
+use Rattle.json.specs.Json.{Json}
+use Rattle.borsh_json.specs.{Forms.{form_of}, Places.{lengths_of}, Table.{byte_list, IsPrefixed, IsHex}}
+use Rattle.borsh_json.proofs.{OpeningLaws.{opened_leaf, said, string_is, refuses_plain}, PartsLaws.{no_text, byte_said}, RepresentsLaws.{hex_one}, opening.open_byte_list.Goals as goal}
 
 pub returns-in_default : goal.returns-in_default
-returns-in_default c F ns x j e at h size order none b =
+returns-in_default c F ns x j e at h b =
     let l = lengths_of (form_of c.args.definition.now) in
-    opened F ns x j c.args.out.now.items c.open_items.new.out.items c.open_items.result (c.open_items.ensures F ns x j (byte_list l e) e at h order none ((l, e, inr refl), λ own ps. ((λ q. inr q), no_text F j l e own ps (sym (c.in_default.ensures j b)))) b)
+    c.open_items.ensures F ns x j (byte_list l e) e at h ((l, e, inr refl), λ own ps. ((λ q. inr q), no_text F j l e own ps (sym (c.in_default.ensures j b)))) b
 
-pub returns-in-Ok-put_ascending : goal.returns-in-Ok-put_ascending
-returns-in-Ok-put_ascending c F ns x j e at h size order none b =
+pub returns-in-Ok-put_list : goal.returns-in-Ok-put_list
+returns-in-Ok-put_list c F ns x j e at h b =
     let l = lengths_of (form_of c.args.definition.now) in
     let s = string_is j c.in-Some.text.now (sym (c.in-Some.ensures j b)) in
-    let d = c.in-Ok-put_ascending.ensures.added in
-    let v = c.as_slice.ensures.value in
-    let hex = subst (λ (t : List ℕ). IsHex j t) (sym v) (subst (λ (i : Json). IsHex i c.in-Ok.bytes.items) (sym s) c.in-Ok.ensures) in
-    let rises = digits_rise F ns x j c.as_slice.result.now c.args.elements size order none hex c.in-Ok-put_ascending.ensures.ascends in
-    opened_digits F ns x j (byte_list l e) c.args.out.now.items c.put_ascending.new.out.items d.0 h rises d.1 (inl (c.as_slice.result.now, hex, d.2, refl))
+    let d = c.in-Ok-put_list.ensures in
+    let hex = subst (λ (t : List ℕ). IsHex j t) (sym c.as_slice.ensures.value) (subst (λ (i : Json). IsHex i c.in-Ok.bytes.items) (sym s) c.in-Ok.ensures) in
+    opened_leaf F ns x j (byte_list l e) c.args.out.now.items c.put_list.new.out.items d.0 h d.1 (inl (c.as_slice.result.now, hex, d.2, refl))
 
 pub returns-in-Ok : goal.returns-in-Ok
-returns-in-Ok c F ns x j e at h size order none b =
+returns-in-Ok c F ns x j e at h b =
     let l = lengths_of (form_of c.args.definition.now) in
     let s = string_is j c.in-Some.text.now (sym (c.in-Some.ensures j b)) in
-    let v = c.as_slice.ensures.value in
-    refuses_or F ns x j c.in-Err-put_ascending.error (λ g. let k = said F ns x j (byte_list l e) h g in let q = byte_said F j l e k.0 k.1 c.in-Some.text.now s k.2 in (k.0, subst (λ (t : List ℕ). IsPrefixed l (length t) t k.0) (hex_one q.1 c.in-Ok.ensures ∙ sym v) q.2)) (bytes_fall F ns x j l e c.in-Some.text.now c.as_slice.result.now c.args.elements h size order s (subst (λ (t : List ℕ). IsHex (string c.in-Some.text.now) t) (sym v) c.in-Ok.ensures)) c.in-Err-put_ascending.ensures.added
+    refuses_plain F ns x j c.in-Err-put_list.error (λ g. let k = said F ns x j (byte_list l e) h g in let q = byte_said F j l e k.0 k.1 c.in-Some.text.now s k.2 in (k.0, subst (λ (t : List ℕ). IsPrefixed l (length t) t k.0) (hex_one q.1 c.in-Ok.ensures ∙ sym c.as_slice.ensures.value) q.2)) c.in-Err-put_list.ensures
 
 pub returns : goal.returns
-returns c F ns x j e at h size order none b =
+returns c F ns x j e at h b =
     let l = lengths_of (form_of c.args.definition.now) in
     let s = string_is j c.in-Some.text.now (sym (c.in-Some.ensures j b)) in
-    refuses_or F ns x j c.in-Err.error (λ g. let k = said F ns x j (byte_list l e) h g in let q = byte_said F j l e k.0 k.1 c.in-Some.text.now s k.2 in (q.0, q.1)) (λ i f. absurd f) c.in-Err.ensures
+    refuses_plain F ns x j c.in-Err.error (λ g. let k = said F ns x j (byte_list l e) h g in let q = byte_said F j l e k.0 k.1 c.in-Some.text.now s k.2 in (q.0, q.1)) c.in-Err.ensures

@@ -1,32 +1,17 @@
-use Rattle.std.proofs.Common.{◌∙◌, arith}
-use Rattle.borsh_json.specs.declared.position.Parts.TheVariants.{List as Elements}
-use Rattle.borsh_json.specs.Forms.{form_of}
-use Rattle.borsh_json.specs.Places.{lengths_of}
-use Rattle.borsh_json.proofs.OpeningLaws.{no_ascent, refuses_expected}
-use Rattle.borsh_json.proofs.BytesFall.{list_ascends}
-use Rattle.borsh_json.proofs.InOrderLaws.{few_items}
-use Rattle.borsh_json.proofs.PartsLaws.{list_opened, list_range, no_list}
-use Rattle.borsh_json.proofs.opening.open_items.Goals as goal
+use Rattle.borsh_json.specs.{Forms.{form_of}, Places.{lengths_of}}
+use Rattle.borsh_json.proofs.{OpeningLaws.{refuses_expected}, PartsLaws.{list_opened, list_range, no_list}, opening.open_items.Goals as goal}
 
-pub returns-then-count-lt2 : goal.returns-then-count-lt2
-returns-then-count-lt2 c F ns x j kind e i h order none s b =
+pub returns-in-Ok : goal.returns-in-Ok
+returns-in-Ok c F ns x j kind e i h s b =
     let a = c.in-Of.ensures j b in
     let k = c.in-Ok.ensures in
-    list_opened F ns x j kind (lengths_of (form_of c.args.definition.now)) e c.args.elements.at i h s.0 (λ own ps. (s.1 own ps).0) (λ own ps. (s.1 own ps).1) c.new-place.result c.in-Of.items a.0 c.in-Of.count c.args.out.now.items c.put_length.new.out.items c.new-place.ensures.parts c.new-place.ensures.begun a.1 a.2 a.3 k.0 k.1 k.2 (no_ascent F ns x j c.new-place.result (Elements c.args.elements.at c.in-Of.count) (λ z. few_items F x j a.0 a.1 (let t = c.if-count-lt2.true in let l = a.3 in omega (arith, t, l))) c.new-place.ensures.ascent)
-
-pub returns-else-count-lt2 : goal.returns-else-count-lt2
-returns-else-count-lt2 c F ns x j kind e i h order none s b =
-    let a = c.in-Of.ensures j b in
-    let k = c.in-Ok.ensures in
-    let p = c.in_order-place.ensures in
-    list_opened F ns x j kind (lengths_of (form_of c.args.definition.now)) e c.args.elements.at i h s.0 (λ own ps. (s.1 own ps).0) (λ own ps. (s.1 own ps).1) c.in_order-place.result c.in-Of.items a.0 c.in-Of.count c.args.out.now.items c.put_length.new.out.items (p.same.0 ∙ c.new-place.ensures.parts) (p.same.1 ∙ c.new-place.ensures.begun) a.1 a.2 a.3 k.0 k.1 k.2
-    (list_ascends F ns x j c.args.elements.order c.in_order-place.result.ascent c.args.elements.at c.in-Of.count order none p.ascent)
+    list_opened F ns x j kind (lengths_of (form_of c.args.definition.now)) e c.args.elements.at i h s.0 (λ own ps. (s.1 own ps).0) (λ own ps. (s.1 own ps).1) c.new-place.result c.in-Of.items a.0 c.in-Of.count c.args.out.now.items c.put_length.new.out.items c.new-place.ensures.parts c.new-place.ensures.begun a.1 a.2 a.3 k.0 k.1 k.2
 
 pub returns-in-Err : goal.returns-in-Err
-returns-in-Err c F ns x j kind e i h order none s b =
+returns-in-Err c F ns x j kind e i h s b =
     let a = c.in-Of.ensures j b in
     list_range F ns x j kind (lengths_of (form_of c.args.definition.now)) e c.args.elements.at i h s.0 (λ own ps. (s.1 own ps).0) (λ own ps. (s.1 own ps).1) c.in-Err.error a.0 c.in-Of.count a.1 a.3 c.in-Err.ensures
 
 pub returns-in-No : goal.returns-in-No
-returns-in-No c F ns x j kind e i h order none s b =
+returns-in-No c F ns x j kind e i h s b =
     refuses_expected F ns x j c.expected.result c.expected.ensures (no_list F ns x j kind (lengths_of (form_of c.args.definition.now)) e c.args.elements.at i h s.0 (λ own ps. (s.1 own ps).0) (λ own ps. (s.1 own ps).1) (c.in-No.ensures j b))

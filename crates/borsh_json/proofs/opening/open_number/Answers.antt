@@ -1,8 +1,6 @@
 use Rattle.std.proofs.Common.{List, ℕ, refl, subst, take}
 use Rattle.borsh_json.specs.Table.{whole, IsWhole}
-use Rattle.borsh_json.proofs.OpeningLaws.{opened_leaf, denied, refuses_expected}
-use Rattle.borsh_json.proofs.RepresentsLaws.{kind_small, number_one}
-use Rattle.borsh_json.proofs.opening.open_number.Goals as goal
+use Rattle.borsh_json.proofs.{OpeningLaws.{opened_leaf, denied, refuses_expected}, RepresentsLaws.{kind_small, number_one}, opening.open_number.Goals as goal}
 
 pub returns-in_default : goal.returns-in_default
 returns-in_default c F ns x j h b =
@@ -13,7 +11,7 @@ pub returns-in_ok-put_number-in-Some-bytes : goal.returns-in_ok-put_number-in-So
 returns-in_ok-put_number-in-Some-bytes c F ns x j h b =
     let n = c.args.number in
     let small = kind_small F h n.size n.is_signed n.is_non_zero refl in
-    opened_leaf F ns x j (whole n.size n.is_signed n.is_non_zero) (λ l e q. cc) c.args.out.now.items c.put_number.new.out.items (take n.size c.in-Some-bytes.bytes) h (c.in_ok-put_number-in-Some-bytes.ensures small) (c.in-Some.text.now, c.in-Some.ensures j b, c.in-Some-bytes.ensures small, refl)
+    opened_leaf F ns x j (whole n.size n.is_signed n.is_non_zero) c.args.out.now.items c.put_number.new.out.items (take n.size c.in-Some-bytes.bytes) h (c.in_ok-put_number-in-Some-bytes.ensures small) (c.in-Some.text.now, c.in-Some.ensures j b, c.in-Some-bytes.ensures small, refl)
 
 pub returns-in-None : goal.returns-in-None
 returns-in-None c F ns x j h b =

@@ -1,11 +1,7 @@
 use Rattle.std.proofs.Common.{ℕ, List, sym, ◌∙◌, ap, subst, refl, length}
-use Rattle.json.specs.Json.{string}
-use Rattle.json.specs.Find.{as_str}
-use Rattle.borsh_json.specs.Forms.{form_of}
-use Rattle.borsh_json.specs.Places.{lengths_of}
-use Rattle.borsh_json.specs.Table.{utf8, IsPrefixed}
-use Rattle.borsh_json.proofs.OpeningLaws.{opened_leaf, denied, said, string_is, one_string, refuses_expected, refuses_plain}
-use Rattle.borsh_json.proofs.opening.open_text.Goals as goal
+use Rattle.json.specs.{Json.{string}, Find.{as_str}}
+use Rattle.borsh_json.specs.{Forms.{form_of}, Places.{lengths_of}, Table.{utf8, IsPrefixed}}
+use Rattle.borsh_json.proofs.{OpeningLaws.{opened_leaf, denied, said, string_is, one_string, refuses_expected, refuses_plain}, opening.open_text.Goals as goal}
 
 pub returns-in-Ok : goal.returns-in-Ok
 returns-in-Ok c F ns x j h b =
@@ -13,7 +9,7 @@ returns-in-Ok c F ns x j h b =
     let d = c.in-Ok.ensures in
     let s = string_is j c.in-Some.text.now (sym (c.in-Some.ensures j b)) in
     let e = c.as_bytes.ensures.value in
-    opened_leaf F ns x j (utf8 l) (λ l e q. cc) c.args.out.now.items c.put_list.new.out.items d.0 h d.1 (c.as_bytes.result.now, s ∙ ap (λ t. string t) (sym e), c.as_bytes.ensures.utf8, d.2, refl)
+    opened_leaf F ns x j (utf8 l) c.args.out.now.items c.put_list.new.out.items d.0 h d.1 (c.as_bytes.result.now, s ∙ ap (λ t. string t) (sym e), c.as_bytes.ensures.utf8, d.2, refl)
 
 pub returns-in-Err : goal.returns-in-Err
 returns-in-Err c F ns x j h b =

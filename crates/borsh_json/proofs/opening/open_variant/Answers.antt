@@ -1,17 +1,10 @@
 use Rattle.std.proofs.Common.{inl, inr, ℕ, List, Option, Some, map, sym, ◌∙◌, ap, subst, refl, string_bytes, ℤ, String, Global, bytes_eq}
 use Rattle.std.specs.List.{IsDistinct}
-use Rattle.json.specs.Json.{object, no_members, member}
-use Rattle.json.specs.Token.{Token}
+use Rattle.json.specs.{Json.{object, no_members, member}, Token.{Token}}
 use Rattle.borsh_walks.specs.Container.{tag}
 use Rattle.borsh_plan.specs.Plan.{map_of, names_of as plan_names}
-use Rattle.borsh_json.specs.declared.position.Parts.TheVariants.{Variant}
-use Rattle.borsh_json.specs.Forms.{forms_in, choice, variant_bytes}
-use Rattle.borsh_json.specs.Frames.{NamesVariant}
-use Rattle.borsh_json.specs.Table.{variants}
-use Rattle.borsh_json.proofs.OpeningLaws.{opened_leaf, only_found, refuses_expected}
-use Rattle.borsh_json.proofs.PartsLaws.{third_names, no_variant_json, unknown_variant, wants_value, wants_none, form_choice, variant_part}
-use Rattle.borsh_json.specs.NoValue.{NamesNoVariant}
-use Rattle.borsh_json.proofs.opening.open_variant.Goals as goal
+use Rattle.borsh_json.specs.{declared.position.Parts.TheVariants.{Variant}, Forms.{forms_in, choice, variant_bytes}, Frames.{NamesVariant}, Table.{variants}, NoValue.{NamesNoVariant}}
+use Rattle.borsh_json.proofs.{OpeningLaws.{opened_leaf, only_found, refuses_expected}, PartsLaws.{third_names, no_variant_json, unknown_variant, wants_value, wants_none, form_choice, variant_part}, opening.open_variant.Goals as goal}
 
 distinct : (xs : List (ℤ × String Global × String Global)) → IsDistinct bytes_eq (map (λ v. string_bytes v.1) xs) → IsDistinct bytes_eq (map (λ (v : ℤ × List ℕ × List ℕ). v.1) (map variant_bytes xs))
 distinct xs d = subst (λ (l : List (List ℕ)). IsDistinct bytes_eq l) (sym (third_names (λ (v : ℤ × String Global × String Global). v.0) (λ v. string_bytes v.1) (λ v. string_bytes v.2) xs)) d
@@ -44,7 +37,7 @@ returns-then-is_empty c x j i d h b =
     let at = c.part-part.ensures x f.1 (choice w vs) i (form_choice F x w vs h) (variant_part vs c.in-Some-variant_named.index c.in-Some-variant_named.discriminant.now v f.1 f.2) in
     let zero = c.is_zero_size-is_empty.ensures f.1 at in
     let n = subst (λ (o : Option (List Token)). NamesVariant j (Some (v, o))) c.in-None.is (c.in-Some.ensures j b) in
-    opened_leaf F ns x j (variants w vs) (λ l e q. cc) c.args.out.now.items c.put_variant.new.out.items (tag w c.in-Some-variant_named.discriminant.now) h c.in_ok-put_variant.ensures (u, c.in-Some-variant_named.discriminant.now, v, f.1, f.3, refl, inl (n, zero.0 c.if-is_empty.true, refl))
+    opened_leaf F ns x j (variants w vs) c.args.out.now.items c.put_variant.new.out.items (tag w c.in-Some-variant_named.discriminant.now) h c.in_ok-put_variant.ensures (u, c.in-Some-variant_named.discriminant.now, v, f.1, f.3, refl, inl (n, zero.0 c.if-is_empty.true, refl))
 
 pub returns-else-is_empty : goal.returns-else-is_empty
 returns-else-is_empty c x j i d h b =
@@ -86,4 +79,4 @@ returns-else-is_empty-2 c x j i d h b =
     let at = c.part-part.ensures x f.1 (choice w vs) i (form_choice F x w vs h) (variant_part vs c.in-Some-variant_named.index c.in-Some-variant_named.discriminant.now v f.1 f.2) in
     let zero = c.is_zero_size-is_empty.ensures f.1 at in
     let n = subst (λ (o : Option (List Token)). NamesVariant j (Some (v, o))) c.in-Some-value.is (c.in-Some.ensures j b) in
-    (tag w c.in-Some-variant_named.discriminant.now, c.in_ok-put_variant.ensures, only_found F ns x j (variants w vs) (tag w c.in-Some-variant_named.discriminant.now) (Variant c.in-Some-variant_named.variant c.part-part.result) f.1 n.0 c.in-Some-value.value c.only.result c.only.ensures (λ m. (f.1, refl, λ ws e. (f.1, at, e))) (λ m. m) (λ z. absurd (let q = z.2 in cc)) (w, vs, n.0, refl, n.1 ∙ ap (λ v. object (member v n.0 no_members)) (sym f.0)) h n.2 (u, c.in-Some-variant_named.discriminant.now, v, f.1, f.3, refl, inr (n.0, n.1, (λ z. let e = zero.1 z in let t = c.if-is_empty-2.false in cc), refl)))
+    (tag w c.in-Some-variant_named.discriminant.now, c.in_ok-put_variant.ensures, only_found F ns x j (variants w vs) (tag w c.in-Some-variant_named.discriminant.now) (Variant c.in-Some-variant_named.variant c.part-part.result) f.1 n.0 c.in-Some-value.value c.only.result c.only.ensures (λ m. (f.1, refl, λ ws e. (f.1, at, e))) (λ m. m) (w, vs, n.0, refl, n.1 ∙ ap (λ v. object (member v n.0 no_members)) (sym f.0)) h n.2 (u, c.in-Some-variant_named.discriminant.now, v, f.1, f.3, refl, inr (n.0, n.1, (λ z. let e = zero.1 z in let t = c.if-is_empty-2.false in cc), refl)))

@@ -1,8 +1,5 @@
-use Rattle.std.proofs.Common.{◌≡◌, ◌∙◌, ◌++◌, Some, string_bytes, refl, sym, ap, arith, codes, decimal}
-use Rattle.std.proofs.lemmas.Bool.Decides.{nat_tests}
-use Rattle.borsh_json.specs.Forms.{form_of, sequence}
-use Rattle.borsh_json.specs.Found.{forms_of}
-use Rattle.borsh_json.specs.Ordered.{array}
+use Rattle.std.proofs.{Common.{◌≡◌, ◌∙◌, ◌++◌, Some, string_bytes, refl, sym, ap, arith, codes, decimal}, lemmas.Bool.Decides.{nat_tests}}
+use Rattle.borsh_json.specs.{Forms.{form_of, sequence}, Found.{forms_of}, Ordered.{array}}
 use Rattle.borsh_json.proofs.order.array_as.Goals as goal
 
 pub returns-then-is_array_name-clause-order : goal.returns-then-is_array_name-clause-order

@@ -1,8 +1,6 @@
 use Rattle.std.proofs.Common.{◌≡◌, ◌-◌, ◌*◌, ◌<◌, ◌≤◌, ◌++◌, ℕ, List, length, Option}
 use Rattle.borsh_plan.specs.declared.named.Named.{Named}
-use Rattle.borsh_json.specs.Descents.{PrimitivesDescend}
-use Rattle.borsh_json.specs.Forms.{Form}
-use Rattle.borsh_json.specs.Orders.{ArePrimitives}
+use Rattle.borsh_json.specs.{Descents.{PrimitivesDescend}, Forms.{Form}, Orders.{ArePrimitives}}
 use Rattle.borsh_json.proofs.order.first_descent.Given as goal
 
 abbrev pub invariant-loop-index : goal.invariant-loop-index

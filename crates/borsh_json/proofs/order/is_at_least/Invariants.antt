@@ -1,7 +1,5 @@
 use Rattle.std.proofs.Common.{ℕ, List, [], ◌∷◌, reverse}
-use Rattle.borsh_json.specs.Found.{forms_of, names_of}
-use Rattle.borsh_json.specs.Ordered.{Compared, a_value}
-use Rattle.borsh_json.specs.Orders.{AreAlike, ArePending, IsTurn, OrderedBy}
+use Rattle.borsh_json.specs.{Found.{forms_of, names_of}, Ordered.{Compared, a_value}, Orders.{AreAlike, ArePending, IsTurn, OrderedBy}}
 use Rattle.borsh_json.proofs.order.is_at_least.Given as goal
 
 abbrev pub invariant-loop : goal.invariant-loop

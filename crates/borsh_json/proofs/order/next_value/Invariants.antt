@@ -1,7 +1,5 @@
 use Rattle.std.proofs.Common.{ℕ, List, length, reverse}
-use Rattle.borsh_json.specs.Found.{forms_of, names_of}
-use Rattle.borsh_json.specs.Ordered.{Compared}
-use Rattle.borsh_json.specs.Orders.{AreAlike, ArePending}
+use Rattle.borsh_json.specs.{Found.{forms_of, names_of}, Ordered.{Compared}, Orders.{AreAlike, ArePending}}
 use Rattle.borsh_json.proofs.order.next_value.Given as goal
 
 abbrev pub invariant-loop-next : goal.invariant-loop-next

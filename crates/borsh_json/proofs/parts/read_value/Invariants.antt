@@ -1,5 +1,4 @@
-use Rattle.json.specs.Json.{Json}
-use Rattle.json.specs.Find.{BeginsWith}
+use Rattle.json.specs.{Json.{Json}, Find.{BeginsWith}}
 use Rattle.borsh_plan.specs.Plan.{root_of}
 use Rattle.borsh_json.specs.Frames.{HasRead}
 use Rattle.borsh_json.proofs.parts.read_value.Given as goal

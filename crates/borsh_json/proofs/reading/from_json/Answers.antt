@@ -1,13 +1,8 @@
 use Rattle.std.proofs.Common.{◌≡◌, ℕ, List, Some, IfOk, IfErr, OnOk, MatchResult}
 use Rattle.json.specs.Json.{Json, document}
 use Rattle.borsh_walks.specs.Definitions.{definitions_in}
-use Rattle.borsh_json.specs.Errors.{IsTextReason}
-use Rattle.borsh_json.specs.Forms.{forms_in}
-use Rattle.borsh_json.specs.InOrder.{InOrder, TextRepresents}
-use Rattle.borsh_json.specs.NoValue.{ShowsNoValue, IsGivenUp}
-use Rattle.borsh_json.specs.Represents.{TextSays}
-use Rattle.borsh_json.proofs.PlanLaws.{by_plan}
-use Rattle.borsh_json.proofs.reading.from_json.Goals as goal
+use Rattle.borsh_json.specs.{Errors.{IsTextReason}, Forms.{forms_in}, InOrder.{InOrder, TextRepresents}, NoValue.{ShowsNoValue, IsGivenUp}, Represents.{TextSays}}
+use Rattle.borsh_json.proofs.{PlanLaws.{by_plan}, reading.from_json.Goals as goal}
 
 pub returns-clause-says : goal.returns-clause-says
 returns-clause-says c =

@@ -1,12 +1,7 @@
 use Rattle.std.specs.Prelude.{IfErr, OnOk}
-use Rattle.borsh_walks.specs.Container.{Member}
-use Rattle.borsh_walks.specs.Definitions.{definitions_in}
-use Rattle.borsh_json.specs.Errors.{IsNoJsonReason}
-use Rattle.borsh_json.specs.Forms.{forms_in}
-use Rattle.borsh_json.specs.InOrder.{IsRepresented}
-use Rattle.borsh_json.specs.NoValue.{IsGivenUp}
-use Rattle.borsh_json.proofs.PlanLaws.{by_plan}
-use Rattle.borsh_json.proofs.strict.check_strict.Goals as goal
+use Rattle.borsh_walks.specs.{Container.{Member}, Definitions.{definitions_in}}
+use Rattle.borsh_json.specs.{Errors.{IsNoJsonReason}, Forms.{forms_in}, InOrder.{IsRepresented}, NoValue.{IsGivenUp}}
+use Rattle.borsh_json.proofs.{PlanLaws.{by_plan}, strict.check_strict.Goals as goal}
 
 pub returns-clause-member : goal.returns-clause-member
 returns-clause-member c =

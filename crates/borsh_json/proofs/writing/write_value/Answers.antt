@@ -1,19 +1,9 @@
 use Rattle.std.proofs.Common.{◌≡◌, List, [], ◌∷◌, length, None, ℕ, refl, sym, ◌∙◌, ap, subst, arith, false}
-use Rattle.std.specs.Prelude.{Bool}
-use Rattle.borsh_plan.specs.Plan.{planned, root_of}
-use Rattle.borsh_plan.specs.declared.plan.Plan.{Plan}
+use Rattle.std.specs.{Prelude.{Bool}, Borrow.{Bor}}
+use Rattle.borsh_plan.specs.{Plan.{planned, root_of}, declared.plan.Plan.{Plan}}
 use Rattle.borsh_values.proofs.Bytes.{small_bytes}
-use Rattle.borsh_json.specs.Checked.{one, AreChecked}
-use Rattle.borsh_json.specs.Found.{forms_of, names_of}
-use Rattle.borsh_json.specs.Leaves.{Holds, long_of}
-use Rattle.std.specs.Borrow.{Bor}
-use Rattle.borsh_json.specs.declared.position.Parts.TheVariants.{Root}
-use Rattle.borsh_json.specs.declared.position.Place.{Place}
-use Rattle.borsh_json.specs.Writes.{AreEach, IsMarked, IsWhole, IsWriting, IsWrittenOn}
-use Rattle.borsh_json.proofs.Lockstep.{in_order}
-use Rattle.borsh_json.proofs.WriterLaws.{root_marked}
-use Rattle.borsh_json.proofs.WritingSteps.{writing_start}
-use Rattle.borsh_json.proofs.writing.write_value.Goals as goal
+use Rattle.borsh_json.specs.{Checked.{one, AreChecked}, Found.{forms_of, names_of}, Leaves.{Holds, long_of}, declared.position.Parts.TheVariants.{Root}, declared.position.Place.{Place}, Writes.{AreEach, IsMarked, IsWhole, IsWriting, IsWrittenOn}}
+use Rattle.borsh_json.proofs.{Lockstep.{in_order}, WriterLaws.{root_marked}, WritingSteps.{writing_start}, writing.write_value.Goals as goal}
 
 pub loop-init : goal.loop-init
 loop-init c =
@@ -54,4 +44,4 @@ returns-then-not-more-clause-written c =
     let b = ap (λ b. b.now) c.in_ok-more.ensures.bytes ∙ c.loop.invariant.1 in
     let w = subst (λ (b : List ℕ). IsWhole F (long_of new.out) root h.tokens b) b h.whole in
     let a = subst (λ (b : List ℕ). AreChecked F (one root ∷ []) b) b h.rises in
-    (w.0, subst (λ ts. Holds new.out ts) w.1 h.holds, w.2, w.3, w.4, in_order F root w.0 c.args.bytes.now (small_bytes c.args.bytes.now (λ k. let b = c.type_inv.bytes k in omega (arith, b))) w.4.0 a)
+    (w.0, subst (λ ts. Holds new.out ts) w.1 h.holds, w.2, w.3, w.4, λ j says. in_order F root j c.args.bytes.now (small_bytes c.args.bytes.now (λ k. let b = c.type_inv.bytes k in omega (arith, b))) says a)

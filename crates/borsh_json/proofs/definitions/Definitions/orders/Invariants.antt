@@ -1,6 +1,5 @@
 use Rattle.std.proofs.Common.{◌≡◌, length}
-use Rattle.borsh_json.specs.Found.{forms_of, names_of}
-use Rattle.borsh_json.specs.Orders.{AreOrders}
+use Rattle.borsh_json.specs.{Found.{forms_of, names_of}, Orders.{AreOrders}}
 use Rattle.borsh_json.proofs.definitions.Definitions.orders.Given as goal
 
 abbrev pub invariant-loop-at : goal.invariant-loop-at

@@ -1,9 +1,6 @@
 use Rattle.std.proofs.Common.{◌∙◌, true, false, ap, subst, sym}
-use Rattle.borsh_json.specs.Integers.{signed_as}
-use Rattle.borsh_json.specs.Table.{InRange}
-use Rattle.borsh_json.specs.Ranks.{rank_of}
-use Rattle.borsh_json.proofs.IntegerLaws.{negative_rank, positive_rank}
-use Rattle.borsh_json.proofs.integers.Integer.rank.Goals as goal
+use Rattle.borsh_json.specs.{Integers.{signed_as}, Table.{InRange}, Ranks.{rank_of}}
+use Rattle.borsh_json.proofs.{IntegerLaws.{negative_rank, positive_rank}, integers.Integer.rank.Goals as goal}
 
 pub returns-then-self : goal.returns-then-self
 returns-then-self c = λ n h r.

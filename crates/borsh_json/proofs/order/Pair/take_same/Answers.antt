@@ -1,5 +1,4 @@
-use Rattle.std.proofs.Common.{◌∙◌, sym}
-use Rattle.std.proofs.lemmas.Slice.Eq.{bytes_eq-Decides}
+use Rattle.std.proofs.{Common.{◌∙◌, sym}, lemmas.Slice.Eq.{bytes_eq-Decides}}
 use Rattle.borsh_values.proofs.MemberLaws.{same_front}
 use Rattle.borsh_json.proofs.order.Pair.take_same.Goals as goal
 

@@ -1,11 +1,7 @@
 use Rattle.std.proofs.Common.{◌≡◌, ◌++◌, [], Option, ℕ, sym, subst, ap, Result, Ok, Err, OnOk, Bool, Vec, Global}
 use Rattle.borsh_plan.specs.Plan.{map_of, names_of as plan_names}
-use Rattle.borsh_json.specs.declared.error.PartError.{PartError}
-use Rattle.borsh_json.specs.declared.opening.Frame.{Frame}
-use Rattle.borsh_json.specs.Forms.{forms_in}
-use Rattle.borsh_json.specs.Frames.{HasPath, IsFound, error_steps, steps_at}
-use Rattle.borsh_json.proofs.ReadingLaws.{around_map, around_here, next_stands, leaf_inside, part_unread, frame_read}
-use Rattle.borsh_json.proofs.parts.Reading.open.Goals as goal
+use Rattle.borsh_json.specs.{declared.error.PartError.{PartError}, declared.opening.Frame.{Frame}, Forms.{forms_in}, Frames.{HasPath, IsFound, steps_at}}
+use Rattle.borsh_json.proofs.{ReadingLaws.{around_map, around_here, next_stands, leaf_inside, part_unread, frame_read}, parts.Reading.open.Goals as goal}
 
 same_items : (r : Result Bool PartError) (a b : Vec ℕ Global) → OnOk r (a ≡ b) → OnOk r (a.items ≡ b.items)
 same_items (Ok x) a b p = ap (λ v. v.items) p
@@ -39,4 +35,4 @@ returns-in-Err c root j b =
     let h = around_here F ns root j old.position.outer.items old.outer.items 0 [] [] root j b.1 in
     let g = h.7 in
     let t = next_stands F ns root j p old.source old.out.items g.0 g.1 h.0 h.1 h.2 h.3 h.4 g.4 in
-    part_unread F ns root j (h.1 ++ steps_at p) old.out.items g.0 g.1 h.0 t c.in-Err.error c.refused_part.result base b.0 c.refused_part.ensures.same (subst (λ l. HasPath base (error_steps (l ++ steps_at p) c.in-Err.error) c.refused_part.result) (sym h.6) c.refused_part.ensures.path) (c.in-Err.ensures g.0 g.1 g.2 g.3)
+    part_unread F ns root j (h.1 ++ steps_at p) old.out.items g.0 g.1 h.0 t c.in-Err.error c.refused_part.result base b.0 c.refused_part.ensures.same (subst (λ l. HasPath base (l ++ steps_at p) c.refused_part.result) (sym h.6) c.refused_part.ensures.path) (c.in-Err.ensures g.0 g.1 g.2 g.3)

@@ -1,6 +1,5 @@
 use Rattle.std.proofs.Common.{◌≡◌, take, map}
-use Rattle.borsh_json.specs.Frames.{steps_through}
-use Rattle.borsh_json.specs.NoValue.{step_of}
+use Rattle.borsh_json.specs.{Frames.{steps_through}, NoValue.{step_of}}
 use Rattle.borsh_json.proofs.position.Position.path_to_place.Given as goal
 
 abbrev pub invariant-loop-place : goal.invariant-loop-place

@@ -2,6 +2,3 @@ use Rattle.borsh_json.proofs.position.Position.unread_key.Goals as goal
 
 pub returns-in-Refused-clause-path : goal.returns-in-Refused-clause-path
 returns-in-Refused-clause-path c = c.refused_at.ensures.path c.args.self.now.root.now _ c.path_of_key.ensures
-
-pub returns-in-Descends-clause-path : goal.returns-in-Descends-clause-path
-returns-in-Descends-clause-path c = c.refused_at-in-Descends.ensures.path c.args.self.now.root.now _ c.path_of_key-in-Descends.ensures

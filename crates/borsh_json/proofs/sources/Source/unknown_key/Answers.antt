@@ -1,6 +1,5 @@
 use Rattle.std.proofs.Common.{ap, subst, sym, is_some}
-use Rattle.borsh_json.specs.declared.sources.Source.{Source}
-use Rattle.borsh_json.specs.Frames.{IsLeft}
+use Rattle.borsh_json.specs.{declared.sources.Source.{Source}, Frames.{IsLeft}}
 use Rattle.borsh_json.proofs.sources.Source.unknown_key.Goals as goal
 
 pub returns-in-Some : goal.returns-in-Some

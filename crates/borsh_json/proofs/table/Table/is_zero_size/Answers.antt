@@ -1,8 +1,5 @@
 use Rattle.std.proofs.Common.{ℕ, List, Decides, subst}
-use Rattle.borsh_json.specs.declared.definitions.Definitions.{Definitions}
-use Rattle.borsh_json.specs.Forms.{HasNoBytes}
-use Rattle.borsh_json.specs.Found.{forms_of, names_of}
-use Rattle.borsh_json.specs.Places.{IsAt}
+use Rattle.borsh_json.specs.{declared.definitions.Definitions.{Definitions}, Forms.{HasNoBytes}, Found.{forms_of, names_of}, Places.{IsAt}}
 use Rattle.borsh_json.proofs.table.Table.is_zero_size.Goals as goal
 
 pub returns : goal.returns

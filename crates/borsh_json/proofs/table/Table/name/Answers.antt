@@ -1,7 +1,5 @@
 use Rattle.std.proofs.Common.{◌≡◌, ℕ, List, subst}
-use Rattle.borsh_json.specs.declared.definitions.Definitions.{Definitions}
-use Rattle.borsh_json.specs.Found.{names_of}
-use Rattle.borsh_json.specs.Places.{IsAt}
+use Rattle.borsh_json.specs.{declared.definitions.Definitions.{Definitions}, Found.{names_of}, Places.{IsAt}}
 use Rattle.borsh_json.proofs.table.Table.name.Goals as goal
 
 pub returns : goal.returns

@@ -1,10 +1,6 @@
 use Rattle.std.proofs.Common.{◌≡◌, ℕ, List, Some, subst}
 use Rattle.borsh_walks.specs.Container.{references}
-use Rattle.borsh_json.specs.declared.definitions.Definitions.{Definitions}
-use Rattle.borsh_json.specs.Forms.{Form, shape_of_form}
-use Rattle.borsh_json.specs.Found.{forms_of, names_of}
-use Rattle.borsh_json.specs.Orders.{IsPartAt}
-use Rattle.borsh_json.specs.Places.{IsAt}
+use Rattle.borsh_json.specs.{declared.definitions.Definitions.{Definitions}, Forms.{Form, shape_of_form}, Found.{forms_of, names_of}, Orders.{IsPartAt}, Places.{IsAt}}
 use Rattle.borsh_json.proofs.table.Table.part_at.Goals as goal
 
 pub returns-clause-part : goal.returns-clause-part

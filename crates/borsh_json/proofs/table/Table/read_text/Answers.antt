@@ -1,11 +1,8 @@
-use Rattle.std.proofs.Common.{◌≡◌, sym, subst}
-use Rattle.std.proofs.lemmas.Result.{err_from_is_err_and}
-use Rattle.json.specs.Find.{BeginsWith}
-use Rattle.json.specs.Json.{document}
+use Rattle.std.proofs.{Common.{◌≡◌, sym, subst}, lemmas.Result.{err_from_is_err_and}}
+use Rattle.json.specs.{Find.{BeginsWith}, Json.{document}}
 use Rattle.borsh_plan.specs.Plan.{definitions_of, map_of, root_of}
 use Rattle.borsh_json.specs.Forms.{forms_in}
-use Rattle.borsh_json.proofs.TextLaws.{part_denies, part_reason, there}
-use Rattle.borsh_json.proofs.table.Table.read_text.Goals as goal
+use Rattle.borsh_json.proofs.{TextLaws.{part_denies, part_reason, there}, table.Table.read_text.Goals as goal}
 
 pub returns-in_err-read_value-in-Ok-clause-denies : goal.returns-in_err-read_value-in-Ok-clause-denies
 returns-in_err-read_value-in-Ok-clause-denies c =
@@ -33,5 +30,4 @@ returns-in-Ok-clause-says c =
     let t = there (document c.args.text.now) c.in-Ok.ensures.ok.1 in
     let q : c.root.result ≡ c.in-Ok.tape = cc in
     let b = subst (λ ts. BeginsWith ts t.0) (sym q) (c.in-Ok.ensures.value t.0 t.1) in
-    let r = c.in_ok-read_value-in-Ok.ensures t.0 b in
-    (t.0, t.1, r.0, r.1)
+    (t.0, t.1, c.in_ok-read_value-in-Ok.ensures t.0 b)

@@ -1,15 +1,11 @@
-use Rattle.std.proofs.Common.{sym, subst, arith}
-use Rattle.std.proofs.lemmas.Result.{IfErr-weaker, IfOk-weaker}
+use Rattle.std.proofs.{Common.{sym, subst, arith}, lemmas.Result.{IfErr-weaker, IfOk-weaker}}
 use Rattle.borsh_walks.specs.Container.{Member}
 use Rattle.borsh_plan.specs.Plan.{definitions_of, map_of, root_of}
-use Rattle.borsh_values.specs.Membership.{IsAnswer}
+use Rattle.borsh_values.specs.{Membership.{IsAnswer}, declared.members.Membership.{Membership}}
 use Rattle.borsh_values.proofs.Bytes.{small_bytes}
-use Rattle.borsh_values.specs.declared.members.Membership.{Membership}
 use Rattle.borsh_json.specs.Forms.{forms_in}
 use Rattle.borsh_walks.proofs.Forms.{shapes_are}
-use Rattle.borsh_json.proofs.CompleteLaws.{given_up}
-use Rattle.borsh_json.proofs.StopLaws.{stop_reason}
-use Rattle.borsh_json.proofs.table.Table.write.Goals as goal
+use Rattle.borsh_json.proofs.{CompleteLaws.{given_up}, StopLaws.{stop_reason}, table.Table.write.Goals as goal}
 
 pub write_value-requires : goal.write_value-requires
 write_value-requires c =

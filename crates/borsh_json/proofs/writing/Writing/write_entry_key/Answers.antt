@@ -1,19 +1,8 @@
 use Rattle.std.proofs.Common.{◌∷◌, ◌++◌, List, replicate, Option, Some, refl, sym, ◌∙◌, ap, subst}
 use Rattle.borsh_plan.specs.Plan.{root_of}
-use Rattle.borsh_values.specs.declared.nodes.Node.{Node}
-use Rattle.borsh_values.specs.Walks.{FindsAt}
-use Rattle.borsh_json.specs.declared.error.JsonError.{JsonError}
-use Rattle.borsh_json.specs.declared.sources.EntryKey.{EntryKey}
-use Rattle.borsh_json.specs.declared.writing.Writing.{Writing}
-use Rattle.borsh_json.specs.Forms.{form_of}
-use Rattle.borsh_json.specs.Found.{forms_of, names_of}
-use Rattle.borsh_json.specs.Frames.{first_steps, steps_through}
-use Rattle.borsh_json.specs.InOrder.{Step}
-use Rattle.borsh_json.specs.NoJson.{IsOutOfOrder}
-use Rattle.borsh_json.specs.Writes.{names_of_all, IsLast, Stops}
-use Rattle.borsh_json.proofs.WriterLaws.{undecided, entry_of, entry_next, entry_opened, entry_keys, entry_awaits, entry_stops, next_is, node_is, stops_descends}
-use Rattle.borsh_json.proofs.FallLaws.{key_falls}
-use Rattle.borsh_json.proofs.writing.Writing.write_entry_key.Goals as goal
+use Rattle.borsh_values.specs.{declared.nodes.Node.{Node}, Walks.{FindsAt}}
+use Rattle.borsh_json.specs.{declared.error.JsonError.{JsonError}, declared.sources.EntryKey.{EntryKey}, declared.writing.Writing.{Writing}, Forms.{form_of}, Found.{forms_of, names_of}, Frames.{first_steps, steps_through}, InOrder.{Step}, NoJson.{IsOutOfOrder}, Writes.{names_of_all, IsLast, Stops}}
+use Rattle.borsh_json.proofs.{WriterLaws.{undecided, entry_of, entry_next, entry_opened, entry_keys, entry_awaits, entry_stops, next_is, node_is, stops_descends}, FallLaws.{key_falls}, writing.Writing.write_entry_key.Goals as goal}
 
 pub returns-in_default-clause-key : goal.returns-in_default-clause-key
 returns-in_default-clause-key c p part a r e b =

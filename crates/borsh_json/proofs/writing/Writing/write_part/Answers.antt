@@ -1,19 +1,9 @@
-use Rattle.std.proofs.Common.{◌≡◌, [], ◌∷◌, ◌++◌, Option, refl, sym, subst, length}
-use Rattle.std.proofs.lemmas.Result.{err_from_is_err_and}
+use Rattle.std.proofs.{Common.{◌≡◌, [], ◌∷◌, ◌++◌, Option, refl, sym, subst, length}, lemmas.Result.{err_from_is_err_and}}
 use Rattle.std.specs.Prelude.{MatchOption}
 use Rattle.borsh_plan.specs.Plan.{root_of}
-use Rattle.borsh_json.specs.declared.error.JsonError.{JsonError}
-use Rattle.borsh_json.specs.declared.output.Output.{Output}
-use Rattle.borsh_json.specs.declared.position.Place.{Place}
-use Rattle.borsh_json.specs.declared.writing.Writing.{Writing}
+use Rattle.borsh_json.specs.{declared.error.JsonError.{JsonError}, declared.output.Output.{Output}, declared.position.Place.{Place}, declared.writing.Writing.{Writing}, Forms.{form_of, shape_of_form}, Found.{forms_of, names_of}, Frames.{steps_at, steps_through}, Writes.{Rest, names_of_rest, names_of_all, HasNode, IsRest, IsNewPlace, AreCalled, WritesFront, Stops, IsAwaitingAt}}
 use Rattle.borsh_walks.specs.Container.{product}
-use Rattle.borsh_json.specs.Forms.{form_of, shape_of_form}
-use Rattle.borsh_json.specs.Found.{forms_of, names_of}
-use Rattle.borsh_json.specs.Frames.{steps_at, steps_through}
-use Rattle.borsh_json.specs.Writes.{Rest, names_of_rest, names_of_all, HasNode, IsRest, IsNewPlace, AreCalled, WritesFront, Stops, IsAwaitingAt}
-use Rattle.borsh_json.proofs.FoundLaws.{not_true}
-use Rattle.borsh_json.proofs.WriterLaws.{stops_value, stops_full, is_deep, undefined_next, zero_begun, struct_begun}
-use Rattle.borsh_json.proofs.writing.Writing.write_part.Goals as goal
+use Rattle.borsh_json.proofs.{FoundLaws.{not_true}, WriterLaws.{stops_value, stops_full, is_deep, undefined_next, zero_begun, struct_begun}, writing.Writing.write_part.Goals as goal}
 
 pub returns-then-is_zero_size-clause-part : goal.returns-then-is_zero_size-clause-part
 returns-then-is_zero_size-clause-part c x i a =

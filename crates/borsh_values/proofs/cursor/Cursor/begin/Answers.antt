@@ -6,7 +6,7 @@ use Rattle.borsh_values.specs.Cursor.{name_in, OpensAs}
 use Rattle.borsh_values.proofs.Answers.{refused_why}
 use Rattle.borsh_values.proofs.Walk.{going_missing}
 use Rattle.borsh_plan.proofs.Laws.{defined_at}
-use Rattle.borsh_values.proofs.Stepping.{cursor_stopped, has_tables, next_reached, other_tables}
+use Rattle.borsh_values.proofs.Stepping.{cursor_stopped, has_tables, next_reached, other_tables, other_tables_happen}
 use Rattle.borsh_values.proofs.cursor.Cursor.begin.Goals as goal
 
 pub returns-in_default-clause-shows : goal.returns-in_default-clause-shows
@@ -46,3 +46,9 @@ open_empty-requires-clause-cursor c = other_tables c.args.self.now c.requires.cu
 
 pub open-requires-clause-cursor : goal.open-requires-clause-cursor
 open-requires-clause-cursor c = other_tables c.args.self.now c.requires.cursor c.open_definition.new.tables c.open_definition.ensures.tables
+
+pub returns-then-own-eq0-clause-happens : goal.returns-then-own-eq0-clause-happens
+returns-then-own-eq0-clause-happens c = other_tables_happen c.args.self.now c.open_empty.new.self c.open_definition.new.tables c.open_empty.result c.open_empty.ensures.happens
+
+pub returns-else-own-eq0-clause-happens : goal.returns-else-own-eq0-clause-happens
+returns-else-own-eq0-clause-happens c = other_tables_happen c.args.self.now c.open.new.self c.open_definition.new.tables c.open.result c.open.ensures.happens

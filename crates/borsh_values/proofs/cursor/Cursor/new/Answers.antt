@@ -1,11 +1,10 @@
 use Rattle.std.proofs.Common.{◌∙◌, ◌∷◌, ◌+◌, ap, arith, length, replicate, reverse, subst, sym, None, []}
 use Rattle.borsh_walks.proofs.Tables.{marks_none}
-use Rattle.borsh_values.specs.Cursor.{Going, pending}
-use Rattle.borsh_plan.specs.{Names.name_at, Plan.definitions_of, Plan.names_of}
+use Rattle.borsh_values.specs.Cursor.{Going}
+use Rattle.borsh_plan.specs.{Plan.definitions_of}
 use Rattle.borsh_values.specs.declared.{frames.Frame.Frame, frames.Rest.TheVariants.Copies}
 use Rattle.borsh_values.proofs.Answers.{before_start, suffix_start}
 use Rattle.borsh_values.proofs.Walk.{going_start}
-use Rattle.borsh_plan.proofs.Laws.{root_there}
 use Rattle.borsh_values.proofs.TagLaws.{tables_none}
 use Rattle.borsh_values.proofs.cursor.Cursor.new.Goals as goal
 
@@ -24,6 +23,4 @@ returns-clause-cursor c =
     }
 
 pub returns-clause-begins : goal.returns-clause-begins
-returns-clause-begins c =
-    let l = c.args.plan.now in
-    ap (λ q. name_at (names_of l) 0 ∷ pending (names_of l) (reverse q)) c.new-2.ensures.items ∙ ap (λ x. x ∷ []) (root_there l).1
+returns-clause-begins c = ap (λ q. record { at = 0; start = length c.args.bytes.now + 1; rest = Copies 0 1 } ∷ reverse q) c.new-2.ensures.items

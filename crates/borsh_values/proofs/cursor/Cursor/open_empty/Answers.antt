@@ -1,10 +1,10 @@
-use Rattle.std.proofs.Common.{◌+◌, ◌++◌, ◌≤◌, None, Some, refl, ◌∙◌, ap, arith, get_or, length, subst, suc}
+use Rattle.std.proofs.Common.{◌+◌, ◌∷◌, ◌≤◌, inl, None, Some, refl, ◌∙◌, ap, arith, get_or, length, subst, suc}
 use Rattle.std.proofs.Math.Logic.{∥∥₁_elim}
 use Rattle.std.specs.Coded.{le_prop}
 use Rattle.std.specs.BTreeMap.{btree_map_len}
-use Rattle.borsh_plan.specs.Plan.{map_of, names_of}
+use Rattle.borsh_plan.specs.Plan.{map_of}
 use Rattle.borsh_values.specs.declared.cursor.Cursor.{Cursor}
-use Rattle.borsh_values.specs.Cursor.{KnownAs, pending, remaining}
+use Rattle.borsh_values.specs.Cursor.{KnownAs}
 use Rattle.borsh_walks.proofs.Spots.{last_first}
 use Rattle.borsh_values.proofs.Stepping.{begun, cursor_skip, has_mark, marked_empty, skips, stopped_again, few_idle, cursor_new, new_moves}
 use Rattle.borsh_values.proofs.Walk.{with_rest}
@@ -56,6 +56,6 @@ returns-in_ok-push-in-None-clause-happens c =
     let st = c.push.new.self in
     let es = last_first k.stack.items st.items (with_rest k.frame s.others) c.in_ok-push-in-None.ensures.items in
     let new : Cursor = record k { marks = ms; stack = st; frame = record { at = s.at; start = length k.left.now; rest = c.args.parts }; idle = k.idle + 1 } in (
-      begun k s c.requires.step c.args.definition.now 0 c.args.parts c.requires.opens new c.front.result.now c.front.ensures refl (ap (λ q. remaining (names_of k.plan.now) c.args.parts ++ pending (names_of k.plan.now) q) es),
+      begun k s c.requires.step c.args.definition.now 0 c.args.parts c.requires.opens new c.front.result.now c.front.ensures refl (inl (ap (λ q. new.frame ∷ q) es)),
       ∥∥₁_elim c.requires.cursor le_prop λ i. new_moves k i s c.requires.step c.args.definition.now 0 c.args.parts c.requires.opens refl c.in-None.ensures ms c.set_mark.ensures st es,
     )

@@ -4,9 +4,11 @@ use Rattle.borsh_plan.specs.Plan.{definitions_of, names_of}
 use Rattle.borsh_plan.proofs.Laws.{defined, looked_up, reached}
 use Rattle.borsh_plan.proofs.Places.{name_is}
 use Rattle.borsh_values.specs.Nodes.{Opens}
-use Rattle.borsh_values.specs.Cursor.{OpensAs, OpensOnce, remaining}
+use Rattle.borsh_values.specs.Cursor.{HasOneTag, OpensAs, OpensOnce, remaining}
 use Rattle.borsh_values.specs.Walks.{CountsIfTaken}
 use Rattle.borsh_values.proofs.MemberLaws.{members_head}
+use Rattle.std.proofs.Math.Logic.{∥∥₁_elim}
+use Rattle.borsh_values.proofs.TableProps.{tables_prop}
 use Rattle.borsh_values.proofs.WalkedLaws.{read_on}
 use Rattle.borsh_values.proofs.walker.Walker.open.Goals as goal
 
@@ -34,6 +36,7 @@ returns-in-Taken-clause-finds c =
       parts = parts;
       opens = opens;
       once = once;
+      alone = subst (λ b. HasOneTag d b) (sym c.front.ensures) o.0.alone;
       counted = subst (λ o. CountsIfTaken d o) c.in-Taken.is c.in_ok-taken.ensures.counted;
       onward = λ root done ns ps h r. read_on C d ns there once joins h r;
     }
@@ -54,3 +57,6 @@ returns-in-Undecided-clause-finds c = λ x e ps ms.
           let o = subst (λ o. OpensAs C ns d left o) h.1 c.in_ok-taken.ensures.opened in
           absurd (o.0 x there [] (λ _. refl) (s.0, s.1, s.2, append-nil left ∙ s.4)))
     ]
+
+pub open_definition-requires-clause-tables : goal.open_definition-requires-clause-tables
+open_definition-requires-clause-tables c = ∥∥₁_elim c.args.self.now.tabled (tables_prop (definitions_of c.args.self.now.plan.now) c.args.self.now.tables) λ t. t
