@@ -91,14 +91,17 @@ FaultsAre before after (Err (Reader e)) = IsUnread before after e
 FaultsAre before after result = after.faults ≡ before.faults
 
 -- the next value of the bytes that are ahead or still to come; none only where there are no such bytes
-pub record Advances {R : Type 0} (C : List ℕ → Option Shape) (root : List ℕ) (state : R → ReaderState) (old new : Records R) (result : Result Bool RecordError) : Type 0 where
+pub record AdvancesFrom {R : Type 0} (C : List ℕ → Option Shape) (root : List ℕ) (state : R → ReaderState) (source : R) (waiting : List ℕ) (at limit : ℕ) (new : Records R) (result : Result Bool RecordError) : Type 0 where
   -- the bytes that were read
   pub read : List ℕ
-  pub lost : Lost (state (source_of old)) (state (source_of new)) read
-  pub faults : FaultsAre (state (source_of old)) (state (source_of new)) result
-  pub goes : (let bytes = ahead old ++ read in
-      GoesOn C root bytes (next_offset old) (limit_of old) ((bytes ≡ []) × IsAtEnd (state (source_of new)).bytes) (IsAtEnd (state (source_of new)).bytes)
-      (IsUnread (state (source_of old)) (state (source_of new))) (value_of new) (ahead new) (next_offset new) result)
+  pub lost : Lost (state source) (state (source_of new)) read
+  pub faults : FaultsAre (state source) (state (source_of new)) result
+  pub goes : (let bytes = waiting ++ read in
+      GoesOn C root bytes at limit ((bytes ≡ []) × IsAtEnd (state (source_of new)).bytes) (IsAtEnd (state (source_of new)).bytes)
+      (IsUnread (state source) (state (source_of new))) (value_of new) (ahead new) (next_offset new) result)
+
+abbrev pub Advances : {R : Type 0} → (List ℕ → Option Shape) → List ℕ → (R → ReaderState) → Records R → Records R → Result Bool RecordError → Type 0
+Advances C root state old new result = AdvancesFrom C root state (source_of old) (ahead old) (next_offset old) (limit_of old) new result
 
 -- the next value of the bytes that are ahead, if it is whole there; nothing is read
 pub record AdvancesHeld {R : Type 0} (C : List ℕ → Option Shape) (root : List ℕ) (old new : Records R) (none ended : Type 0) (result : Result Bool RecordError) : Type 0 where

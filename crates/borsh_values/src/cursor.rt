@@ -99,7 +99,8 @@ impl<'a, 'p, 'b> Cursor<'a, 'p, 'b> {
         ensures plan { IfOk result (λ c. c.plan ≡ plan.entry) }
         ensures bytes { IfOk result (λ c. c.bytes ≡ bytes.entry) }
         ensures left { IfOk result (λ c. c.left ≡ bytes.entry) }
-        ensures begins { let first : Frame = record { at = 0; start = length bytes.now + 1; rest = Copies 0 1 } in
+        ensures begins { let start = length bytes.now + 1 in
+            let first : Frame = record { at = 0; start = start; rest = Copies 0 1 } in
             IfOk result (λ c. frames c ≡ first ∷ []) }
     {
         let marks = unmarked(alloc, plan.len())?;

@@ -61,7 +61,8 @@ impl<'a, 'p, 'b> Preorder<'a, 'p, 'b> {
     ) -> Result<Preorder<'a, 'p, 'b>, AllocError>
         requires member { Member (definitions_of plan.now) (root_of plan.now) bytes.now }
         ensures plan { IfOk result (λ p. plan_of p ≡ plan.entry) }
-        ensures levels { IfOk result (λ p. levels_left p ≡ (None, bytes.now, root_of plan.now ∷ []) ∷ []) }
+        ensures levels { IfOk result
+            (λ p. levels_left p ≡ (None, bytes.now, root_of plan.now ∷ []) ∷ []) }
         ensures path { IfOk result (λ p. p.path.steps.items ≡ []) }
         ensures bytes { IfOk result (λ p. bytes_left p ≡ bytes.now) }
         ensures offset { IfOk result (λ p. next_offset p ≡ 0) }
