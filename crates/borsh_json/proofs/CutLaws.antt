@@ -1,7 +1,8 @@
 -- Values that are read part by part; and two of them, which compare as they do where other bytes follow, if the first is read in one way only.
 use Rattle.std.proofs.{Common.{◌≡◌, ◌⊎◌, inl, inr, ℕ, suc, zero, ◌<◌, ◌≤◌, ◌^◌, List, [], ◌∷◌, ◌++◌, length, map, replicate, Bool, true, false, Option, Some, None, refl, sym, ◌∙◌, ap, subst, arith, append_assoc, append-nil}, lemmas.Slice.Eq.{bytes_eq-Decides}}
 use Rattle.std.specs.{Prelude.{⊤, ℤ, pos, codes, if◌then◌else◌}, Str.{bytes_eq}, declared.cmp.Ordering.{Ordering}, declared.cmp.Ordering.TheVariants.{Less, Equal, Greater}}
-use Rattle.borsh_walks.specs.{Container.{Shape, IsListedVariant, first_variant, later_variant, tag, Members}, Container as shape}
+use Rattle.borsh_walks.specs.Container.{Shape, IsListedVariant, first_variant, later_variant, tag, Members}
+use Rattle.borsh_walks.specs.Container as shape
 use Rattle.borsh_values.specs.{Nodes.{packed_size, OpensElements, Opens}, Tags.{number_of}, Walks.{IsCounted}}
 use Rattle.borsh_values.proofs.{MemberLaws.{copies_of, member_as, members_head, no_more, one_count, same_front}, TagLaws.{value_low}}
 use Rattle.borsh_json.specs.{Forms.{Form, primitive, sequence, tuple, choice, named, unnamed, no_fields, shape_of_form, shapes, HasNoBytes, IsList, IsOption}, Only.{AreOnly, none_only, empty_only, opened_only}, Ordered.{Order, single, numbers, text, array, list, parts, other, OrdersBytes, HasOrder, Compared, a_value, a_copy, elements, IsCount, IsNode, IsCopy, variant_of, Fronts, FrontsOf, IsAtLeast, all_equal, first_above, first_equal}}

@@ -1,7 +1,8 @@
 -- Names that are composed, and definitions that were found.
 use Rattle.std.proofs.{Common.{◌≡◌, inl, inr, ℕ, suc, zero, ◌+◌, ◌<◌, ◌≤◌, List, [], ◌∷◌, ◌++◌, length, map, take, Bool, true, false, get_or, Decides, MatchBool, Option, Some, None, refl, sym, ◌∙◌, ap, subst, arith, append_assoc, append-nil, eqb, string_bytes, ℤ, pos, codes, option_map, slice_get, String, MatchOption, option_copied, HoldsAt, Bor, Global}, lemmas.Option.{slice_get-get_or}, lemmas.Bool.Decides.{nat_tests}, lemmas.List.{append_cancel_left}}
 use Rattle.std.specs.Str.Pattern.{FindsTextPrefix, StripsPrefix}
-use Rattle.borsh_walks.specs.{Container.{IsIn, references, zeroed, zero_size_references}, Container as shape}
+use Rattle.borsh_walks.specs.Container.{IsIn, references, zeroed, zero_size_references}
+use Rattle.borsh_walks.specs.Container as shape
 use Rattle.borsh_json.specs.{Forms.{Form, primitive, sequence, tuple, choice, unnamed, shape_of_form, HasNoBytes, IsList, IsByte, IsUnit, IsOption, IsMap}, Found.{joined, IsMapName, IsSetName}}
 
 pub newtype_is : (ps : List (List ℕ)) → MatchBool (eqb (length ps) 1) ((p : List ℕ) × (unnamed ps ≡ unnamed (p ∷ []))) ((p : List ℕ) → unnamed ps ≡ unnamed (p ∷ []) → ⊥)

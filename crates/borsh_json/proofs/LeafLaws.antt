@@ -1,7 +1,8 @@
 -- Values that are written whole: primitives, texts and lists of primitives.
 use Rattle.std.proofs.{Common.{◌≡◌, inl, inr, ℕ, suc, zero, ◌+◌, ◌-◌, ◌/◌, ◌^◌, ◌<◌, ◌≤◌, List, [], ◌∷◌, ◌++◌, length, map, Bool, true, false, true≢false, Option, Some, refl, sym, ◌∙◌, ap, subst, arith, pow-suc, bytes_eq}, Math.Nat.{pow-le-pow_right}, lemmas.Bool.Decides.{nat_tests}}
 use Rattle.std.specs.{Prelude.{⊤, ℤ, pos, negsuc, ◌&&◌, ◌==◌, if◌then◌else◌, codes, Result, Ok, Err, is_nan, from_bits}, Float.{Float as FloatValue, Format, binary32, binary64}, Fmt.{signed_decimal}, List.{AllByRecursion}}
-use Rattle.json.specs.{Token as token, Json.{Json, null, boolean, number, string}, Print.{IsNumber as IsNumberText}, Tree.{json_tokens, depth, HasNumbers}}
+use Rattle.json.specs.Token as token
+use Rattle.json.specs.{Json.{Json, null, boolean, number, string}, Print.{IsNumber as IsNumberText}, Tree.{json_tokens, depth, HasNumbers}}
 use Rattle.json.proofs.Printed.Decimals.{IsNumber-decimal, IsNumber-signed_decimal}
 use Rattle.borsh_walks.specs.Container.{tag, little_endian}
 use Rattle.borsh_values.specs.{Nodes.{Opens}, Tags.{number_of}}

@@ -1,8 +1,10 @@
 -- Texts, and lists of primitives.
 use Rattle.std.proofs.{Common.{◌≡◌, ◌⊎◌, inl, inr, ℕ, suc, zero, ◌+◌, ◌*◌, ◌^◌, ◌<◌, ◌≤◌, List, [], ◌∷◌, ◌++◌, length, drop, Option, Some, refl, sym, ◌∙◌, ap, subst, arith, append_assoc, append-nil, length-append, option_map}, Math.Nat.{le_of_mul-le-mul_right, mul-le-mul_left, mul-le-mul_right, suc-mul}, lemmas.Bool.{cases_lt}}
 use Rattle.std.specs.Prelude.{⊤, pos, IsUtf8}
-use Rattle.json.specs.{Token.{Token}, Token as token, Json.{Json, string, array, Items, no_items, item}, Tree.{json_tokens, items_tokens, items_depth, ItemsHaveNumbers}}
-use Rattle.borsh_walks.specs.{Container.{Shape, tag}, Container as shape, Definitions.{shape_of}, declared.definition.Definition.{Definition}}
+use Rattle.json.specs.{Token.{Token}, Json.{Json, string, array, Items, no_items, item}, Tree.{json_tokens, items_tokens, items_depth, ItemsHaveNumbers}}
+use Rattle.json.specs.Token as token
+use Rattle.borsh_walks.specs.{Container.{Shape, tag}, Definitions.{shape_of}, declared.definition.Definition.{Definition}}
+use Rattle.borsh_walks.specs.Container as shape
 use Rattle.borsh_values.specs.{Nodes.{AreElementsOf, Opens, OpensElements, packed_size}, Walks.{IsCounted}}
 use Rattle.borsh_plan.specs.declared.named.Named.{Named}
 use Rattle.borsh_json.specs.{declared.error.WriteError.{WriteError}, declared.error.WriteError.TheVariants.{OutOfMemory, Refused, Element}, declared.kinds.Elements.{Elements}, declared.kinds.Kind.TheVariants.{Numbers}, declared.output.LongNumbers.{LongNumbers}, declared.output.Output.{Output}, Forms.{Form, primitive, sequence, tuple, choice, named, unnamed, no_fields, form_of, shape_of_form, shapes, IsByte}, Leaves.{Adds, HasSize, Holds, IsOpenedAs, RefusesAt, RefusesValue, WritesLeaf, long_of, AreWritten}, NoJson.{IsNoJson}, Places.{IsAt, IsKindOf, IsListOf, lengths_of}, Represents.{SaysFirst, HaveBytes}, Table.{Lengths, Kind, truth, whole, float, raw, utf8, byte_list, list, a_text, some_bytes, an_object, some_elements, nullable, by_name, primitive_kind, DefinedKind, HasKind, IsHex, IsPrefixed, Part, Says, list_parts}}

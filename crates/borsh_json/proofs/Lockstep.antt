@@ -2,7 +2,8 @@
 use Rattle.std.proofs.{Common.{◌≡◌, inl, inr, ℕ, suc, zero, ◌-◌, ◌*◌, ◌<◌, ◌≤◌, List, [], ◌∷◌, ◌++◌, length, map, replicate, drop, Option, Some, None, refl, sym, ◌∙◌, ap, subst, arith, append_assoc, append-nil, length-append}, Math.Nat.{suc-mul, zero-mul}, lemmas.List.{length-replicate}}
 use Rattle.std.specs.{Prelude.{ℤ, pos, codes, All, IfSome}, List.{AllByRecursion}}
 use Rattle.json.specs.Json.{Json, array, string, Items, no_items, item, Members}
-use Rattle.borsh_walks.specs.{Container.{Shape, first, later, IsListedVariant, first_variant, later_variant, tag}, Container as shape}
+use Rattle.borsh_walks.specs.Container.{Shape, first, later, IsListedVariant, first_variant, later_variant, tag}
+use Rattle.borsh_walks.specs.Container as shape
 use Rattle.borsh_values.specs.{Nodes.{packed_size, OpensElements, Opens}, Cursor.{OpensOnce}}
 use Rattle.borsh_values.proofs.MemberLaws.{same_front}
 use Rattle.borsh_json.specs.{Checked.{Due, one, ascending, IsOnly, AreChecked, empty, plain, collection, packed, elements_end, next_element}, Descents.{HasKeys, PrimitivesDescend}, Forms.{Form, primitive, sequence, tuple, choice, named, unnamed, no_fields, shape_of_form, shapes, HasNoBytes, IsList, IsByte}, Found.{IsSet}, Frames.{AreInOrder, IsListKind}, InOrder.{DigitsFall, ItemsFall, Falls, InOrder}, Leaves.{HasSize}, Ordered.{Compared, a_value, IsAtLeast, all_equal, first_above, first_equal}, Represents.{SaysFirst, HaveBytes, none_left, next_part}, Table.{Lengths, Keys, Kind, no_bytes, truth, whole, float, raw, utf8, byte_list, list, row, inner, fields, optional, variants, entries, primitive_kind, a_text, some_bytes, an_object, some_elements, nullable, by_name, DefinedKind, HasKind, IsPrefixed, Part, row_parts, list_parts, field_parts, IsVariant, this, that, Entry, entry_parts, IsArray, Says}}

@@ -1,6 +1,7 @@
 -- Values whose definitions go with their bytes in one way only, one after another.
 use Rattle.std.proofs.Common.{◌≡◌, ℕ, suc, zero, List, [], ◌∷◌, ◌++◌, replicate, Option, Some, refl, sym, subst, append_assoc, append-nil}
-use Rattle.borsh_walks.specs.{Container.{Members}, Container as shape}
+use Rattle.borsh_walks.specs.Container.{Members}
+use Rattle.borsh_walks.specs.Container as shape
 use Rattle.borsh_values.specs.Nodes.{Opens}
 use Rattle.borsh_values.proofs.MemberLaws.{member_as, members_head, no_more, opens_once}
 use Rattle.borsh_json.specs.{Forms.{Form, primitive, shapes}, Only.{IsOpened, AreOnly, none_only, empty_only, opened_only}}

@@ -1,7 +1,8 @@
 -- What is compared, one after another: the first values that differ decide.
 use Rattle.std.proofs.{Common.{◌≡◌, ◌⊎◌, inl, inr, ℕ, suc, zero, ◌<◌, ◌≤◌, ◌^◌, List, [], ◌∷◌, ◌++◌, length, map, replicate, get_or, Bool, Option, Some, None, refl, sym, ◌∙◌, ap, subst, arith, append_assoc, length-append, ℤ, pos, negsuc, false, codes, option_map, All, Ordering, Less, Equal, Greater}, lemmas.Bool.Decides.{nat_tests}}
 use Rattle.std.specs.{Ordering.{nat_cmp, int_cmp, MatchOrdering}, Cmp.Lexicographic.{slice_cmp}, Cmp.{nat_cmp_is}}
-use Rattle.borsh_walks.specs.{Container.{Shape, tag, zeroed}, Container as shape}
+use Rattle.borsh_walks.specs.Container.{Shape, tag, zeroed}
+use Rattle.borsh_walks.specs.Container as shape
 use Rattle.borsh_values.proofs.MemberLaws.{same_front}
 use Rattle.borsh_json.specs.{Forms.{Form, primitive, sequence, tuple, shape_of_form, HasNoBytes}, Table.{Kind, truth, whole, primitive_kind, InRange}, Ordered.{IsListName, Order, single, numbers, text, array, list, parts, other, AreNumbers, OrdersBytes, HasOrder, node_size, IsCount, HasParts, IsNode, Compared, a_value, a_copy, elements, IsCopy, Fronts, FrontsOf, IsAtLeast, first_above, first_equal}, Integers.{IsEncoded}, Orders.{AreAlike}}
 use Rattle.borsh_json.proofs.{IntegerLaws.{number_there}, OrderNumbers.{long_tag, one_low}, RepresentsLaws.{option_one}}

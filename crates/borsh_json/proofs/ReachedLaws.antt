@@ -2,7 +2,8 @@
 use Rattle.std.proofs.Common.{◌≡◌, inl, inr, ℕ, suc, zero, ◌+◌, ◌*◌, List, [], ◌∷◌, ◌++◌, length, map, replicate, Option, Some, refl, sym, ◌∙◌, ap, subst, arith, append_assoc, append-nil, length-append}
 use Rattle.std.specs.Prelude.{ℤ, pos, codes, slice_get}
 use Rattle.json.specs.Json.{Json, Items, no_items, item, Members}
-use Rattle.borsh_walks.specs.{Container.{Shape, first_variant, later_variant, tag}, Container as shape}
+use Rattle.borsh_walks.specs.Container.{Shape, first_variant, later_variant, tag}
+use Rattle.borsh_walks.specs.Container as shape
 use Rattle.borsh_values.specs.{Nodes.{packed_size, OpensElements, Opens}, Cursor.{HasOneTag, OpensOnce}}
 use Rattle.borsh_json.specs.{Forms.{Form, primitive, sequence, tuple, choice, named, unnamed, no_fields, shape_of_form, shapes, HasNoBytes, IsByte}, InOrder.{Step, place, element, variant, AreSteps, IsReached, whole_value, part_of}, Inside.{IsInside, outermost, inside, LeadTo}, Only.{IsOpened, AreOnly, none_only}, Represents.{HaveBytes}, Table.{Kind, row, inner, fields, optional, variants, entries, Lengths, Keys, a_text, some_bytes, an_object, some_elements, nullable, by_name, DefinedKind, HasKind, Part, row_parts, field_parts, IsVariant, this, that, Entry, entry_parts, key_json, Says}}
 use Rattle.borsh_json.proofs.{FallLaws.{parted}, FormKinds.{map_elements, shaped}, Lockstep.{AreBytes, behind, AreNamed, list_named, row_front, defined, Match, no_names, named_so, match_entries, listed, elements_open}, NameLaws.{keys_full}, NoJsonLaws.{exact}, OpeningLaws.{some_one}, ReaderLaws.{field_front, uncons, split, joined}}

@@ -1,7 +1,8 @@
 -- What is told of the names of a plan, as it is written.
 use Rattle.std.proofs.{Common.{◌≡◌, ℕ, zero, suc, ◌+◌, ◌<◌, ◌≤◌, List, [], ◌∷◌, ◌++◌, length, take, map, Option, Some, Bool, true, false, All, inl, inr, refl, sym, ◌∙◌, ap, subst, arith, append_assoc, if◌then◌else◌, MatchBool, Decides, codes, option_and_then, option_map, slice_get}, Math.Seq.{take-length}, lemmas.List.{map-append}, lemmas.List.Elements.{All-nil, All-push}}
 use mathlib.Core.Bool.{not}
-use Rattle.json.specs.{Json.{object, if_last, value, max_depth}, Lex.{tokens}, Print.{print}, Token.{Token}, Token as token, Written.{Written}, Tree.{json_tokens, members_tokens, members_depth, depth, MembersHaveNumbers}}
+use Rattle.json.specs.{Json.{object, if_last, value, max_depth}, Lex.{tokens}, Print.{print}, Token.{Token}, Written.{Written}, Tree.{json_tokens, members_tokens, members_depth, depth, MembersHaveNumbers}}
+use Rattle.json.specs.Token as token
 use Rattle.json.proofs.{Printed.Tokens.{tokens-print}, Printed.Trees.{document-print, ArePrintable-json_tokens}}
 use Rattle.borsh_plan.specs.declared.named.Named.{Named}
 use Rattle.borsh_json.specs.{declared.kinds.Elements.{Elements}, declared.kinds.Kind.TheVariants.{ByteList}, declared.order.Ordered.{Ordered}, declared.order.Ordered.TheVariants.{Array, List as Counted, Tuple, Other}, Forms.{Form, HasNoBytes}, Names.{HasOtherKeys, HasToldKeys, IsListWord, IsWord, TellsNames, word_members}, Ordered.{Order, other, HasOrder}, Orders.{HasKeyOrder, IsOrderOf, KeysAscend}, Places.{IsAt, IsKindOf, IsListOf, lengths_of}, Table.{no_bytes, byte_list, list}}

@@ -1,6 +1,7 @@
 -- What is written of a value without places of its own.
 use Rattle.std.specs.{Prelude.{◌≡◌, ⊤, ℕ, ◌<◌, ◌≤◌, List, [], ◌∷◌, ◌++◌, length, Bool, Decides, Option, Some, Result, MatchResult}, List.{AllByRecursion}, declared.cmp.Ordering.TheVariants.{Less}}
-use Rattle.json.specs.{Token.{Token}, Token as token, Json.{Json, string}, Tree.{json_tokens, depth, HasNumbers}}
+use Rattle.json.specs.{Token.{Token}, Json.{Json, string}, Tree.{json_tokens, depth, HasNumbers}}
+use Rattle.json.specs.Token as token
 use Rattle.borsh_walks.specs.declared.definition.Definition.{Definition}
 use Rattle.borsh_values.specs.{Nodes.{Opens}, Walks.{IsCounted}}
 use Rattle.borsh_plan.specs.declared.named.Named.{Named}

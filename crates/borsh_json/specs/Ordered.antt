@@ -1,6 +1,7 @@
 -- How the values of a name are ordered, where names and definitions tell it; and of which two values they tell that the first isn't below the second: the first parts that differ decide.
 use Rattle.std.specs.{Prelude.{◌≡◌, ◌⊎◌, ℕ, suc, zero, ◌<◌, ◌≤◌, ◌^◌, ℤ, pos, List, [], ◌∷◌, ◌++◌, length, map, replicate, Bool, false, if◌then◌else◌, codes, Option, Some, None}, Fmt.{decimal}, Str.{bytes_eq}, Ordering.{int_cmp, nat_cmp}, Cmp.Lexicographic.{slice_cmp}, declared.cmp.Ordering.{Ordering}, declared.cmp.Ordering.TheVariants.{Less, Equal, Greater}}
-use Rattle.borsh_walks.specs.{Container.{Shape, tag}, Container as shape, TupleNames.{tuple_name}}
+use Rattle.borsh_walks.specs.{Container.{Shape, tag}, TupleNames.{tuple_name}}
+use Rattle.borsh_walks.specs.Container as shape
 use Rattle.borsh_values.specs.Tags.{number_of}
 use Rattle.borsh_json.specs.{Forms.{Form, primitive, sequence, tuple, shape_of_form, HasNoBytes, IsList, IsOption}, Table.{Kind, texts, truth, whole, primitive_kind, AreKeys, InRange}}
 

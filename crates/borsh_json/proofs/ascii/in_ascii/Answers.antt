@@ -1,7 +1,8 @@
 use Rattle.std.proofs.{Common.{◌≡◌, List, ℕ, ◌++◌, sym, subst, append_assoc, IsUtf8, All, Some}, lemmas.Str.{IsUtf8-past_char}}
 use Rattle.json.specs.Json.{document}
 use Rattle.borsh_json.specs.Ascii.{IsInLine, IsPlain, character_text}
-use Rattle.borsh_json.proofs.{EscapeLaws.{first_scalar, kept_character}, LineLaws.{added_line, added_plain, character_line}, ascii.in_ascii.Goals as goal}
+use Rattle.borsh_json.proofs.{EscapeLaws.{first_scalar, kept_character}, LineLaws.{added_line, added_plain, character_line}}
+use Rattle.borsh_json.proofs.ascii.in_ascii.Goals as goal
 
 pub loop-character-preserved : goal.loop-character-preserved
 loop-character-preserved c =

@@ -1,5 +1,6 @@
 use Rattle.std.proofs.Common.{sym, ◌∙◌, ap, option_map}
-use Rattle.borsh_json.proofs.{FloatLaws.{no_float, number_float, word_float, parsed}, floats.float_in.Goals as goal}
+use Rattle.borsh_json.proofs.FloatLaws.{no_float, number_float, word_float, parsed}
+use Rattle.borsh_json.proofs.floats.float_in.Goals as goal
 
 pub returns-in_err-as_str-in-None : goal.returns-in_err-as_str-in-None
 returns-in_err-as_str-in-None g c j b =

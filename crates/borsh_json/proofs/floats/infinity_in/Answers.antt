@@ -1,5 +1,6 @@
 use Rattle.std.proofs.Common.{sym, ◌∙◌, ap, option_map}
-use Rattle.borsh_json.proofs.{FloatLaws.{word_read, minus_word_read, parsed}, floats.infinity_in.Goals as goal, floats.infinity_in.Goals.{then-eq, else-eq}}
+use Rattle.borsh_json.proofs.{FloatLaws.{word_read, minus_word_read, parsed}, floats.infinity_in.Goals.{then-eq, else-eq}}
+use Rattle.borsh_json.proofs.floats.infinity_in.Goals as goal
 
 pub returns-then-eq-2 : goal.returns-then-eq-2
 returns-then-eq-2 g c =

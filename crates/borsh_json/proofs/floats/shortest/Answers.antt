@@ -1,5 +1,6 @@
 use Rattle.std.proofs.{Common.{sym, ◌∙◌, arith}, lemmas.Nat.{le_bytes_8}}
-use Rattle.borsh_json.proofs.{FloatLaws.{shortest_8}, NumberLaws.{low_whole}, floats.shortest.Goals as goal}
+use Rattle.borsh_json.proofs.{FloatLaws.{shortest_8}, NumberLaws.{low_whole}}
+use Rattle.borsh_json.proofs.floats.shortest.Goals as goal
 
 pub returns-in-len8-clause-float : goal.returns-in-len8-clause-float
 returns-in-len8-clause-float c =

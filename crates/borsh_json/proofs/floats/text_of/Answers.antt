@@ -1,5 +1,6 @@
 use Rattle.std.proofs.Common.{sym, ◌∙◌}
-use Rattle.borsh_json.proofs.{FloatLaws.{marked, not_false, reads_back}, floats.text_of.Goals as goal}
+use Rattle.borsh_json.proofs.FloatLaws.{marked, not_false, reads_back}
+use Rattle.borsh_json.proofs.floats.text_of.Goals as goal
 
 pub returns-then-is_number-clause-float : goal.returns-then-is_number-clause-float
 returns-then-is_number-clause-float g c =

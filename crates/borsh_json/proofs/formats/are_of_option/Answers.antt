@@ -1,6 +1,7 @@
 use Rattle.std.proofs.Common.{◌≡◌, ◌∙◌, ◌∷◌, ◌++◌, [], List, ℕ, Decides, map, string_bytes, ap, subst, ℤ, pos, codes}
 use Rattle.borsh_json.specs.{Forms.{choice}, Found.{forms_of}}
-use Rattle.borsh_json.proofs.{FoundLaws.{listed, listed_is, two_variants, option_needs, option_found, none_first}, formats.are_of_option.Goals as goal}
+use Rattle.borsh_json.proofs.FoundLaws.{listed, listed_is, two_variants, option_needs, option_found, none_first}
+use Rattle.borsh_json.proofs.formats.are_of_option.Goals as goal
 
 pub returns-then-not-is_unit : goal.returns-then-not-is_unit
 returns-then-not-is_unit c = λ x h p o.

@@ -1,5 +1,6 @@
 use Rattle.std.proofs.Common.{List, ℕ, [], get_or, refl, arith, rules, Bor}
-use Rattle.borsh_json.proofs.{FoundLaws.{joined_step, joined_not, stripped}, formats.behind.Goals as goal}
+use Rattle.borsh_json.proofs.FoundLaws.{joined_step, joined_not, stripped}
+use Rattle.borsh_json.proofs.formats.behind.Goals as goal
 
 pub returns-in_err-rest : goal.returns-in_err-rest
 returns-in_err-rest c =

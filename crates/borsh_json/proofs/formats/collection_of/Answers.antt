@@ -1,7 +1,8 @@
 use Rattle.std.proofs.Common.{◌≡◌, ◌∙◌, ◌∷◌, [], Some, refl, string_bytes, sym, ap, subst}
 use Rattle.borsh_plan.specs.Plan.{names_of as plan_names}
 use Rattle.borsh_json.specs.{Forms.{form_of, sequence, tuple}, Found.{forms_of, IsMapName, IsSetName}}
-use Rattle.borsh_json.proofs.{FoundLaws.{list_element, no_map, not_true, sequence_same, on_true, on_false}, formats.collection_of.Goals as goal}
+use Rattle.borsh_json.proofs.FoundLaws.{list_element, no_map, not_true, sequence_same, on_true, on_false}
+use Rattle.borsh_json.proofs.formats.collection_of.Goals as goal
 
 pub returns-then-is_entry : goal.returns-then-is_entry
 returns-then-is_entry c = λ x h.

@@ -1,7 +1,8 @@
 use Rattle.std.proofs.{Common.{◌≡◌, ◌∙◌, ◌∷◌, [], List, ℕ, MatchBool, eqb, length, map, string_bytes, sym, subst}, lemmas.List.{length-map}}
 use Rattle.borsh_walks.specs.declared.definition.Fields.TheVariants.{UnnamedFields}
 use Rattle.borsh_json.specs.Forms.{form_of_struct, unnamed}
-use Rattle.borsh_json.proofs.{FoundLaws.{newtype_is}, formats.has_one_unnamed.Goals as goal}
+use Rattle.borsh_json.proofs.FoundLaws.{newtype_is}
+use Rattle.borsh_json.proofs.formats.has_one_unnamed.Goals as goal
 
 pub returns-in-UnnamedFields : goal.returns-in-UnnamedFields
 returns-in-UnnamedFields c =

@@ -1,5 +1,6 @@
 use Rattle.std.proofs.Common.{map, string_bytes}
-use Rattle.borsh_json.proofs.{FoundLaws.{two_texts, tree_named, map_named, not_true}, formats.is_map_name.Goals as goal}
+use Rattle.borsh_json.proofs.FoundLaws.{two_texts, tree_named, map_named, not_true}
+use Rattle.borsh_json.proofs.formats.is_map_name.Goals as goal
 
 pub returns-then-is_composed : goal.returns-then-is_composed
 returns-then-is_composed c =

@@ -1,6 +1,7 @@
 use Rattle.std.proofs.Common.{◌≡◌, ◌∙◌, List, ℕ, MatchBool, Some, map, sym, ap, subst, ℤ, slice_get}
 use Rattle.borsh_json.specs.{Forms.{IsOption, choice, form_of}, Found.{forms_of}}
-use Rattle.borsh_json.proofs.{FoundLaws.{listed, types_are, other_width}, formats.option_part.Goals as goal, formats.option_part.Goals.{else-tag_width-eq1-via-then-tag_width-eq1+else-are_of_option, else-tag_width-eq1-via-else-tag_width-eq1}}
+use Rattle.borsh_json.proofs.{FoundLaws.{listed, types_are, other_width}, formats.option_part.Goals.{else-tag_width-eq1-via-then-tag_width-eq1+else-are_of_option, else-tag_width-eq1-via-else-tag_width-eq1}}
+use Rattle.borsh_json.proofs.formats.option_part.Goals as goal
 
 pub returns-then-are_of_option : goal.returns-then-are_of_option
 returns-then-are_of_option c = λ x h.

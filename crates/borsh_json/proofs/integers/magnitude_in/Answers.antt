@@ -1,5 +1,6 @@
 use Rattle.std.proofs.Common.{◌-◌, ◌∙◌, arith}
-use Rattle.borsh_json.proofs.{IntegerLaws.{decoded_more}, integers.magnitude_in.Goals as goal}
+use Rattle.borsh_json.proofs.IntegerLaws.{decoded_more}
+use Rattle.borsh_json.proofs.integers.magnitude_in.Goals as goal
 
 pub loop-place-preserved : goal.loop-place-preserved
 loop-place-preserved c =

@@ -1,6 +1,7 @@
 use Rattle.std.proofs.{Common.{◌≡◌, ◌∙◌, Some, refl, sym, ap, subst, codes, bytes_eq}, lemmas.Slice.Eq.{bytes_eq-Decides}}
 use Rattle.borsh_json.specs.{Forms.{primitive, sequence, IsByte, IsList}, Found.{forms_of}}
-use Rattle.borsh_json.proofs.{FoundLaws.{list_element, on_true}, NameLaws.{ne_false}, kinds.is_text.Goals as goal}
+use Rattle.borsh_json.proofs.{FoundLaws.{list_element, on_true}, NameLaws.{ne_false}}
+use Rattle.borsh_json.proofs.kinds.is_text.Goals as goal
 
 pub returns : goal.returns
 returns c = λ x h.

@@ -2,7 +2,8 @@ use Rattle.std.proofs.{Common.{◌∙◌, Some, map, sym, ap, subst, bytes_eq}, 
 use Rattle.std.specs.List.{IsDistinct}
 use Rattle.borsh_walks.specs.Forms.{variant_bytes}
 use Rattle.borsh_json.specs.{Forms.{form_of}, Found.{forms_of}, Table.{ComesTwice}}
-use Rattle.borsh_json.proofs.{FoundLaws.{on_some, on_none}, NameLaws.{optional_kind, variants_kind, variants_repeated}, kinds.kind_of.Goals as goal}
+use Rattle.borsh_json.proofs.{FoundLaws.{on_some, on_none}, NameLaws.{optional_kind, variants_kind, variants_repeated}}
+use Rattle.borsh_json.proofs.kinds.kind_of.Goals as goal
 
 pub returns-in-Some-clause-kind : goal.returns-in-Some-clause-kind
 returns-in-Some-clause-kind c = λ x i e full.

@@ -1,6 +1,7 @@
 use Rattle.std.proofs.Common.{◌≡◌, ◌∙◌, Some, refl, sym, ap, subst, codes}
 use Rattle.borsh_json.specs.{Forms.{sequence}, Table.{HasKind, utf8, byte_list}, Places.{lengths_of}, Found.{forms_of}}
-use Rattle.borsh_json.proofs.{FoundLaws.{not_true}, NameLaws.{text_is, text_kind, bytes_kind}, kinds.kind_of_bytes.Goals as goal}
+use Rattle.borsh_json.proofs.{FoundLaws.{not_true}, NameLaws.{text_is, text_kind, bytes_kind}}
+use Rattle.borsh_json.proofs.kinds.kind_of_bytes.Goals as goal
 
 pub returns-then-is_text-clause-kind : goal.returns-then-is_text-clause-kind
 returns-then-is_text-clause-kind c = λ w lo hi e q i b x h full.

@@ -2,7 +2,8 @@ use Rattle.std.proofs.Common.{◌≡◌, ◌-◌, ◌∙◌, inl, inr, Some, ari
 use Rattle.borsh_plan.specs.Plan.{names_of as plan_names}
 use Rattle.borsh_values.specs.Nodes.{packed_size}
 use Rattle.borsh_json.specs.{declared.kinds.Elements.{Elements}, Forms.{form_of, sequence, shape_of_form}, Table.{HasKind, list, entries}, Places.{lengths_of}, Found.{forms_of, names_of}}
-use Rattle.borsh_json.proofs.{FoundLaws.{on_true, on_false, not_true}, KindOrders.{key_found}, NameLaws.{elements_found, numbers_found, refused, entries_kind, list_kind}, kinds.kind_of_list.Goals as goal, kinds.kind_of_list.Goals.{then-is_zero_size-via-then-is_zero_size, then-is_zero_size-via-else-is_zero_size+then-has_empty_keys}}
+use Rattle.borsh_json.proofs.{FoundLaws.{on_true, on_false, not_true}, KindOrders.{key_found}, NameLaws.{elements_found, numbers_found, refused, entries_kind, list_kind}, kinds.kind_of_list.Goals.{then-is_zero_size-via-then-is_zero_size, then-is_zero_size-via-else-is_zero_size+then-has_empty_keys}}
+use Rattle.borsh_json.proofs.kinds.kind_of_list.Goals as goal
 
 pub returns-then-is_zero_size-clause-kind : goal.returns-then-is_zero_size-clause-kind
 returns-then-is_zero_size-clause-kind c = λ w lo hi e q i b x h full.

@@ -1,5 +1,6 @@
 use Rattle.std.proofs.Common.{◌∙◌, sym}
-use Rattle.borsh_json.proofs.{NameLaws.{float_primitive}, kinds.kind_of_primitive.Goals as goal}
+use Rattle.borsh_json.proofs.NameLaws.{float_primitive}
+use Rattle.borsh_json.proofs.kinds.kind_of_primitive.Goals as goal
 
 pub returns-then-is_float : goal.returns-then-is_float
 returns-then-is_float c = float_primitive c.args.name.now c.args.size (sym c.is_float.ensures ∙ c.if-is_float.true)

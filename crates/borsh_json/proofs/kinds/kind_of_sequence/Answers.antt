@@ -1,6 +1,7 @@
 use Rattle.std.proofs.Common.{◌∙◌, Some, refl, ap}
 use Rattle.borsh_json.specs.Forms.{sequence}
-use Rattle.borsh_json.proofs.{FoundLaws.{not_true}, kinds.kind_of_sequence.Goals as goal}
+use Rattle.borsh_json.proofs.FoundLaws.{not_true}
+use Rattle.borsh_json.proofs.kinds.kind_of_sequence.Goals as goal
 
 pub returns-then-is_byte-clause-kind : goal.returns-then-is_byte-clause-kind
 returns-then-is_byte-clause-kind c = λ w lo hi e q x h full.

@@ -2,7 +2,8 @@ use Rattle.std.proofs.{Common.{◌≡◌, ◌∙◌, ◌∷◌, [], Some, refl, 
 use Rattle.std.specs.List.{IsDistinct}
 use Rattle.borsh_walks.specs.Forms.{field_bytes}
 use Rattle.borsh_json.specs.{Forms.{form_of_struct, unnamed}, Found.{forms_of}, Table.{ComesTwice}}
-use Rattle.borsh_json.proofs.{FoundLaws.{one_part, on_some}, NameLaws.{fields_repeated, newtype_kind}, kinds.kind_of_struct.Goals as goal}
+use Rattle.borsh_json.proofs.{FoundLaws.{one_part, on_some}, NameLaws.{fields_repeated, newtype_kind}}
+use Rattle.borsh_json.proofs.kinds.kind_of_struct.Goals as goal
 
 pub returns-in-Some-clause-kind : goal.returns-in-Some-clause-kind
 returns-in-Some-clause-kind c = λ x h full.

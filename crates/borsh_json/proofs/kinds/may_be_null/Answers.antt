@@ -1,6 +1,7 @@
 use Rattle.std.proofs.Common.{◌≡◌, ◌∙◌, ◌-◌, ◌+◌, ◌<◌, ◌∷◌, [], suc, ℕ, Some, refl, sym, ap, subst, arith}
 use Rattle.borsh_json.specs.{Forms.{form_of, unnamed}, Table.{MayBeNull, too_far, without_bytes, an_option, in_newtype}, Found.{forms_of}}
-use Rattle.borsh_json.proofs.{FoundLaws.{on_true, on_false, not_true}, NameLaws.{null_missing, null_other, null_inner}, kinds.may_be_null.Goals as goal}
+use Rattle.borsh_json.proofs.{FoundLaws.{on_true, on_false, not_true}, NameLaws.{null_missing, null_other, null_inner}}
+use Rattle.borsh_json.proofs.kinds.may_be_null.Goals as goal
 
 left : (i : ℕ) → i < 128 → 128 - i ≡ suc (128 - (i + 1))
 left i h = omega arith

@@ -1,6 +1,7 @@
 use Rattle.std.proofs.Common.{subst}
 use Rattle.borsh_json.specs.{Found.{forms_of}, Table.{MayBeNull}}
-use Rattle.borsh_json.proofs.{FoundLaws.{on_true, on_false}, RepresentsLaws.{option_one}, kinds.nullable_part.Goals as goal}
+use Rattle.borsh_json.proofs.{FoundLaws.{on_true, on_false}, RepresentsLaws.{option_one}}
+use Rattle.borsh_json.proofs.kinds.nullable_part.Goals as goal
 
 pub returns-in_err-part : goal.returns-in_err-part
 returns-in_err-part c = λ x h. rw c.from_residual.ensures (λ p n. c.in_err-part.ensures x h p n.0)

@@ -1,6 +1,7 @@
 use Rattle.std.proofs.Common.{subst}
 use Rattle.borsh_json.specs.{declared.formats.Collection.{Collection}, Found.{IsCollection, forms_of, names_of}}
-use Rattle.borsh_json.proofs.{KindOrders.{key_found, list_none, set_found}, kinds.order_in.Goals as goal}
+use Rattle.borsh_json.proofs.KindOrders.{key_found, list_none, set_found}
+use Rattle.borsh_json.proofs.kinds.order_in.Goals as goal
 
 pub returns-in-List : goal.returns-in-List
 returns-in-List c x e w lo hi l i f =

@@ -1,5 +1,6 @@
 use Rattle.std.proofs.{Common.{◌≡◌, ◌∙◌, ◌+◌, ◌-◌, ◌<◌, ℕ, List, length, get_or, false, refl, sym, ap, subst, arith, below_more}, lemmas.Option.{get_or_from_slice_get}}
-use Rattle.borsh_json.proofs.{FrameLaws.{get_from}, RepeatedLaws.{Text, comes_twice, same_text, none_repeated, one_repeated}, kinds.repeated_name.Goals as goal}
+use Rattle.borsh_json.proofs.{FrameLaws.{get_from}, RepeatedLaws.{Text, comes_twice, same_text, none_repeated, one_repeated}}
+use Rattle.borsh_json.proofs.kinds.repeated_name.Goals as goal
 
 same_at : (ks : List Text) (i j : ℕ) (a b d : Text) → i < length ks → j < length ks → a ≡ get_or ks i a → b ≡ get_or ks j b → same_text (get_or ks i d) (get_or ks j d) ≡ same_text a b
 same_at ks i j a b d h l p q =

@@ -1,6 +1,7 @@
 use Rattle.std.proofs.{Common.{◌≤◌, ◌∙◌, ◌++◌, ◌∷◌, [], List, ℕ, length, map, take, string_bytes, sym, ap, subst, arith}, lemmas.List.{map-append, take_all}}
 use Rattle.borsh_json.specs.Found.{IsRepeated}
-use Rattle.borsh_json.proofs.{FrameLaws.{length_map}, RepeatedLaws.{Text, taken_more}, kinds.repeated_variant.Goals as goal}
+use Rattle.borsh_json.proofs.{FrameLaws.{length_map}, RepeatedLaws.{Text, taken_more}}
+use Rattle.borsh_json.proofs.kinds.repeated_variant.Goals as goal
 
 pub loop-variant-init : goal.loop-variant-init
 loop-variant-init c = ap (λ l. map (λ (n : Text). n.now) l) c.in_ok-names.ensures.items

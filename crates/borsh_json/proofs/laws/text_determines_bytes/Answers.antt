@@ -2,7 +2,8 @@ use Rattle.std.proofs.Common.{subst}
 use Rattle.borsh_walks.specs.Container.{Member}
 use Rattle.borsh_walks.proofs.Forms.{shapes_are}
 use Rattle.borsh_json.specs.Forms.{forms_in}
-use Rattle.borsh_json.proofs.{RepresentsLaws.{text_one}, laws.text_determines_bytes.Goals as goal}
+use Rattle.borsh_json.proofs.RepresentsLaws.{text_one}
+use Rattle.borsh_json.proofs.laws.text_determines_bytes.Goals as goal
 
 pub returns : goal.returns
 returns c = record {

@@ -1,6 +1,7 @@
 use Rattle.std.proofs.Common.{subst}
 use Rattle.borsh_json.specs.{declared.sources.EntryKey.{EntryKey}, Frames.{IsEntryKey}}
-use Rattle.borsh_json.proofs.{KeyLaws.{rank_above}, leaves.is_above.Goals as goal}
+use Rattle.borsh_json.proofs.KeyLaws.{rank_above}
+use Rattle.borsh_json.proofs.leaves.is_above.Goals as goal
 
 pub returns-in-Rank-Rank : goal.returns-in-Rank-Rank
 returns-in-Rank-Rank c = λ F ns k f kind keys s t i j a l m.

@@ -1,6 +1,7 @@
 use Rattle.std.proofs.Common.{length, subst}
 use Rattle.borsh_json.specs.{declared.error.WriteError.{WriteError}, Leaves.{HasSize, RefusesValue}, Table.{Kind, list}}
-use Rattle.borsh_json.proofs.{ListLaws.{no_size}, RepresentsLaws.{kind_one}, leaves.of_element.Goals as goal}
+use Rattle.borsh_json.proofs.{ListLaws.{no_size}, RepresentsLaws.{kind_one}}
+use Rattle.borsh_json.proofs.leaves.of_element.Goals as goal
 
 -- a primitive is no list
 pub returns-in-Element : goal.returns-in-Element

@@ -1,6 +1,7 @@
 use Rattle.std.proofs.Common.{◌≡◌, inl, inr, refl, subst}
 use Rattle.borsh_json.specs.{Printed.{IsMarked}, Table.{float}}
-use Rattle.borsh_json.proofs.{LeafLaws.{no_nan, put_digits, put_string}, leaves.put_float.Goals as goal}
+use Rattle.borsh_json.proofs.LeafLaws.{no_nan, put_digits, put_string}
+use Rattle.borsh_json.proofs.leaves.put_float.Goals as goal
 
 pub returns-in_default : goal.returns-in_default
 returns-in_default c = λ F x f h l. ((f, h), no_nan F x c.args.own.now f h l (c.in_default.ensures.float f l))

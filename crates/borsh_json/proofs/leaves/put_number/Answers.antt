@@ -1,7 +1,8 @@
 use Rattle.std.proofs.Common.{◌≡◌, length, refl, true, arith, subst, sym, pos}
 use Rattle.borsh_json.specs.{Integers.{integer_of}, Leaves.{long_of}}
 use Rattle.json.specs.Print.{IsNumber}
-use Rattle.borsh_json.proofs.{LeafLaws.{number_there, number_zero, number_string, number_plain, number_long, printable}, leaves.put_number.Goals as goal, leaves.put_number.Goals.{else-number-via-then-number+else-is_zero, else-number-via-else-number}}
+use Rattle.borsh_json.proofs.{LeafLaws.{number_there, number_zero, number_string, number_plain, number_long, printable}, leaves.put_number.Goals.{else-number-via-then-number+else-is_zero, else-number-via-else-number}}
+use Rattle.borsh_json.proofs.leaves.put_number.Goals as goal
 
 pub returns-then-is_zero : goal.returns-then-is_zero
 returns-then-is_zero c = λ F x h l.

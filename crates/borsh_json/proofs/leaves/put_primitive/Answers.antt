@@ -1,6 +1,7 @@
 use Rattle.std.proofs.Common.{length, subst}
 use Rattle.borsh_json.specs.{declared.kinds.Kind.{Kind}, Found.{IsPrimitiveKind}, Leaves.{HasSize}, Table.{HasKind, Kind as TableKind}}
-use Rattle.borsh_json.proofs.{LeafLaws.{raw_hex, raw_kind}, leaves.put_primitive.Goals as goal}
+use Rattle.borsh_json.proofs.LeafLaws.{raw_hex, raw_kind}
+use Rattle.borsh_json.proofs.leaves.put_primitive.Goals as goal
 
 pub returns-in-Float : goal.returns-in-Float
 returns-in-Float c = λ F x k p h l.

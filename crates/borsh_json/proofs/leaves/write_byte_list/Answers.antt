@@ -1,5 +1,6 @@
 use Rattle.borsh_json.specs.{Forms.{form_of}, Places.{lengths_of}, Table.{byte_list}}
-use Rattle.borsh_json.proofs.{LeafLaws.{defined, put_hex}, ListLaws.{bytes_say, list_node}, leaves.write_byte_list.Goals as goal}
+use Rattle.borsh_json.proofs.{LeafLaws.{defined, put_hex}, ListLaws.{bytes_say, list_node}}
+use Rattle.borsh_json.proofs.leaves.write_byte_list.Goals as goal
 
 pub returns : goal.returns
 returns c = λ F ns x parts o h.

@@ -1,7 +1,8 @@
 use Rattle.std.proofs.Common.{◌≡◌, [], true, refl, subst, sym, pos}
 use Rattle.json.specs.Json.{string}
 use Rattle.borsh_json.specs.{declared.kinds.KeyKind.{KeyKind}, declared.sources.EntryKey.TheVariants.{Text, Rank}, Forms.{form_of}, Frames.{IsEntryKey}, Integers.{integer_of}, Places.{AreKeysOf, lengths_of}, Represents.{SaysFirst}, Table.{Keys, key_json, utf8, whole}}
-use Rattle.borsh_json.proofs.{KeyJson.{number_key}, LeafLaws.{bare_opened, defined, number_there, number_zero}, ListLaws.{list_node, no_text, tells_count, text_says}, leaves.write_key.Goals as goal, leaves.write_key.Goals.{else-number-via-then-number+else-is_zero, else-number-via-else-number}}
+use Rattle.borsh_json.proofs.{KeyJson.{number_key}, LeafLaws.{bare_opened, defined, number_there, number_zero}, ListLaws.{list_node, no_text, tells_count, text_says}, leaves.write_key.Goals.{else-number-via-then-number+else-is_zero, else-number-via-else-number}}
+use Rattle.borsh_json.proofs.leaves.write_key.Goals as goal
 
 pub returns-in_ok-put-in-Ok : goal.returns-in_ok-put-in-Ok
 returns-in_ok-put-in-Ok c = λ F ns k keys parts o a.

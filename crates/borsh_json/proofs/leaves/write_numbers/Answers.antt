@@ -1,6 +1,7 @@
 use Rattle.std.proofs.{Common.{◌≡◌, inl, inr, ℕ, suc, ◌<◌, List, [], length, ap, arith, refl, subst, sym}, lemmas.Bool.Decides.{nat_tests}}
 use Rattle.borsh_json.specs.{Forms.{form_of}, Found.{IsPrimitiveKind, forms_of, names_of}, Leaves.{HasSize}, Places.{lengths_of}, Table.{primitive_kind}}
-use Rattle.borsh_json.proofs.{LeafLaws.{primitive_sized}, ListLaws.{IsListing, few, list_refused, listing_end, listing_more, listing_start, no_items_there, no_list, numbers_there, piece_there, one_more, tells_count}, leaves.write_numbers.Goals as goal}
+use Rattle.borsh_json.proofs.{LeafLaws.{primitive_sized}, ListLaws.{IsListing, few, list_refused, listing_end, listing_more, listing_start, no_items_there, no_list, numbers_there, piece_there, one_more, tells_count}}
+use Rattle.borsh_json.proofs.leaves.write_numbers.Goals as goal
 
 pub elements-init : goal.elements-init
 elements-init c = (inl (refl, refl), λ F e k m p h s some q. listing_start F e c.from-size.result c.elements_of-rest.result.now c.args.out.now c.put.new.self c.in_ok-put.ensures)

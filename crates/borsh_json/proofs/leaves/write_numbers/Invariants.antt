@@ -1,6 +1,7 @@
 use Rattle.std.proofs.Common.{◌≡◌, ◌≤◌, ◌*◌, ℕ, List, Option, length}
 use Rattle.borsh_json.specs.{Forms.{Form}, Found.{IsPrimitiveKind}, Leaves.{HasSize}, Table.{HasKind, Kind}}
-use Rattle.borsh_json.proofs.{ListLaws.{IsIndexed, IsListing}, leaves.write_numbers.Given as goal}
+use Rattle.borsh_json.proofs.ListLaws.{IsIndexed, IsListing}
+use Rattle.borsh_json.proofs.leaves.write_numbers.Given as goal
 
 abbrev pub invariant-elements : goal.invariant-elements
 invariant-elements l =

@@ -1,5 +1,6 @@
 use Rattle.borsh_json.specs.Forms.{form_of}
-use Rattle.borsh_json.proofs.{LeafLaws.{bare, bare_opened, found_kind}, leaves.write_primitive.Goals as goal}
+use Rattle.borsh_json.proofs.LeafLaws.{bare, bare_opened, found_kind}
+use Rattle.borsh_json.proofs.leaves.write_primitive.Goals as goal
 
 pub returns : goal.returns
 returns c = λ k p F ns x parts o i.

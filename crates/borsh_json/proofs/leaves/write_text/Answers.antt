@@ -1,7 +1,8 @@
 use Rattle.std.proofs.Common.{[], subst, sym}
 use Rattle.json.specs.Json.{string}
 use Rattle.borsh_json.specs.{Forms.{form_of}, Places.{lengths_of}, Represents.{SaysFirst}, Table.{utf8}}
-use Rattle.borsh_json.proofs.{LeafLaws.{defined, put_string}, ListLaws.{list_node, no_text, tells_count, text_says}, leaves.write_text.Goals as goal}
+use Rattle.borsh_json.proofs.{LeafLaws.{defined, put_string}, ListLaws.{list_node, no_text, tells_count, text_says}}
+use Rattle.borsh_json.proofs.leaves.write_text.Goals as goal
 
 pub returns-in_ok-put-in-Ok : goal.returns-in_ok-put-in-Ok
 returns-in_ok-put-in-Ok c = λ F ns x parts o h.

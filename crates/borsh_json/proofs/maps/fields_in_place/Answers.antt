@@ -1,5 +1,6 @@
 use Rattle.std.proofs.{Common.{◌≡◌, ◌≤◌, ◌∙◌, List, ℕ, length, map, take, true, string_bytes, sym, ap, subst, arith, take_all}, lemmas.Slice.Eq.{bytes_eq-Decides}}
-use Rattle.borsh_json.proofs.{FieldLaws.{ArePast, past_start, past_more, past_all}, FrameLaws.{length_map}, RepeatedLaws.{taken_more}, maps.fields_in_place.Goals as goal}
+use Rattle.borsh_json.proofs.{FieldLaws.{ArePast, past_start, past_more, past_all}, FrameLaws.{length_map}, RepeatedLaws.{taken_more}}
+use Rattle.borsh_json.proofs.maps.fields_in_place.Goals as goal
 
 pub loop-field-init : goal.loop-field-init
 loop-field-init c ms h = past_start ms c.in_ok-members.members h

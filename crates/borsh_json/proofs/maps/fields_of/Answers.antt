@@ -1,7 +1,8 @@
 use Rattle.std.proofs.{Common.{◌∙◌, map, string_bytes, sym, subst, refl, List, ℕ, bytes_eq, btree_map_len}, lemmas.List.Sorted.{length_permutation}}
 use Rattle.std.specs.List.{IsDistinct}
 use Rattle.borsh_json.specs.{Frames.{IsText}, Table.{entries_of}}
-use Rattle.borsh_json.proofs.{FieldLaws.{in_place, wanted}, MemberLaws.{keyed_length}, PartsLaws.{all_found, all_others, names_of}, maps.fields_of.Goals as goal}
+use Rattle.borsh_json.proofs.{FieldLaws.{in_place, wanted}, MemberLaws.{keyed_length}, PartsLaws.{all_found, all_others, names_of}}
+use Rattle.borsh_json.proofs.maps.fields_of.Goals as goal
 
 pub returns-in-Some : goal.returns-in-Some
 returns-in-Some c d j b =

@@ -1,5 +1,6 @@
 use Rattle.std.proofs.Common.{◌∙◌, sym, ap, is_ge}
-use Rattle.borsh_json.proofs.{MapLaws.{rising_start, rising_more, rising_all}, maps.in_place.Goals as goal}
+use Rattle.borsh_json.proofs.MapLaws.{rising_start, rising_more, rising_all}
+use Rattle.borsh_json.proofs.maps.in_place.Goals as goal
 
 pub loop-count-init : goal.loop-count-init
 loop-count-init c ms h = rising_start ms c.in_ok-members.members h

@@ -2,7 +2,8 @@ use Rattle.std.proofs.Common.{◌∙◌, List, ℕ, sym, ap, subst, is_some}
 use Rattle.json.specs.Find.{as_object}
 use Rattle.borsh_walks.proofs.Tables.{marks_none}
 use Rattle.borsh_json.specs.{Frames.{IsText}, NoValue.{RepeatsKey}}
-use Rattle.borsh_json.proofs.{MemberLaws.{found_start, found_more, found_all, passed_twice, text_cmp, text_one, not_each, none_of}, OpeningLaws.{denies_expected}, maps.members_of.Goals as goal}
+use Rattle.borsh_json.proofs.{MemberLaws.{found_start, found_more, found_all, passed_twice, text_cmp, text_one, not_each, none_of}, OpeningLaws.{denies_expected}}
+use Rattle.borsh_json.proofs.maps.members_of.Goals as goal
 
 pub returns-in_default : goal.returns-in_default
 returns-in_default c j b = denies_expected _ (λ w. tt) c.expected.result c.expected.ensures (λ h. let f = ap as_object h.1 in let g = c.in_default.ensures j b in cc)

@@ -1,6 +1,7 @@
 use Rattle.std.proofs.Common.{length}
 use Rattle.json.specs.{Json.{Members}, Find.{InMembers}}
-use Rattle.borsh_json.proofs.{MemberLaws.{ArePassedTexts}, maps.members_of.Given as goal}
+use Rattle.borsh_json.proofs.MemberLaws.{ArePassedTexts}
+use Rattle.borsh_json.proofs.maps.members_of.Given as goal
 
 abbrev pub invariant-loop-key : goal.invariant-loop-key
 invariant-loop-key l = (ms : Members) → InMembers l.initial.members ms → ArePassedTexts ms l.members l.found

@@ -1,7 +1,8 @@
 use Rattle.std.proofs.Common.{◌∙◌, inl, inr, List, ℕ, sym, ap, subst, is_some, nat_cmp}
 use Rattle.json.specs.Find.{as_object}
 use Rattle.borsh_json.specs.{Frames.{IsRank}, NoValue.{RepeatsKey}}
-use Rattle.borsh_json.proofs.{MemberLaws.{passed_start, passed_here, passed_more, passed_twice, passed_all, not_each, none_of}, NumberLaws.{rank_one}, OpeningLaws.{shows_expected}, maps.ranks_of.Goals as goal}
+use Rattle.borsh_json.proofs.{MemberLaws.{passed_start, passed_here, passed_more, passed_twice, passed_all, not_each, none_of}, NumberLaws.{rank_one}, OpeningLaws.{shows_expected}}
+use Rattle.borsh_json.proofs.maps.ranks_of.Goals as goal
 
 pub returns-in_default : goal.returns-in_default
 returns-in_default c small j b = shows_expected _ (λ w. tt) c.expected.result c.expected.ensures (inl (λ h. let f = ap as_object h.1 in let g = c.in_default.ensures j b in cc))

@@ -1,7 +1,8 @@
 use Rattle.std.proofs.Common.{length, ◌≤◌}
 use Rattle.json.specs.{Json.{Members}, Find.{InMembers}}
 use Rattle.borsh_json.specs.Frames.{IsRank}
-use Rattle.borsh_json.proofs.{MemberLaws.{ArePassed}, maps.ranks_of.Given as goal}
+use Rattle.borsh_json.proofs.MemberLaws.{ArePassed}
+use Rattle.borsh_json.proofs.maps.ranks_of.Given as goal
 
 abbrev pub invariant-loop-key : goal.invariant-loop-key
 invariant-loop-key l = l.number.size ≤ 16 → (ms : Members) → InMembers l.initial.members ms → ArePassed (IsRank l.number) ms l.members l.found.entries

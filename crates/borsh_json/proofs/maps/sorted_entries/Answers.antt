@@ -1,6 +1,7 @@
 use Rattle.std.proofs.Common.{ℕ, subst, refl, sym}
 use Rattle.borsh_json.specs.{declared.kinds.KeyKind.{KeyKind}, declared.kinds.KeyKind.TheVariants.{Text as TextKeys}, declared.sources.Source.{Source}, declared.sources.Source.TheVariants.{Texts, Ranks}, Frames.{AreSorted}, Places.{AreKeysOf}, Table.{Keys}}
-use Rattle.borsh_json.proofs.{MapLaws.{texts_sorted, ranks_sorted, texts_said, numbers_fail}, OpeningLaws.{refuses_keys}, RepresentsLaws.{kind_small}, maps.sorted_entries.Goals as goal}
+use Rattle.borsh_json.proofs.{MapLaws.{texts_sorted, ranks_sorted, texts_said, numbers_fail}, OpeningLaws.{refuses_keys}, RepresentsLaws.{kind_small}}
+use Rattle.borsh_json.proofs.maps.sorted_entries.Goals as goal
 
 pub returns-in-Some : goal.returns-in-Some
 returns-in-Some c F ns x k v l g keys j h a b =

@@ -1,6 +1,7 @@
 use Rattle.std.proofs.Common.{refl, subst, true, false, MatchBool}
 use Rattle.borsh_json.specs.Names.{HasOtherKeys, HasToldKeys}
-use Rattle.borsh_json.proofs.{TellingLaws.{bytes_word}, names.word_of.Goals as goal}
+use Rattle.borsh_json.proofs.TellingLaws.{bytes_word}
+use Rattle.borsh_json.proofs.names.word_of.Goals as goal
 
 pub returns-then-is_sorted : goal.returns-then-is_sorted
 returns-then-is_sorted c F ns x f k h t =

@@ -1,7 +1,8 @@
 use Rattle.std.proofs.Common.{◌≡◌, ◌⊎◌, inl, inr, ℕ, suc, zero, ◌-◌, ◌<◌, List, [], ◌∷◌, ◌++◌, length, Bool, Option, Some, None, refl, sym, ◌∙◌, ap, arith, length-append, IsSome, Vec, vec_len, Global, option_to_list}
 use Rattle.json.specs.{Lex.{tokens}, Reads.{token_of}, declared.token.Token.{Token}, declared.token.Token.TheVariants.{BeginObject, EndObject, BeginArray, EndArray, Key, String, Number, Bool as Truth, Null, Bad}}
 use Rattle.borsh_json.specs.Errors.{open_after}
-use Rattle.borsh_json.proofs.{TextLaws.{read_more}, not_json.why_not_json.Goals as goal, not_json.why_not_json.Goals.{in-BeginArray+else-len-ge-MAX_DEPTH+in-Ok-push, in-EndArray, in_default-token}}
+use Rattle.borsh_json.proofs.{TextLaws.{read_more}, not_json.why_not_json.Goals.{in-BeginArray+else-len-ge-MAX_DEPTH+in-Ok-push, in-EndArray, in_default-token}}
+use Rattle.borsh_json.proofs.not_json.why_not_json.Goals as goal
 
 opens : (n : ℕ) (t : Token) → (t ≡ BeginArray) ⊎ (t ≡ BeginObject) → open_after n (token_of t) ≡ suc n
 opens n t (inl e) = ap (λ t. open_after n (token_of t)) e

@@ -1,6 +1,7 @@
 use Rattle.std.proofs.Common.{sym, subst}
 use Rattle.borsh_json.specs.Ranks.{HasNoLeadingZero}
-use Rattle.borsh_json.proofs.{DecimalLaws.{short, signed_plain, signed_parsed}, numbers.signed_of.Goals as goal}
+use Rattle.borsh_json.proofs.DecimalLaws.{short, signed_plain, signed_parsed}
+use Rattle.borsh_json.proofs.numbers.signed_of.Goals as goal
 
 pub returns-then-is_plain : goal.returns-then-is_plain
 returns-then-is_plain c =

@@ -1,6 +1,7 @@
 use Rattle.std.proofs.Common.{sym, subst, arith}
 use Rattle.borsh_json.specs.Ranks.{HasNoLeadingZero}
-use Rattle.borsh_json.proofs.{DecimalLaws.{unsigned_plain, unsigned_parsed}, numbers.unsigned_of.Goals as goal}
+use Rattle.borsh_json.proofs.DecimalLaws.{unsigned_plain, unsigned_parsed}
+use Rattle.borsh_json.proofs.numbers.unsigned_of.Goals as goal
 
 pub returns-then-is_plain : goal.returns-then-is_plain
 returns-then-is_plain c =

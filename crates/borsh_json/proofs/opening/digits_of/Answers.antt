@@ -1,7 +1,8 @@
 use Rattle.std.proofs.Common.{ℕ, List, Option, subst, MatchOption, Vec, Global}
 use Rattle.json.specs.Json.{string}
 use Rattle.borsh_json.specs.Table.{IsHex}
-use Rattle.borsh_json.proofs.{OpeningLaws.{denies_expected}, opening.digits_of.Goals as goal}
+use Rattle.borsh_json.proofs.OpeningLaws.{denies_expected}
+use Rattle.borsh_json.proofs.opening.digits_of.Goals as goal
 
 pub returns-in-None : goal.returns-in-None
 returns-in-None c =

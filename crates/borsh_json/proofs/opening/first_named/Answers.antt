@@ -1,6 +1,7 @@
 use Rattle.std.proofs.{Common.{◌≡◌, ◌+◌, ◌≤◌, ◌<◌, ap, sym, ◌∙◌, List, ℕ, suc, subst, length, arith, map, drop, string_bytes, get_or, ℤ, slice_get, Some, String, Global}, lemmas.Slice.Eq.{bytes_eq-Decides}}
 use Rattle.borsh_json.specs.Table.{IsVariant}
-use Rattle.borsh_json.proofs.{FrameLaws.{get_from, get_map, drop_all, length_map}, OpeningLaws.{variant_here, variant_later, no_variant}, opening.first_named.Goals as goal}
+use Rattle.borsh_json.proofs.{FrameLaws.{get_from, get_map, drop_all, length_map}, OpeningLaws.{variant_here, variant_later, no_variant}}
+use Rattle.borsh_json.proofs.opening.first_named.Goals as goal
 
 pub returns-then-eq : goal.returns-then-eq
 returns-then-eq c =

@@ -1,7 +1,8 @@
 use Rattle.std.proofs.Common.{length, sym, ap, subst, arith}
 use Rattle.json.specs.{Json.{Json}, Find.{as_str}}
 use Rattle.borsh_json.specs.Table.{IsHex}
-use Rattle.borsh_json.proofs.{OpeningLaws.{denies_expected, denies_read, string_is}, RepresentsLaws.{hex_one}, opening.fixed_bytes.Goals as goal}
+use Rattle.borsh_json.proofs.{OpeningLaws.{denies_expected, denies_read, string_is}, RepresentsLaws.{hex_one}}
+use Rattle.borsh_json.proofs.opening.fixed_bytes.Goals as goal
 
 pub returns-in_default : goal.returns-in_default
 returns-in_default c j b = denies_expected _ (λ w. tt) c.wrong_size.result c.wrong_size.ensures (λ h. let e = c.in_default.ensures j b in let f = ap as_str h.1.1 in cc)

@@ -1,5 +1,6 @@
 use Rattle.std.proofs.Common.{sym}
-use Rattle.borsh_json.proofs.{NumberTexts.{quoted, plain, long, no_other}, opening.number_text.Goals as goal}
+use Rattle.borsh_json.proofs.NumberTexts.{quoted, plain, long, no_other}
+use Rattle.borsh_json.proofs.opening.number_text.Goals as goal
 
 pub returns-then-is_quoted : goal.returns-then-is_quoted
 returns-then-is_quoted c j b = quoted c.args.number.size j c.as_str.result (c.is_quoted.ensures.0 c.if-is_quoted.true) (c.as_str.ensures j b)

@@ -1,7 +1,8 @@
 use Rattle.std.proofs.Common.{◌∷◌, [], sym, ◌∙◌, ap, refl, true, false, Some}
 use Rattle.json.specs.Find.{as_bool}
 use Rattle.borsh_json.specs.Table.{truth}
-use Rattle.borsh_json.proofs.{OpeningLaws.{opened_leaf, denied, bool_is, refuses_expected}, opening.open_bool.Goals as goal}
+use Rattle.borsh_json.proofs.OpeningLaws.{opened_leaf, denied, bool_is, refuses_expected}
+use Rattle.borsh_json.proofs.opening.open_bool.Goals as goal
 
 pub returns-in_ok-push-in-Some-true : goal.returns-in_ok-push-in-Some-true
 returns-in_ok-push-in-Some-true c F ns x j h b = opened_leaf F ns x j truth c.args.out.now.items c.push.new.self.items (1 ∷ []) h c.in_ok-push-in-Some-true.ensures.items (true, bool_is j true (sym (c.as_bool.ensures j b) ∙ c.in-Some-true.is ∙ ap (λ b. Some b) c.in-Some-true.field-0-test), refl, refl)

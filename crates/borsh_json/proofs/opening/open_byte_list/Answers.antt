@@ -1,7 +1,8 @@
 use Rattle.std.proofs.Common.{inl, inr, ℕ, List, sym, ◌∙◌, subst, refl, length}
 use Rattle.json.specs.Json.{Json}
 use Rattle.borsh_json.specs.{Forms.{form_of}, Places.{lengths_of}, Table.{byte_list, IsPrefixed, IsHex}}
-use Rattle.borsh_json.proofs.{OpeningLaws.{opened_leaf, said, string_is, refuses_plain}, PartsLaws.{no_text, byte_said}, RepresentsLaws.{hex_one}, opening.open_byte_list.Goals as goal}
+use Rattle.borsh_json.proofs.{OpeningLaws.{opened_leaf, said, string_is, refuses_plain}, PartsLaws.{no_text, byte_said}, RepresentsLaws.{hex_one}}
+use Rattle.borsh_json.proofs.opening.open_byte_list.Goals as goal
 
 pub returns-in_default : goal.returns-in_default
 returns-in_default c F ns x j e at h b =

@@ -1,6 +1,7 @@
 use Rattle.std.proofs.Common.{◌++◌, ◌∙◌, ap, refl}
 use Rattle.borsh_json.specs.Table.{raw}
-use Rattle.borsh_json.proofs.{OpeningLaws.{opened_leaf, said, refuses_plain}, opening.open_bytes.Goals as goal}
+use Rattle.borsh_json.proofs.OpeningLaws.{opened_leaf, said, refuses_plain}
+use Rattle.borsh_json.proofs.opening.open_bytes.Goals as goal
 
 pub returns-in_ok-extend_from_slice-in-Ok : goal.returns-in_ok-extend_from_slice-in-Ok
 returns-in_ok-extend_from_slice-in-Ok c F ns x j h b =

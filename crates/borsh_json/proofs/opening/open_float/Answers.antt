@@ -1,7 +1,8 @@
 use Rattle.std.proofs.Common.{true≢false, sym, ◌∙◌, ap, refl, from_bits, pos}
 use Rattle.borsh_walks.specs.Container.{little_endian, tag}
 use Rattle.borsh_json.specs.Table.{float}
-use Rattle.borsh_json.proofs.{FloatLaws.{below_size}, OpeningLaws.{opened_leaf, denied, refuses_expected}, opening.open_float.Goals as goal}
+use Rattle.borsh_json.proofs.{FloatLaws.{below_size}, OpeningLaws.{opened_leaf, denied, refuses_expected}}
+use Rattle.borsh_json.proofs.opening.open_float.Goals as goal
 
 pub returns-in_ok-put_count-in-Some : goal.returns-in_ok-put_count-in-Some
 returns-in_ok-put_count-in-Some c F ns x j h b =

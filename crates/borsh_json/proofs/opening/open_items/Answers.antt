@@ -1,5 +1,6 @@
 use Rattle.borsh_json.specs.{Forms.{form_of}, Places.{lengths_of}}
-use Rattle.borsh_json.proofs.{OpeningLaws.{refuses_expected}, PartsLaws.{list_opened, list_range, no_list}, opening.open_items.Goals as goal}
+use Rattle.borsh_json.proofs.{OpeningLaws.{refuses_expected}, PartsLaws.{list_opened, list_range, no_list}}
+use Rattle.borsh_json.proofs.opening.open_items.Goals as goal
 
 pub returns-in-Ok : goal.returns-in-Ok
 returns-in-Ok c F ns x j kind e i h s b =

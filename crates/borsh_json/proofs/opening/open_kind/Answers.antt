@@ -1,7 +1,8 @@
 use Rattle.std.proofs.Common.{[], inl, sym, refl, append-nil}
 use Rattle.json.specs.Json.{Json}
 use Rattle.borsh_json.specs.{declared.position.Parts.TheVariants.{Newtype}, Forms.{form_of}, Found.{forms_of, names_of}, NoValue.{SaysOwn, Why}, Places.{lengths_of}, Table.{inner, list}}
-use Rattle.borsh_json.proofs.{OpeningLaws.{flaw_refuses, unmoved, only_found}, PartsLaws.{unsayable}, opening.open_kind.Goals as goal}
+use Rattle.borsh_json.proofs.{OpeningLaws.{flaw_refuses, unmoved, only_found}, PartsLaws.{unsayable}}
+use Rattle.borsh_json.proofs.opening.open_kind.Goals as goal
 
 pub returns-in-Number : goal.returns-in-Number
 returns-in-Number c x j at e h b = c.open_number.ensures _ _ x j (rw c.in-Number.is at h) b

@@ -1,6 +1,7 @@
 use Rattle.std.proofs.Common.{refl}
 use Rattle.borsh_json.specs.{Forms.{form_of}, Places.{lengths_of}}
-use Rattle.borsh_json.proofs.{MapLaws.{map_opened, map_range}, opening.open_map.Goals as goal}
+use Rattle.borsh_json.proofs.MapLaws.{map_opened, map_range}
+use Rattle.borsh_json.proofs.opening.open_map.Goals as goal
 
 pub returns-in-Ok-put_length : goal.returns-in-Ok-put_length
 returns-in-Ok-put_length c F ns x j h b =

@@ -1,6 +1,7 @@
 use Rattle.std.proofs.Common.{List, ℕ, refl, subst, take}
 use Rattle.borsh_json.specs.Table.{whole, IsWhole}
-use Rattle.borsh_json.proofs.{OpeningLaws.{opened_leaf, denied, refuses_expected}, RepresentsLaws.{kind_small, number_one}, opening.open_number.Goals as goal}
+use Rattle.borsh_json.proofs.{OpeningLaws.{opened_leaf, denied, refuses_expected}, RepresentsLaws.{kind_small, number_one}}
+use Rattle.borsh_json.proofs.opening.open_number.Goals as goal
 
 pub returns-in_default : goal.returns-in_default
 returns-in_default c F ns x j h b =

@@ -1,6 +1,7 @@
 use Rattle.std.proofs.Common.{map}
 use Rattle.borsh_json.specs.{Forms.{field_bytes}, Table.{fields}}
-use Rattle.borsh_json.proofs.{EachLaws.{fields_each}, OpeningLaws.{said, refuses_keys}, PartsLaws.{object_opened}, opening.open_object.Goals as goal}
+use Rattle.borsh_json.proofs.{EachLaws.{fields_each}, OpeningLaws.{said, refuses_keys}, PartsLaws.{object_opened}}
+use Rattle.borsh_json.proofs.opening.open_object.Goals as goal
 
 pub returns-in-Ok : goal.returns-in-Ok
 returns-in-Ok c F ns x j h b =

@@ -1,7 +1,8 @@
 use Rattle.std.proofs.Common.{◌∷◌, [], inl, inr, sym, ◌∙◌, ap, refl}
 use Rattle.json.specs.Find.{is_null}
 use Rattle.borsh_json.specs.{declared.position.Parts.TheVariants.{Some as Present}, Table.{optional}}
-use Rattle.borsh_json.proofs.{OpeningLaws.{opened_leaf, null_is, only_found}, opening.open_option.Goals as goal}
+use Rattle.borsh_json.proofs.OpeningLaws.{opened_leaf, null_is, only_found}
+use Rattle.borsh_json.proofs.opening.open_option.Goals as goal
 
 pub returns-then-is_null : goal.returns-then-is_null
 returns-then-is_null c F ns x j h b = opened_leaf F ns x j (optional h.0) c.args.out.now.items c.push.new.self.items (0 ∷ []) h.2 c.in_ok-push.ensures.items (inl (null_is j (sym (c.is_null.ensures j b) ∙ c.if-is_null.true), refl, refl))

@@ -2,7 +2,8 @@ use Rattle.std.proofs.Common.{◌≡◌, ◌∙◌, inl, inr, ℕ, List, Option,
 use Rattle.json.specs.Json.{Json}
 use Rattle.borsh_plan.specs.Plan.{map_of, names_of as plan_names}
 use Rattle.borsh_json.specs.{Forms.{Form, HasNoBytes, forms_in}, NoValue.{SaysOwn}}
-use Rattle.borsh_json.proofs.{OpeningLaws.{unmoved}, opening.open_part.Goals as goal}
+use Rattle.borsh_json.proofs.OpeningLaws.{unmoved}
+use Rattle.borsh_json.proofs.opening.open_part.Goals as goal
 
 undefined_says : (F : List ℕ → Option Form) (x : List ℕ) (j : Json) → F x ≡ None → (HasNoBytes F x → ⊥) → SaysOwn F x j → ⊥
 undefined_says F x j e full s =

@@ -1,4 +1,5 @@
-use Rattle.borsh_json.proofs.{OpeningLaws.{refuses_expected}, PartsLaws.{row_opened, row_count, no_row}, opening.open_row.Goals as goal}
+use Rattle.borsh_json.proofs.{OpeningLaws.{refuses_expected}, PartsLaws.{row_opened, row_count, no_row}}
+use Rattle.borsh_json.proofs.opening.open_row.Goals as goal
 
 pub returns-then-found-count : goal.returns-then-found-count
 returns-then-found-count c F ns x j h b =

@@ -1,7 +1,8 @@
 use Rattle.std.proofs.Common.{ℕ, List, sym, ◌∙◌, ap, subst, refl, length}
 use Rattle.json.specs.{Json.{string}, Find.{as_str}}
 use Rattle.borsh_json.specs.{Forms.{form_of}, Places.{lengths_of}, Table.{utf8, IsPrefixed}}
-use Rattle.borsh_json.proofs.{OpeningLaws.{opened_leaf, denied, said, string_is, one_string, refuses_expected, refuses_plain}, opening.open_text.Goals as goal}
+use Rattle.borsh_json.proofs.OpeningLaws.{opened_leaf, denied, said, string_is, one_string, refuses_expected, refuses_plain}
+use Rattle.borsh_json.proofs.opening.open_text.Goals as goal
 
 pub returns-in-Ok : goal.returns-in-Ok
 returns-in-Ok c F ns x j h b =

@@ -4,7 +4,8 @@ use Rattle.json.specs.{Json.{object, no_members, member}, Token.{Token}}
 use Rattle.borsh_walks.specs.Container.{tag}
 use Rattle.borsh_plan.specs.Plan.{map_of, names_of as plan_names}
 use Rattle.borsh_json.specs.{declared.position.Parts.TheVariants.{Variant}, Forms.{forms_in, choice, variant_bytes}, Frames.{NamesVariant}, Table.{variants}, NoValue.{NamesNoVariant}}
-use Rattle.borsh_json.proofs.{OpeningLaws.{opened_leaf, only_found, refuses_expected}, PartsLaws.{third_names, no_variant_json, unknown_variant, wants_value, wants_none, form_choice, variant_part}, opening.open_variant.Goals as goal}
+use Rattle.borsh_json.proofs.{OpeningLaws.{opened_leaf, only_found, refuses_expected}, PartsLaws.{third_names, no_variant_json, unknown_variant, wants_value, wants_none, form_choice, variant_part}}
+use Rattle.borsh_json.proofs.opening.open_variant.Goals as goal
 
 distinct : (xs : List (ℤ × String Global × String Global)) → IsDistinct bytes_eq (map (λ v. string_bytes v.1) xs) → IsDistinct bytes_eq (map (λ (v : ℤ × List ℕ × List ℕ). v.1) (map variant_bytes xs))
 distinct xs d = subst (λ (l : List (List ℕ)). IsDistinct bytes_eq l) (sym (third_names (λ (v : ℤ × String Global × String Global). v.0) (λ v. string_bytes v.1) (λ v. string_bytes v.2) xs)) d

@@ -1,7 +1,8 @@
 use Rattle.std.proofs.Common.{ap, sym, subst, option_map}
 use Rattle.json.specs.{Json.{Json}, Find.{as_str, as_object}}
 use Rattle.borsh_json.specs.Frames.{NamesVariant}
-use Rattle.borsh_json.proofs.{OpeningLaws.{string_is}, opening.variant_in.Goals as goal}
+use Rattle.borsh_json.proofs.OpeningLaws.{string_is}
+use Rattle.borsh_json.proofs.opening.variant_in.Goals as goal
 
 pub returns-in-Some : goal.returns-in-Some
 returns-in-Some c j b = string_is j c.in-Some.name.now (sym (c.in-Some.ensures j b))

@@ -1,5 +1,6 @@
 use Rattle.std.proofs.{Common.{◌≡◌, ◌<◌, ap, sym, ◌∙◌, List, ℕ, subst, length, map, string_bytes, get_or, ℤ, slice_get, Some, String, Global}, lemmas.Slice.Eq.{bytes_eq-Decides}}
-use Rattle.borsh_json.proofs.{FrameLaws.{get_from, get_map}, OpeningLaws.{variant_here}, opening.variant_named.Goals as goal}
+use Rattle.borsh_json.proofs.{FrameLaws.{get_from, get_map}, OpeningLaws.{variant_here}}
+use Rattle.borsh_json.proofs.opening.variant_named.Goals as goal
 
 pub returns : goal.returns
 returns c =

@@ -1,5 +1,6 @@
 use Rattle.std.proofs.Common.{◌∙◌, Some, map, string_bytes, ap, sym, rules}
-use Rattle.borsh_json.proofs.{OrderedLaws.{named_get, listed_more}, UnorderedLaws.{listed_not}, order.behind_parts.Goals as goal}
+use Rattle.borsh_json.proofs.{OrderedLaws.{named_get, listed_more}, UnorderedLaws.{listed_not}}
+use Rattle.borsh_json.proofs.order.behind_parts.Goals as goal
 
 pub loop-part-preserved : goal.loop-part-preserved
 loop-part-preserved c =

@@ -1,5 +1,6 @@
 use Rattle.std.proofs.Common.{◌≡◌, ◌∙◌, ◌-◌, suc, drop, subst, arith}
-use Rattle.borsh_json.proofs.{OrderNumbers.{bytes_cmp, same_cmp, all_dropped, more_dropped, long_low}, order.compare_bytes.Goals as goal}
+use Rattle.borsh_json.proofs.OrderNumbers.{bytes_cmp, same_cmp, all_dropped, more_dropped, long_low}
+use Rattle.borsh_json.proofs.order.compare_bytes.Goals as goal
 
 pub loop-end-init : goal.loop-end-init
 loop-end-init c = (omega (arith, c.min-end.ensures), omega (arith, c.min-end.ensures), all_dropped c.min-end.result c.args.left.now c.args.right.now c.min-end.ensures)

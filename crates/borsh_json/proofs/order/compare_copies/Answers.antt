@@ -1,6 +1,7 @@
 use Rattle.std.proofs.Common.{◌∙◌, map, sym}
 use Rattle.borsh_json.specs.{Forms.{form_of}, Ordered.{a_copy}}
-use Rattle.borsh_json.proofs.{FoundLaws.{not_true}, OrderLaws.{zero_tells, undefined_tells, differ_tells, no_node_tells, node_tells}, PendingLaws.{turn_other, front_copies}, order.compare_copies.Goals as goal}
+use Rattle.borsh_json.proofs.{FoundLaws.{not_true}, OrderLaws.{zero_tells, undefined_tells, differ_tells, no_node_tells, node_tells}, PendingLaws.{turn_other, front_copies}}
+use Rattle.borsh_json.proofs.order.compare_copies.Goals as goal
 
 pub returns-then-is_zero_size : goal.returns-then-is_zero_size
 returns-then-is_zero_size c x t ts i u a =

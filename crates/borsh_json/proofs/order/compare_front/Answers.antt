@@ -1,4 +1,5 @@
-use Rattle.borsh_json.proofs.{PendingLaws.{turn_at, front_single, front_number, front_text, front_array, front_tuple, turn_list, front_short, front_list, front_empty}, order.compare_front.Goals as goal}
+use Rattle.borsh_json.proofs.PendingLaws.{turn_at, front_single, front_number, front_text, front_array, front_tuple, turn_list, front_short, front_list, front_empty}
+use Rattle.borsh_json.proofs.order.compare_front.Goals as goal
 
 pub returns-in-Single : goal.returns-in-Single
 returns-in-Single c t ts i a =

@@ -2,7 +2,8 @@ use Rattle.std.proofs.Common.{◌≡◌, ◌∙◌, true, ap, sym, subst}
 use Rattle.std.specs.Ordering.{bool_cmp}
 use Rattle.borsh_json.specs.Table.{InRange}
 use Rattle.borsh_values.specs.Tags.{is_negative}
-use Rattle.borsh_json.proofs.{OrderNumbers.{as_naturals, by_signs, one_sign, two_signs}, order.compare_numbers.Goals.{then-is_signed+else-left_sign-right_sign, else-is_signed}, order.compare_numbers.Goals as goal}
+use Rattle.borsh_json.proofs.{OrderNumbers.{as_naturals, by_signs, one_sign, two_signs}, order.compare_numbers.Goals.{then-is_signed+else-left_sign-right_sign, else-is_signed}}
+use Rattle.borsh_json.proofs.order.compare_numbers.Goals as goal
 
 pub returns-then-left_sign-right_sign : goal.returns-then-left_sign-right_sign
 returns-then-left_sign-right_sign c n y z h i j e f =

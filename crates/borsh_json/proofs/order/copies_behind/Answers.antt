@@ -2,8 +2,9 @@ use Rattle.std.proofs.Common.{◌∙◌, Some, ap, subst, refl, map, string_byte
 use Rattle.borsh_walks.specs.{Definitions.{shape_of}, declared.definition.Definition.{Definition}}
 use Rattle.borsh_values.specs.Nodes.{IsCountOf}
 use Rattle.borsh_json.specs.{Forms.{form_of, sequence, shape_of_form}, Found.{forms_of, names_of}}
-use Rattle.borsh_json.proofs.{CopyLaws.{no_variant, product_copies, sequence_copies, struct_product, variant_copies, variant_there}, order.copies_behind.Goals as goal}
+use Rattle.borsh_json.proofs.CopyLaws.{no_variant, product_copies, sequence_copies, struct_product, variant_copies, variant_there}
 use Rattle.borsh_walks.proofs.Forms.{shape_is}
+use Rattle.borsh_json.proofs.order.copies_behind.Goals as goal
 
 pub returns-in-Tuple : goal.returns-in-Tuple
 returns-in-Tuple c x h l =

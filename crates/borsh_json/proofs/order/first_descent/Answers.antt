@@ -1,5 +1,6 @@
 use Rattle.std.proofs.{Common.{inl, inr, [], take, drop, refl, sym, arith}, Math.Nat.{zero-mul}, lemmas.Bool.{cases_lt}}
-use Rattle.borsh_json.proofs.{DescentLaws.{falls_next, front_of, one_passed, none_first, none_left, none_next, none_past}, order.first_descent.Goals as goal}
+use Rattle.borsh_json.proofs.DescentLaws.{falls_next, front_of, one_passed, none_first, none_left, none_next, none_past}
+use Rattle.borsh_json.proofs.order.first_descent.Goals as goal
 
 pub loop-index-init : goal.loop-index-init
 loop-index-init c = (omega arith, (λ k h e. ([], k, refl, sym (zero-mul c.args.size), e)), (λ F ns e a i l d. none_first F e c.args.bytes.now c.args.size i l d))

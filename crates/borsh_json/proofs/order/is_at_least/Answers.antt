@@ -1,6 +1,7 @@
 use Rattle.std.proofs.Common.{List, [], ◌∷◌, refl, subst, sym, reverse, Ordering}
 use Rattle.borsh_json.specs.{declared.order.Next.{Next}, declared.order.Pending.{Pending}, Found.{forms_of, names_of}, Ordered.{a_value}, Orders.{ArePending, FrontTells, NextTells}}
-use Rattle.borsh_json.proofs.{PendingLaws.{alike_both, front_answers, pending_answers}, order.is_at_least.Goals as goal}
+use Rattle.borsh_json.proofs.PendingLaws.{alike_both, front_answers, pending_answers}
+use Rattle.borsh_json.proofs.order.is_at_least.Goals as goal
 
 pub loop-init : goal.loop-init
 loop-init c x o =

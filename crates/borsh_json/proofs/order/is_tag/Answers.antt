@@ -1,6 +1,7 @@
 use Rattle.std.proofs.{Common.{◌≡◌, ◌∙◌, length, rules, take, SFits, w64, sym}, lemmas.Slice.Eq.{bytes_eq-Decides}}
 use Rattle.borsh_walks.specs.Container.{tag}
-use Rattle.borsh_json.proofs.{NumberLaws.{tag_taken}, order.is_tag.Goals as goal}
+use Rattle.borsh_json.proofs.NumberLaws.{tag_taken}
+use Rattle.borsh_json.proofs.order.is_tag.Goals as goal
 
 pub returns : goal.returns
 returns c =

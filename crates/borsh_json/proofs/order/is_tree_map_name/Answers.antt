@@ -1,5 +1,6 @@
 use Rattle.std.proofs.Common.{map, string_bytes}
-use Rattle.borsh_json.proofs.{FoundLaws.{two_texts}, UnorderedLaws.{tree_decided}, order.is_tree_map_name.Goals as goal}
+use Rattle.borsh_json.proofs.{FoundLaws.{two_texts}, UnorderedLaws.{tree_decided}}
+use Rattle.borsh_json.proofs.order.is_tree_map_name.Goals as goal
 
 pub returns : goal.returns
 returns c =

@@ -1,6 +1,7 @@
 use Rattle.std.proofs.{Common.{◌∙◌, map, string_bytes, sym, codes}, lemmas.Slice.Eq.{bytes_eq-Decides}}
 use Rattle.borsh_walks.specs.TupleNames.{following}
-use Rattle.borsh_json.proofs.{OrderedLaws.{tuple_named}, UnorderedLaws.{empty_decided, tuple_end, tuple_rest}, order.is_tuple_name.Goals as goal}
+use Rattle.borsh_json.proofs.{OrderedLaws.{tuple_named}, UnorderedLaws.{empty_decided, tuple_end, tuple_rest}}
+use Rattle.borsh_json.proofs.order.is_tuple_name.Goals as goal
 
 pub returns-in_default : goal.returns-in_default
 returns-in_default c =

@@ -1,6 +1,7 @@
 use Rattle.std.proofs.Common.{◌≡◌, ◌∙◌, inl, inr, Some, refl, sym, ap, subst}
 use Rattle.borsh_json.specs.{Forms.{sequence}, Found.{forms_of}, Ordered.{list, IsSequenceName, IsTreeMapName}}
-use Rattle.borsh_json.proofs.{FoundLaws.{not_true, on_false, on_true}, UnorderedLaws.{no_list_name}, order.list_as.Goals as goal}
+use Rattle.borsh_json.proofs.{FoundLaws.{not_true, on_false, on_true}, UnorderedLaws.{no_list_name}}
+use Rattle.borsh_json.proofs.order.list_as.Goals as goal
 
 pub returns-then-is_list_name-clause-order : goal.returns-then-is_list_name-clause-order
 returns-then-is_list_name-clause-order c e f g x h =

@@ -1,6 +1,7 @@
 use Rattle.std.proofs.Common.{◌≡◌, ◌⊎◌, inl, inr, ◌∙◌, ◌++◌, ◌∷◌, [], length, ap, arith}
 use Rattle.borsh_json.specs.{declared.order.Pending.{Pending}, Forms.{tuple}, Found.{names_of}}
-use Rattle.borsh_json.proofs.{PendingLaws.{alike_both, both_end, next_elements, next_part, nothing_pends, one_ends, part_there, end_copies, next_copy, copied_at, next_part_copy, end_part_copies, pending_decides}, order.next_value.Goals.{else-left-gt0-via-then-left-gt0+else-right-gt0, else-left-gt0-via-else-left-gt0, else-count-gt0-via-then-count-gt0+else-not-is_zero_size, else-count-gt0-via-else-count-gt0}, order.next_value.Goals as goal}
+use Rattle.borsh_json.proofs.{PendingLaws.{alike_both, both_end, next_elements, next_part, nothing_pends, one_ends, part_there, end_copies, next_copy, copied_at, next_part_copy, end_part_copies, pending_decides}, order.next_value.Goals.{else-left-gt0-via-then-left-gt0+else-right-gt0, else-left-gt0-via-else-left-gt0, else-count-gt0-via-then-count-gt0+else-not-is_zero_size, else-count-gt0-via-else-count-gt0}}
+use Rattle.borsh_json.proofs.order.next_value.Goals as goal
 
 pub loop-next-init : goal.loop-next-init
 loop-next-init c ts a = (ts, a, λ L R. ((λ h. h), (λ h. h)))

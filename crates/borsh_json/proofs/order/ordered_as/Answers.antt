@@ -1,7 +1,8 @@
 use Rattle.std.proofs.Common.{◌≡◌, ◌∙◌, inr, Some, map, length, string_bytes, refl, sym, ap, subst, arith}
 use Rattle.borsh_json.specs.{Forms.{form_of, variant_bytes}, Found.{forms_of, names_of}, Ordered.{list, parts, AreNumbers}, Table.{primitive_kind}}
 use Rattle.borsh_walks.specs.TupleNames.{tuple_name}
-use Rattle.borsh_json.proofs.{FoundLaws.{not_true, sequence_same}, OrderedLaws.{finds_number, same_count}, UnorderedLaws.{IsOfStruct, struct_form, no_array, no_numbers, no_option, no_struct, no_tuple_name}, order.ordered_as.Goals as goal}
+use Rattle.borsh_json.proofs.{FoundLaws.{not_true, sequence_same}, OrderedLaws.{finds_number, same_count}, UnorderedLaws.{IsOfStruct, struct_form, no_array, no_numbers, no_option, no_struct, no_tuple_name}}
+use Rattle.borsh_json.proofs.order.ordered_as.Goals as goal
 
 pub returns-in-Primitive-clause-order : goal.returns-in-Primitive-clause-order
 returns-in-Primitive-clause-order c x h =

@@ -1,6 +1,7 @@
 use Rattle.std.proofs.{Common.{◌≡◌, ◌∙◌, length, refl, ap, arith, string_bytes}, lemmas.List.{length-map}}
 use Rattle.borsh_values.proofs.TagLaws.{unnamed, got}
-use Rattle.borsh_json.proofs.{VariantLaws.{variant_end, variant_here, variant_later}, order.variant_with.Goals as goal}
+use Rattle.borsh_json.proofs.VariantLaws.{variant_end, variant_here, variant_later}
+use Rattle.borsh_json.proofs.order.variant_with.Goals as goal
 
 pub loop-discriminant-init : goal.loop-discriminant-init
 loop-discriminant-init c = (omega arith, refl)

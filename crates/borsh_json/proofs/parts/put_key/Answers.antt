@@ -1,6 +1,7 @@
 use Rattle.std.proofs.Common.{◌∙◌, subst, refl, take}
 use Rattle.borsh_json.specs.{declared.kinds.KeyKind.{KeyKind}, declared.kinds.KeyKind.TheVariants.{Text as TextKeys, Number as NumberKeys}, declared.sources.EntryKey.{EntryKey}, Forms.{form_of}, Frames.{IsEntryKey}, Places.{AreKeysOf, lengths_of}}
-use Rattle.borsh_json.proofs.{KeyJson.{text_key, number_key}, RepresentsLaws.{kind_small}, parts.put_key.Goals as goal}
+use Rattle.borsh_json.proofs.{KeyJson.{text_key, number_key}, RepresentsLaws.{kind_small}}
+use Rattle.borsh_json.proofs.parts.put_key.Goals as goal
 
 pub returns-in-Text-key : goal.returns-in-Text-key
 returns-in-Text-key c F ns k keys s a i =

@@ -1,7 +1,8 @@
 use Rattle.std.proofs.Common.{◌≡◌, ◌∙◌, List, ℕ, ap, subst, true, false, Bool, Bor}
 use Rattle.borsh_plan.specs.{declared.plan.Plan.{Plan}, Plan.{map_of, names_of as plan_names, planned, root_of}}
 use Rattle.borsh_json.specs.{Forms.{forms_in}, Frames.{IsReadOn}}
-use Rattle.borsh_json.proofs.{ReadingLaws.{reading_start}, parts.read_value.Goals as goal}
+use Rattle.borsh_json.proofs.ReadingLaws.{reading_start}
+use Rattle.borsh_json.proofs.parts.read_value.Goals as goal
 
 pub loop-init : goal.loop-init
 loop-init c j b =

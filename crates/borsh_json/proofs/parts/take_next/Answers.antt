@@ -1,7 +1,8 @@
 use Rattle.std.proofs.Common.{◌≡◌, [], refl, sym, ◌∙◌, ap}
 use Rattle.borsh_plan.specs.Plan.{map_of, names_of as plan_names}
 use Rattle.borsh_json.specs.{declared.position.Key.TheVariants.{None as NoKey, Name, Entry as EntryOf}, Forms.{forms_in}}
-use Rattle.borsh_json.proofs.{LoopLaws.{place_end, part_next, entry_next}, parts.take_next.Goals as goal}
+use Rattle.borsh_json.proofs.LoopLaws.{place_end, part_next, entry_next}
+use Rattle.borsh_json.proofs.parts.take_next.Goals as goal
 
 pub returns-in_default-clause-next : goal.returns-in_default-clause-next
 returns-in_default-clause-next c d x i own ds r =

@@ -1,5 +1,6 @@
 use Rattle.std.proofs.Common.{◌≡◌, ◌∙◌}
-use Rattle.borsh_json.proofs.{NumberLaws.{tag_is, fill_of, fill_negative, fill_positive, put_is}, prefixes.put_tag.Goals as goal, prefixes.put_tag.Goals.{then-discriminant-lt0, else-discriminant-lt0}}
+use Rattle.borsh_json.proofs.{NumberLaws.{tag_is, fill_of, fill_negative, fill_positive, put_is}, prefixes.put_tag.Goals.{then-discriminant-lt0, else-discriminant-lt0}}
+use Rattle.borsh_json.proofs.prefixes.put_tag.Goals as goal
 
 pub returns : goal.returns
 returns c =

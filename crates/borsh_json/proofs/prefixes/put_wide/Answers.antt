@@ -1,5 +1,6 @@
 use Rattle.std.proofs.Common.{◌≡◌, ◌-◌, ◌∙◌, ◌++◌, ap, arith, min, replicate, take}
-use Rattle.borsh_json.proofs.{NumberLaws.{fill_more}, prefixes.put_wide.Goals as goal}
+use Rattle.borsh_json.proofs.NumberLaws.{fill_more}
+use Rattle.borsh_json.proofs.prefixes.put_wide.Goals as goal
 
 pub loop-preserved : goal.loop-preserved
 loop-preserved c =

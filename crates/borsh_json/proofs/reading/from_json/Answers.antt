@@ -2,7 +2,8 @@ use Rattle.std.proofs.Common.{◌≡◌, ℕ, List, Some, IfOk, IfErr, OnOk, Mat
 use Rattle.json.specs.Json.{Json, document}
 use Rattle.borsh_walks.specs.Definitions.{definitions_in}
 use Rattle.borsh_json.specs.{Errors.{IsTextReason}, Forms.{forms_in}, InOrder.{InOrder, TextRepresents}, NoValue.{ShowsNoValue, IsGivenUp}, Represents.{TextSays}}
-use Rattle.borsh_json.proofs.{PlanLaws.{by_plan}, reading.from_json.Goals as goal}
+use Rattle.borsh_json.proofs.PlanLaws.{by_plan}
+use Rattle.borsh_json.proofs.reading.from_json.Goals as goal
 
 pub returns-clause-says : goal.returns-clause-says
 returns-clause-says c =

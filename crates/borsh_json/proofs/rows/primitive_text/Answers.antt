@@ -1,7 +1,8 @@
 use Rattle.std.proofs.Common.{sym, subst, string_bytes}
 use Rattle.std.specs.Prelude.{IfOk}
 use Rattle.borsh_json.specs.{declared.kinds.Kind.{Kind as Found}, Found.{IsPrimitiveKind}, Rows.{IsPrimitiveText}, Table.{Kind, primitive_kind}}
-use Rattle.borsh_json.proofs.{LeafLaws.{raw_kind}, RepresentsLaws.{primitive_small}, rows.primitive_text.Goals as goal}
+use Rattle.borsh_json.proofs.{LeafLaws.{raw_kind}, RepresentsLaws.{primitive_small}}
+use Rattle.borsh_json.proofs.rows.primitive_text.Goals as goal
 
 pub returns-in-Number : goal.returns-in-Number
 returns-in-Number c x n k =

@@ -1,7 +1,8 @@
 use Rattle.std.proofs.Common.{◌∙◌, sym, ap, subst, Some, None, string_bytes}
 use Rattle.borsh_json.specs.{Forms.{form_of, forms_in}, Places.{lengths_of}, Rows.{IsRowText, IsTextOf, IsValueText}}
-use Rattle.borsh_json.proofs.{FoundLaws.{got, got_at, not_true, on_false, on_true}, RowsLaws.{any_lengths, primitive_value, text_value, count_value, variant_value, variant_there, nothing_value, if_same}, rows.value_of.Goals as goal, rows.value_of.Goals.{else-is_list-via-then-is_list+else-is_text, else-is_list-via-else-is_list}}
+use Rattle.borsh_json.proofs.{FoundLaws.{got, got_at, not_true, on_false, on_true}, RowsLaws.{any_lengths, primitive_value, text_value, count_value, variant_value, variant_there, nothing_value, if_same}, rows.value_of.Goals.{else-is_list-via-then-is_list+else-is_text, else-is_list-via-else-is_list}}
 use Rattle.std.specs.Option.{option_copied}
+use Rattle.borsh_json.proofs.rows.value_of.Goals as goal
 
 pub returns-in-Primitive : goal.returns-in-Primitive
 returns-in-Primitive c =

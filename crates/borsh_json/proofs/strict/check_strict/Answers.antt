@@ -1,7 +1,8 @@
 use Rattle.std.specs.Prelude.{IfErr, OnOk}
 use Rattle.borsh_walks.specs.{Container.{Member}, Definitions.{definitions_in}}
 use Rattle.borsh_json.specs.{Errors.{IsNoJsonReason}, Forms.{forms_in}, InOrder.{IsRepresented}, NoValue.{IsGivenUp}}
-use Rattle.borsh_json.proofs.{PlanLaws.{by_plan}, strict.check_strict.Goals as goal}
+use Rattle.borsh_json.proofs.PlanLaws.{by_plan}
+use Rattle.borsh_json.proofs.strict.check_strict.Goals as goal
 
 pub returns-clause-member : goal.returns-clause-member
 returns-clause-member c =

@@ -2,8 +2,9 @@ use Rattle.std.proofs.Common.{ap, sym, subst, ◌∙◌, unwrap_or}
 use Rattle.borsh_walks.specs.Container.{Shape}
 use Rattle.borsh_values.specs.Nodes.{IsCountOf}
 use Rattle.borsh_json.specs.Forms.{form_of}
-use Rattle.borsh_json.proofs.{BegunLaws.{list_begun}, values.begin_list.Goals as goal}
+use Rattle.borsh_json.proofs.BegunLaws.{list_begun}
 use Rattle.borsh_walks.proofs.Forms.{shape_is}
+use Rattle.borsh_json.proofs.values.begin_list.Goals as goal
 
 pub returns : goal.returns
 returns c F ns at x parts i o k =

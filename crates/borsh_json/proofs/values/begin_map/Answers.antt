@@ -2,8 +2,9 @@ use Rattle.std.proofs.Common.{ap, sym, subst, ◌∙◌, unwrap_or}
 use Rattle.borsh_walks.specs.Container.{Shape}
 use Rattle.borsh_values.specs.Nodes.{IsCountOf}
 use Rattle.borsh_json.specs.Forms.{form_of}
-use Rattle.borsh_json.proofs.{BegunLaws.{map_begun}, values.begin_map.Goals as goal}
+use Rattle.borsh_json.proofs.BegunLaws.{map_begun}
 use Rattle.borsh_walks.proofs.Forms.{shape_is}
+use Rattle.borsh_json.proofs.values.begin_map.Goals as goal
 
 pub returns : goal.returns
 returns c F ns at order x parts i o k =

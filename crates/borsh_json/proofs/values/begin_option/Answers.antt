@@ -2,8 +2,9 @@ use Rattle.std.proofs.{Common.{sym, subst}, lemmas.Result.{err_from_is_err_and}}
 use Rattle.borsh_walks.specs.Container.{Shape}
 use Rattle.borsh_values.specs.Nodes.{IsVariantOf}
 use Rattle.borsh_json.specs.Forms.{form_of}
-use Rattle.borsh_json.proofs.{ChoiceLaws.{none_said, none_written, some_begun}, values.begin_option.Goals as goal}
+use Rattle.borsh_json.proofs.ChoiceLaws.{none_said, none_written, some_begun}
 use Rattle.borsh_walks.proofs.Forms.{shape_is}
+use Rattle.borsh_json.proofs.values.begin_option.Goals as goal
 
 pub returns-in_err-write_null : goal.returns-in_err-write_null
 returns-in_err-write_null c F ns at x parts i o k =

@@ -1,6 +1,7 @@
 use Rattle.std.proofs.Common.{subst}
 use Rattle.borsh_json.specs.{declared.kinds.Kind.{Kind}, Places.{IsKindOf}}
-use Rattle.borsh_json.proofs.{BegunLaws.{flaw_refused, parts_begun}, values.begin_struct.Goals as goal}
+use Rattle.borsh_json.proofs.BegunLaws.{flaw_refused, parts_begun}
+use Rattle.borsh_json.proofs.values.begin_struct.Goals as goal
 
 pub returns-in-Refused : goal.returns-in-Refused
 returns-in-Refused c F ns x f i d k =

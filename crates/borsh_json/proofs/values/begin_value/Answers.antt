@@ -1,6 +1,7 @@
 use Rattle.std.proofs.lemmas.Result.{err_from_is_err_and}
 use Rattle.borsh_json.specs.{declared.kinds.Kind.TheVariants.{Text, ByteList, Numbers}, Forms.{form_of}, Found.{forms_of, names_of}}
-use Rattle.borsh_json.proofs.{WholeLaws.{leaf_whole, primitive_found, primitive_no_list}, values.begin_value.Goals as goal}
+use Rattle.borsh_json.proofs.WholeLaws.{leaf_whole, primitive_found, primitive_no_list}
+use Rattle.borsh_json.proofs.values.begin_value.Goals as goal
 
 pub returns-in_err-write_primitive-in-Number : goal.returns-in_err-write_primitive-in-Number
 returns-in_err-write_primitive-in-Number c h x parts i o k =

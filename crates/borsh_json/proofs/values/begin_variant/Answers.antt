@@ -2,8 +2,9 @@ use Rattle.std.proofs.{Common.{sym, subst, string_bytes}, lemmas.Result.{err_fro
 use Rattle.borsh_walks.specs.Container.{Shape}
 use Rattle.borsh_values.specs.Nodes.{IsVariantOf}
 use Rattle.borsh_json.specs.Found.{names_of}
-use Rattle.borsh_json.proofs.{ChoiceLaws.{there, is_chosen, its_part, name_said, name_written, variant_begun}, values.begin_variant.Goals as goal}
+use Rattle.borsh_json.proofs.ChoiceLaws.{there, is_chosen, its_part, name_said, name_written, variant_begun}
 use Rattle.borsh_walks.proofs.Forms.{shape_is}
+use Rattle.borsh_json.proofs.values.begin_variant.Goals as goal
 
 pub returns-in_default : goal.returns-in_default
 returns-in_default c w x parts i o k =

@@ -1,7 +1,8 @@
 use Rattle.std.proofs.Common.{Option, sym, subst}
 use Rattle.std.specs.Prelude.{IfOk}
 use Rattle.borsh_json.specs.{declared.order.Ascent.{Ascent}, Writes.{TellsAscent}}
-use Rattle.borsh_json.proofs.{FallLaws.{begun_tells}, writing.ascends.Goals as goal}
+use Rattle.borsh_json.proofs.FallLaws.{begun_tells}
+use Rattle.borsh_json.proofs.writing.ascends.Goals as goal
 
 pub returns-clause-tells : goal.returns-clause-tells
 returns-clause-tells c =

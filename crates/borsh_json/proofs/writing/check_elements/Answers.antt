@@ -2,8 +2,9 @@ use Rattle.std.proofs.Common.{◌≡◌, ◌∙◌, ◌++◌, length, sym, subst
 use Rattle.borsh_walks.specs.Container.{Shape}
 use Rattle.borsh_values.specs.Nodes.{AreElementsOf}
 use Rattle.borsh_json.specs.{declared.kinds.Kind.{Kind as Found}, declared.kinds.Kind.TheVariants.{ByteList, Numbers}, Forms.{form_of}, Frames.{steps_at, steps_through}, Orders.{KindHasOrder}, Places.{IsKindOf}}
-use Rattle.borsh_json.proofs.{FallLaws.{both_known, bytes_falls, numbers_falls, rises_in}, writing.check_elements.Goals as goal}
+use Rattle.borsh_json.proofs.FallLaws.{both_known, bytes_falls, numbers_falls, rises_in}
 use Rattle.borsh_walks.proofs.Forms.{shape_is}
+use Rattle.borsh_json.proofs.writing.check_elements.Goals as goal
 
 pub returns-in-ByteList-clause-full : goal.returns-in-ByteList-clause-full
 returns-in-ByteList-clause-full c =

@@ -1,7 +1,8 @@
 use Rattle.std.proofs.Common.{Option, subst}
 use Rattle.json.specs.Json.{null}
 use Rattle.borsh_json.specs.{declared.sources.EntryKey.{EntryKey}, Writes.{IsLast}}
-use Rattle.borsh_json.proofs.{WriterLaws.{first_above, next_above}, writing.is_next.Goals as goal}
+use Rattle.borsh_json.proofs.WriterLaws.{first_above, next_above}
+use Rattle.borsh_json.proofs.writing.is_next.Goals as goal
 
 pub returns-in-Some : goal.returns-in-Some
 returns-in-Some c F ns k f kind keys o s a h i =

@@ -2,7 +2,8 @@ use Rattle.std.proofs.Common.{string_bytes}
 use Rattle.std.specs.Prelude.{IfOk, IfErr}
 use Rattle.borsh_walks.specs.Definitions.{definitions_in}
 use Rattle.borsh_json.specs.{Errors.{IsNoJsonReason}, Forms.{forms_in}, InOrder.{TextRepresents, IsRepresented}, Printed.{HasQuotedNumbers}, NoValue.{IsGivenUp}}
-use Rattle.borsh_json.proofs.{PlanLaws.{by_plan}, writing.to_json.Goals as goal}
+use Rattle.borsh_json.proofs.PlanLaws.{by_plan}
+use Rattle.borsh_json.proofs.writing.to_json.Goals as goal
 
 pub returns-clause-says : goal.returns-clause-says
 returns-clause-says c =

@@ -3,7 +3,8 @@ use Rattle.std.specs.{Prelude.{Bool}, Borrow.{Bor}}
 use Rattle.borsh_plan.specs.{Plan.{planned, root_of}, declared.plan.Plan.{Plan}}
 use Rattle.borsh_values.proofs.Bytes.{small_bytes}
 use Rattle.borsh_json.specs.{Checked.{one, AreChecked}, Found.{forms_of, names_of}, Leaves.{Holds, long_of}, declared.position.Parts.TheVariants.{Root}, declared.position.Place.{Place}, Writes.{AreEach, IsMarked, IsWhole, IsWriting, IsWrittenOn}}
-use Rattle.borsh_json.proofs.{Lockstep.{in_order}, WriterLaws.{root_marked}, WritingSteps.{writing_start}, writing.write_value.Goals as goal}
+use Rattle.borsh_json.proofs.{Lockstep.{in_order}, WriterLaws.{root_marked}, WritingSteps.{writing_start}}
+use Rattle.borsh_json.proofs.writing.write_value.Goals as goal
 
 pub loop-init : goal.loop-init
 loop-init c =

@@ -1,6 +1,7 @@
 use Rattle.std.proofs.Common.{inl, refl, sym}
 use Rattle.borsh_json.specs.{Found.{forms_of, names_of}, Ordered.{single}}
-use Rattle.borsh_json.proofs.{FoundLaws.{not_true}, OrderedLaws.{finds_order}, UnorderedLaws.{no_definition}, definitions.Definitions.order_by_parts.Goals as goal}
+use Rattle.borsh_json.proofs.{FoundLaws.{not_true}, OrderedLaws.{finds_order}, UnorderedLaws.{no_definition}}
+use Rattle.borsh_json.proofs.definitions.Definitions.order_by_parts.Goals as goal
 
 pub returns-then-is_zero_size-clause-order : goal.returns-then-is_zero_size-clause-order
 returns-then-is_zero_size-clause-order c x h = (single, inl ((c.is_zero_size.ensures x h).0 c.if-is_zero_size.true, refl), refl)

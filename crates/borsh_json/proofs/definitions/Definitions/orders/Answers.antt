@@ -1,6 +1,7 @@
 use Rattle.std.proofs.{Common.{ap, arith, length}, lemmas.List.{length_push}}
 use Rattle.borsh_json.specs.Found.{forms_of, names_of}
-use Rattle.borsh_json.proofs.{KindOrders.{no_orders, orders_pushed}, definitions.Definitions.orders.Goals as goal}
+use Rattle.borsh_json.proofs.KindOrders.{no_orders, orders_pushed}
+use Rattle.borsh_json.proofs.definitions.Definitions.orders.Goals as goal
 
 pub loop-at-init : goal.loop-at-init
 loop-at-init c =

@@ -1,7 +1,8 @@
 use Rattle.std.proofs.Common.{◌≡◌, ◌∙◌, Some, ap, sym, subst, unwrap_or}
 use Rattle.borsh_plan.specs.Names.{name_of}
 use Rattle.borsh_json.specs.Found.{names_of}
-use Rattle.borsh_json.proofs.{PlaceLaws.{part_there}, definitions.Definitions.part.Goals as goal}
+use Rattle.borsh_json.proofs.PlaceLaws.{part_there}
+use Rattle.borsh_json.proofs.definitions.Definitions.part.Goals as goal
 
 pub returns : goal.returns
 returns c = λ x y f e d s.

@@ -1,7 +1,8 @@
 use Rattle.std.proofs.Common.{◌∙◌, SFits, ap, rules, subst, sym, to_z-of_z}
 use Rattle.std.specs.{Fmt.{signed_decimal}, Int.{w128}}
 use Rattle.borsh_json.specs.{Integers.{signed_as}, Table.{InRange}}
-use Rattle.borsh_json.proofs.{IntegerLaws.{negative_cast}, integers.Integer.decimal.Goals as goal}
+use Rattle.borsh_json.proofs.IntegerLaws.{negative_cast}
+use Rattle.borsh_json.proofs.integers.Integer.decimal.Goals as goal
 
 pub returns-then-self : goal.returns-then-self
 returns-then-self c = λ n signed h r.

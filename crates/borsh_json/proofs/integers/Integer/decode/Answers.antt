@@ -1,5 +1,6 @@
 use Rattle.std.proofs.Common.{◌≡◌, ℕ, ◌<◌, ◌≤◌, ◌-◌, ◌∙◌, true, false, length, get_or, arith, sym}
-use Rattle.borsh_json.proofs.{IntegerLaws.{decoded}, integers.Integer.decode.Goals as goal, integers.Integer.decode.Goals.{then-is_signed, else-is_signed}}
+use Rattle.borsh_json.proofs.{IntegerLaws.{decoded}, integers.Integer.decode.Goals.{then-is_signed, else-is_signed}}
+use Rattle.borsh_json.proofs.integers.Integer.decode.Goals as goal
 
 pub returns : goal.returns
 returns c = λ h.

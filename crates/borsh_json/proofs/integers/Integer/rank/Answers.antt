@@ -1,6 +1,7 @@
 use Rattle.std.proofs.Common.{◌∙◌, true, false, ap, subst, sym}
 use Rattle.borsh_json.specs.{Integers.{signed_as}, Table.{InRange}, Ranks.{rank_of}}
-use Rattle.borsh_json.proofs.{IntegerLaws.{negative_rank, positive_rank}, integers.Integer.rank.Goals as goal}
+use Rattle.borsh_json.proofs.IntegerLaws.{negative_rank, positive_rank}
+use Rattle.borsh_json.proofs.integers.Integer.rank.Goals as goal
 
 pub returns-then-self : goal.returns-then-self
 returns-then-self c = λ n h r.

@@ -1,6 +1,7 @@
 use Rattle.std.proofs.Common.{◌≡◌, ◌∙◌, ap, take, sym, pos}
 use Rattle.borsh_json.specs.Ranks.{rank_of}
-use Rattle.borsh_json.proofs.{NumberLaws.{rank_bytes}, numbers.Number.of_rank.Goals as goal, numbers.Number.of_rank.Goals.{then-self, else-self}}
+use Rattle.borsh_json.proofs.{NumberLaws.{rank_bytes}, numbers.Number.of_rank.Goals.{then-self, else-self}}
+use Rattle.borsh_json.proofs.numbers.Number.of_rank.Goals as goal
 
 pub returns : goal.returns
 returns c = λ text h q.

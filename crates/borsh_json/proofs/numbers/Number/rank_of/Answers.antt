@@ -1,6 +1,7 @@
 use Rattle.std.proofs.{Common.{◌≡◌, ◌∙◌, [], ◌∷◌, true, arith, sym, rules, SFits}, lemmas.Int.{to_z-of_z}, lemmas.Slice.Eq.{bytes_eq-Decides}}
 use Rattle.std.specs.Int.{w128}
-use Rattle.borsh_json.proofs.{NumberLaws.{zero_refused, signed_none, unsigned_none, signed_beyond, unsigned_beyond, signed_found, unsigned_found}, numbers.Number.rank_of.Goals as goal, numbers.Number.rank_of.Goals.{else-self-via-then-self+else-eq, else-self-via-else-self}}
+use Rattle.borsh_json.proofs.{NumberLaws.{zero_refused, signed_none, unsigned_none, signed_beyond, unsigned_beyond, signed_found, unsigned_found}, numbers.Number.rank_of.Goals.{else-self-via-then-self+else-eq, else-self-via-else-self}}
+use Rattle.borsh_json.proofs.numbers.Number.rank_of.Goals as goal
 
 pub returns-then-eq : goal.returns-then-eq
 returns-then-eq c = λ h.

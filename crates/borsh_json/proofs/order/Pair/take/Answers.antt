@@ -1,5 +1,6 @@
 use Rattle.std.proofs.Common.{◌<◌, ℕ, arith, subst, All}
-use Rattle.borsh_json.proofs.{DescentLaws.{all_left, cut_lengths}, order.Pair.take.Goals as goal}
+use Rattle.borsh_json.proofs.DescentLaws.{all_left, cut_lengths}
+use Rattle.borsh_json.proofs.order.Pair.take.Goals as goal
 
 pub returns : goal.returns
 returns c =

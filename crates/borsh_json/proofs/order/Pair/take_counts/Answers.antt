@@ -1,5 +1,6 @@
 use Rattle.std.proofs.Common.{◌∙◌, ◌++◌, ap}
-use Rattle.borsh_json.proofs.{OrderLaws.{count_there}, order.Pair.take_counts.Goals as goal}
+use Rattle.borsh_json.proofs.OrderLaws.{count_there}
+use Rattle.borsh_json.proofs.order.Pair.take_counts.Goals as goal
 
 pub returns : goal.returns
 returns c w =

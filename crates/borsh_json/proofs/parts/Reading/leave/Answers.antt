@@ -1,7 +1,8 @@
 use Rattle.std.proofs.Common.{refl, ◌≡◌, ◌∷◌, ◌++◌, ◌∙◌, [], ℕ, List, length, arith, true, false, sym, ap, subst}
 use Rattle.borsh_plan.specs.Plan.{map_of, names_of as plan_names}
 use Rattle.borsh_json.specs.{declared.position.Place.{Place}, declared.sources.Source.{Source}, Forms.{forms_in}, Frames.{HaveAround, IsEnded, steps_at, steps_through}, NoValue.{HasOther}}
-use Rattle.borsh_json.proofs.{ReadingLaws.{around_here, reached, bottom, popped, no_around, up_inside, reading_end, left_steps, name_unread}, parts.Reading.leave.Goals as goal}
+use Rattle.borsh_json.proofs.ReadingLaws.{around_here, reached, bottom, popped, no_around, up_inside, reading_end, left_steps, name_unread}
+use Rattle.borsh_json.proofs.parts.Reading.leave.Goals as goal
 
 no_sources : (xs : List Source) → length xs ≡ 0 → xs ≡ []
 no_sources [] e = refl

@@ -1,7 +1,8 @@
 use Rattle.std.proofs.Common.{◌≡◌, ◌++◌, [], Option, ℕ, sym, subst, ap, Result, Ok, Err, OnOk, Bool, Vec, Global}
 use Rattle.borsh_plan.specs.Plan.{map_of, names_of as plan_names}
 use Rattle.borsh_json.specs.{declared.error.PartError.{PartError}, declared.opening.Frame.{Frame}, Forms.{forms_in}, Frames.{HasPath, IsFound, steps_at}}
-use Rattle.borsh_json.proofs.{ReadingLaws.{around_map, around_here, next_stands, leaf_inside, part_unread, frame_read}, parts.Reading.open.Goals as goal}
+use Rattle.borsh_json.proofs.ReadingLaws.{around_map, around_here, next_stands, leaf_inside, part_unread, frame_read}
+use Rattle.borsh_json.proofs.parts.Reading.open.Goals as goal
 
 same_items : (r : Result Bool PartError) (a b : Vec ℕ Global) → OnOk r (a ≡ b) → OnOk r (a.items ≡ b.items)
 same_items (Ok x) a b p = ap (λ v. v.items) p

@@ -1,7 +1,8 @@
 use Rattle.std.proofs.Common.{◌++◌, [], ap, sym, ◌∙◌, subst}
 use Rattle.borsh_plan.specs.Plan.{map_of, names_of as plan_names}
 use Rattle.borsh_json.specs.{Forms.{forms_in}, Frames.{IsNext, steps_at, steps_through}}
-use Rattle.borsh_json.proofs.{ReadingLaws.{around_map, around_here, reached, inside_begun, inside_ended, missing_unread, key_unread}, parts.Reading.read_next.Goals as goal}
+use Rattle.borsh_json.proofs.ReadingLaws.{around_map, around_here, reached, inside_begun, inside_ended, missing_unread, key_unread}
+use Rattle.borsh_json.proofs.parts.Reading.read_next.Goals as goal
 
 pub returns-in-Part : goal.returns-in-Part
 returns-in-Part c root j r =

@@ -1,7 +1,8 @@
 use Rattle.std.proofs.Common.{◌≡◌, ◌+◌, ◌<◌, ◌∷◌, List, [], sym, ap, subst, ◌∙◌, get_or, length, MatchOption}
 use Rattle.borsh_plan.specs.Plan.{map_of, names_of as plan_names}
 use Rattle.borsh_json.specs.{declared.position.Key.TheVariants.{Name}, declared.position.Parts.{Parts}, Forms.{forms_in}, Frames.{IsKey, IsWanted, Wanted}, Places.{IsAt}}
-use Rattle.borsh_json.proofs.{FrameLaws.{row_next, object_next, get_from}, position.Place.part_at.Goals as goal}
+use Rattle.borsh_json.proofs.FrameLaws.{row_next, object_next, get_from}
+use Rattle.borsh_json.proofs.position.Place.part_at.Goals as goal
 
 pub returns-in-Row-clause-part : goal.returns-in-Row-clause-part
 returns-in-Row-clause-part c =

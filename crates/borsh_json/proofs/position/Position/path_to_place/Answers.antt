@@ -1,6 +1,7 @@
 use Rattle.std.proofs.Common.{◌∙◌, ◌++◌, sym, ap}
 use Rattle.borsh_json.specs.Frames.{steps_at}
-use Rattle.borsh_json.proofs.{FrameLaws.{steps_taken}, position.Position.path_to_place.Goals as goal}
+use Rattle.borsh_json.proofs.FrameLaws.{steps_taken}
+use Rattle.borsh_json.proofs.position.Position.path_to_place.Goals as goal
 
 pub loop-place-preserved : goal.loop-place-preserved
 loop-place-preserved c =

@@ -2,7 +2,8 @@ use Rattle.std.proofs.{Common.{rules, ◌≡◌, ◌∙◌, length, refl, subst,
 use Rattle.std.specs.Prelude.{Option}
 use Rattle.borsh_values.specs.{Preorder.{GivesNext}, declared.nodes.Node.{Node}}
 use Rattle.borsh_json.specs.Rows.{none}
-use Rattle.borsh_json.proofs.{RowsLaws.{given, passed}, rows.Rows.next.Goals as goal}
+use Rattle.borsh_json.proofs.RowsLaws.{given, passed}
+use Rattle.borsh_json.proofs.rows.Rows.next.Goals as goal
 
 pub loop-init : goal.loop-init
 loop-init c = record { plan = refl; bytes = refl; offset = refl; empty = none }

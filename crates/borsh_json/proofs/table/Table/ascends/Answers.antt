@@ -1,7 +1,8 @@
 use Rattle.std.proofs.Common.{subst}
 use Rattle.borsh_plan.specs.Plan.{root_of}
 use Rattle.borsh_json.specs.{declared.definitions.Definitions.{Definitions}, Found.{forms_of}, InOrder.{NeedsNoCheck}}
-use Rattle.borsh_json.proofs.{FreeLaws.{no_check}, table.Table.ascends.Goals as goal}
+use Rattle.borsh_json.proofs.FreeLaws.{no_check}
+use Rattle.borsh_json.proofs.table.Table.ascends.Goals as goal
 
 pub returns : goal.returns
 returns c e =

@@ -2,7 +2,8 @@ use Rattle.std.proofs.Common.{refl, arith, subst}
 use Rattle.borsh_plan.specs.Plan.{root_of}
 use Rattle.borsh_values.proofs.Bytes.{small_bytes}
 use Rattle.borsh_json.specs.{declared.error.JsonError.{JsonError}, declared.error.Refusal.{Refusal}, Found.{forms_of}, NoJson.{RefusesBytes}, NoValue.{path_steps}, Writes.{StopsBy}}
-use Rattle.borsh_json.proofs.{CompleteLaws.{descends}, table.Table.check_order.Goals as goal}
+use Rattle.borsh_json.proofs.CompleteLaws.{descends}
+use Rattle.borsh_json.proofs.table.Table.check_order.Goals as goal
 
 pub returns-in-Err-Refused-default-Descends-clause-falls : goal.returns-in-Err-Refused-default-Descends-clause-falls
 returns-in-Err-Refused-default-Descends-clause-falls c j h =

@@ -1,5 +1,6 @@
 use Rattle.borsh_plan.specs.Plan.{map_of, root_of}
-use Rattle.borsh_json.proofs.{WritingLaws.{is_represented}, table.Table.check_strict.Goals as goal}
+use Rattle.borsh_json.proofs.WritingLaws.{is_represented}
+use Rattle.borsh_json.proofs.table.Table.check_strict.Goals as goal
 
 pub returns-clause-represented : goal.returns-clause-represented
 returns-clause-represented c =

@@ -5,7 +5,8 @@ use Rattle.borsh_plan.specs.Plan.{definitions_of, map_of, root_of}
 use Rattle.borsh_values.specs.Membership.{IsAnswer}
 use Rattle.borsh_json.specs.{Forms.{forms_in, shapes}, InOrder.{InOrder}, Represents.{HaveBytes}}
 use Rattle.borsh_walks.proofs.Forms.{shapes_are}
-use Rattle.borsh_json.proofs.{InOrderLaws.{given_up}, PlanLaws.{said_by}, RepresentsLaws.{bytes_one, text_one}, TextLaws.{fall_denies, fall_reason}, table.Table.from_json.Goals as goal}
+use Rattle.borsh_json.proofs.{InOrderLaws.{given_up}, PlanLaws.{said_by}, RepresentsLaws.{bytes_one, text_one}, TextLaws.{fall_denies, fall_reason}}
+use Rattle.borsh_json.proofs.table.Table.from_json.Goals as goal
 
 pub check_order-requires : goal.check_order-requires
 check_order-requires c =

@@ -1,6 +1,7 @@
 use Rattle.std.proofs.Common.{◌∙◌, ℕ, List, None, IfSome, sym, subst}
 use Rattle.borsh_json.specs.{declared.definitions.Definitions.{Definitions}, Found.{forms_of, names_of}, Orders.{KindHasOrder, KindTellsOrder}, Places.{IsAt, IsKindAt}}
-use Rattle.borsh_json.proofs.{FoundLaws.{got}, KindOrders.{first_some, second_some}, PlaceLaws.{kind_there}, table.Table.kind.Goals as goal}
+use Rattle.borsh_json.proofs.{FoundLaws.{got}, KindOrders.{first_some, second_some}, PlaceLaws.{kind_there}}
+use Rattle.borsh_json.proofs.table.Table.kind.Goals as goal
 
 pub returns-in-Some-clause-kind : goal.returns-in-Some-clause-kind
 returns-in-Some-clause-kind c =

@@ -1,6 +1,7 @@
 use Rattle.std.proofs.Common.{◌∙◌, ℕ, List, sym, subst}
 use Rattle.borsh_json.specs.{declared.definitions.Definitions.{Definitions}, Found.{names_of}, Orders.{OrderedBy}, Places.{IsAt}}
-use Rattle.borsh_json.proofs.{FoundLaws.{got}, table.Table.known_order.Goals as goal}
+use Rattle.borsh_json.proofs.FoundLaws.{got}
+use Rattle.borsh_json.proofs.table.Table.known_order.Goals as goal
 
 pub returns-in-Some : goal.returns-in-Some
 returns-in-Some c =

@@ -2,7 +2,8 @@ use Rattle.std.proofs.Common.{◌≡◌, ◌∙◌, ◌<◌, ◌++◌, length, a
 use Rattle.json.specs.{Lex.{tokens}, Print.{print}}
 use Rattle.borsh_plan.specs.Plan.{names_of as plan_names}
 use Rattle.borsh_json.specs.Found.{forms_of, names_of}
-use Rattle.borsh_json.proofs.{TellingLaws.{HasTold, told_none, told_next, told_all}, table.Table.names.Goals as goal}
+use Rattle.borsh_json.proofs.TellingLaws.{HasTold, told_none, told_next, told_all}
+use Rattle.borsh_json.proofs.table.Table.names.Goals as goal
 
 pub loop-at-init : goal.loop-at-init
 loop-at-init c =

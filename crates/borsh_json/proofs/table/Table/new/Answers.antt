@@ -1,6 +1,7 @@
 use Rattle.std.proofs.{Common.{ap, arith, length}, lemmas.List.{length_push}}
 use Rattle.borsh_json.specs.Found.{forms_of, names_of}
-use Rattle.borsh_json.proofs.{FreeLaws.{none_pushed, none_yet}, KindOrders.{kinds_pushed, no_kinds}, table.Table.new.Goals as goal}
+use Rattle.borsh_json.proofs.{FreeLaws.{none_pushed, none_yet}, KindOrders.{kinds_pushed, no_kinds}}
+use Rattle.borsh_json.proofs.table.Table.new.Goals as goal
 
 pub loop-at-init : goal.loop-at-init
 loop-at-init c =

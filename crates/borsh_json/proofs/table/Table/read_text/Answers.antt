@@ -2,7 +2,8 @@ use Rattle.std.proofs.{Common.{◌≡◌, sym, subst}, lemmas.Result.{err_from_i
 use Rattle.json.specs.{Find.{BeginsWith}, Json.{document}}
 use Rattle.borsh_plan.specs.Plan.{definitions_of, map_of, root_of}
 use Rattle.borsh_json.specs.Forms.{forms_in}
-use Rattle.borsh_json.proofs.{TextLaws.{part_denies, part_reason, there}, table.Table.read_text.Goals as goal}
+use Rattle.borsh_json.proofs.TextLaws.{part_denies, part_reason, there}
+use Rattle.borsh_json.proofs.table.Table.read_text.Goals as goal
 
 pub returns-in_err-read_value-in-Ok-clause-denies : goal.returns-in_err-read_value-in-Ok-clause-denies
 returns-in_err-read_value-in-Ok-clause-denies c =

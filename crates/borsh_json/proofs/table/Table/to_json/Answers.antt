@@ -2,7 +2,8 @@ use Rattle.std.proofs.Common.{◌≡◌, ◌∙◌, All, Some, ap, string_bytes,
 use Rattle.json.specs.{Json.{document}, Lex.{tokens}, Tree.{json_tokens}}
 use Rattle.borsh_plan.specs.Plan.{map_of, root_of}
 use Rattle.borsh_json.specs.{Ascii.{IsInLine}, Printed.{laid_out}}
-use Rattle.borsh_json.proofs.{LineLaws.{compact_line}, WritingLaws.{json_read, quoted_numbers, text_represents}, table.Table.to_json.Goals as goal}
+use Rattle.borsh_json.proofs.{LineLaws.{compact_line}, WritingLaws.{json_read, quoted_numbers, text_represents}}
+use Rattle.borsh_json.proofs.table.Table.to_json.Goals as goal
 
 pub text_of-requires : goal.text_of-requires
 text_of-requires c = let w = c.in_ok-out.ensures.written in c.in-Some.ensures.utf8 (json_tokens w.0) w.1

@@ -1,5 +1,6 @@
 use Rattle.borsh_json.specs.{Forms.{form_of}, Found.{forms_of, names_of}}
-use Rattle.borsh_json.proofs.{TellingLaws.{empty_word, not_empty}, table.Table.word.Goals as goal}
+use Rattle.borsh_json.proofs.TellingLaws.{empty_word, not_empty}
+use Rattle.borsh_json.proofs.table.Table.word.Goals as goal
 
 pub returns-then-is_zero_size : goal.returns-then-is_zero_size
 returns-then-is_zero_size c x i =

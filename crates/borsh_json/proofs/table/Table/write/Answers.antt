@@ -5,7 +5,8 @@ use Rattle.borsh_values.specs.{Membership.{IsAnswer}, declared.members.Membershi
 use Rattle.borsh_values.proofs.Bytes.{small_bytes}
 use Rattle.borsh_json.specs.Forms.{forms_in}
 use Rattle.borsh_walks.proofs.Forms.{shapes_are}
-use Rattle.borsh_json.proofs.{CompleteLaws.{given_up}, StopLaws.{stop_reason}, table.Table.write.Goals as goal}
+use Rattle.borsh_json.proofs.{CompleteLaws.{given_up}, StopLaws.{stop_reason}}
+use Rattle.borsh_json.proofs.table.Table.write.Goals as goal
 
 pub write_value-requires : goal.write_value-requires
 write_value-requires c =

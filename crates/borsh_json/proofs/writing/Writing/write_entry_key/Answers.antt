@@ -2,7 +2,8 @@ use Rattle.std.proofs.Common.{◌∷◌, ◌++◌, List, replicate, Option, Some
 use Rattle.borsh_plan.specs.Plan.{root_of}
 use Rattle.borsh_values.specs.{declared.nodes.Node.{Node}, Walks.{FindsAt}}
 use Rattle.borsh_json.specs.{declared.error.JsonError.{JsonError}, declared.sources.EntryKey.{EntryKey}, declared.writing.Writing.{Writing}, Forms.{form_of}, Found.{forms_of, names_of}, Frames.{first_steps, steps_through}, InOrder.{Step}, NoJson.{IsOutOfOrder}, Writes.{names_of_all, IsLast, Stops}}
-use Rattle.borsh_json.proofs.{WriterLaws.{undecided, entry_of, entry_next, entry_opened, entry_keys, entry_awaits, entry_stops, next_is, node_is, stops_descends}, FallLaws.{key_falls}, writing.Writing.write_entry_key.Goals as goal}
+use Rattle.borsh_json.proofs.{WriterLaws.{undecided, entry_of, entry_next, entry_opened, entry_keys, entry_awaits, entry_stops, next_is, node_is, stops_descends}, FallLaws.{key_falls}}
+use Rattle.borsh_json.proofs.writing.Writing.write_entry_key.Goals as goal
 
 pub returns-in_default-clause-key : goal.returns-in_default-clause-key
 returns-in_default-clause-key c p part a r e b =

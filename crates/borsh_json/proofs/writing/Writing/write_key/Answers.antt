@@ -1,6 +1,7 @@
 use Rattle.std.proofs.Common.{◌≡◌, refl, sym, ◌∙◌, subst}
 use Rattle.borsh_json.specs.{declared.position.Key.{Key}, declared.position.Key.TheVariants.{None as NoKey, Name, Entry as EntryOf}, declared.writing.Writing.{Writing}, Leaves.{Adds}}
-use Rattle.borsh_json.proofs.{WritingPlaces.{key_tokens}, ListLaws.{none_added}, WriterLaws.{key_begun}, writing.Writing.write_key.Goals as goal}
+use Rattle.borsh_json.proofs.{WritingPlaces.{key_tokens}, ListLaws.{none_added}, WriterLaws.{key_begun}}
+use Rattle.borsh_json.proofs.writing.Writing.write_key.Goals as goal
 
 pub returns-in-None-clause-key : goal.returns-in-None-clause-key
 returns-in-None-clause-key c p a r b =

@@ -2,7 +2,8 @@ use Rattle.std.proofs.{Common.{◌++◌, ℕ, List, Option, refl, sym, subst}, l
 use Rattle.std.specs.Borrow.{Bor}
 use Rattle.borsh_plan.specs.Plan.{root_of}
 use Rattle.borsh_json.specs.{declared.error.JsonError.{JsonError}, declared.order.Ascent.{Ascent}, declared.position.Parts.{Parts}, declared.writing.Writing.{Writing}, Leaves.{Adds}, Found.{forms_of}, Frames.{first_steps, steps_through}, InOrder.{Step}, NoJson.{IsOutOfOrder}, Writes.{IsAscending, Stops, StopsBy, ends_of}}
-use Rattle.borsh_json.proofs.{WriterLaws.{place_ended, begun_still, next_is, next_name, next_falls, rises_so, stops_descends}, writing.Writing.write_next.Goals as goal}
+use Rattle.borsh_json.proofs.WriterLaws.{place_ended, begun_still, next_is, next_name, next_falls, rises_so, stops_descends}
+use Rattle.borsh_json.proofs.writing.Writing.write_next.Goals as goal
 
 pub returns-in_default-clause-state : goal.returns-in_default-clause-state
 returns-in_default-clause-state c =

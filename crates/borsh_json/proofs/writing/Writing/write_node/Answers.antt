@@ -2,7 +2,8 @@ use Rattle.std.proofs.{Common.{◌∷◌, ◌++◌, Option, None, refl, sym, ◌
 use Rattle.borsh_plan.specs.Plan.{root_of}
 use Rattle.borsh_values.specs.{declared.nodes.Node.{Node}, Walks.{FindsAt}}
 use Rattle.borsh_json.specs.{declared.error.JsonError.{JsonError}, declared.position.Parts.{Parts}, declared.position.Place.{Place}, declared.writing.Writing.{Writing}, Forms.{Form, form_of}, Found.{forms_of, names_of}, Frames.{steps_at, steps_through}, Places.{IsKindOf}, Writes.{names_of_all, names_of_rest, AreCalled, IsWrittenAs, Stops}}
-use Rattle.borsh_json.proofs.{CheckedLaws.{plain_due, same_opened, value_due}, WriterLaws.{undecided, stops_value, stops_full, stops_either, leaf_room, leaf_begun, place_begun, new_marked, in_order, in_turn, still_rest, node_is, node_only, node_opened, node_form, node_on, is_deep, room_awaiting}, writing.Writing.write_node.Goals as goal}
+use Rattle.borsh_json.proofs.{CheckedLaws.{plain_due, same_opened, value_due}, WriterLaws.{undecided, stops_value, stops_full, stops_either, leaf_room, leaf_begun, place_begun, new_marked, in_order, in_turn, still_rest, node_is, node_only, node_opened, node_form, node_on, is_deep, room_awaiting}}
+use Rattle.borsh_json.proofs.writing.Writing.write_node.Goals as goal
 
 pub returns-in_default-clause-part : goal.returns-in_default-clause-part
 returns-in_default-clause-part c x f i e kind order tells full has a =

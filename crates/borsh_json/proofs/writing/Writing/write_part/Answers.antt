@@ -3,7 +3,8 @@ use Rattle.std.specs.Prelude.{MatchOption}
 use Rattle.borsh_plan.specs.Plan.{root_of}
 use Rattle.borsh_json.specs.{declared.error.JsonError.{JsonError}, declared.output.Output.{Output}, declared.position.Place.{Place}, declared.writing.Writing.{Writing}, Forms.{form_of, shape_of_form}, Found.{forms_of, names_of}, Frames.{steps_at, steps_through}, Writes.{Rest, names_of_rest, names_of_all, HasNode, IsRest, IsNewPlace, AreCalled, WritesFront, Stops, IsAwaitingAt}}
 use Rattle.borsh_walks.specs.Container.{product}
-use Rattle.borsh_json.proofs.{FoundLaws.{not_true}, WriterLaws.{stops_value, stops_full, is_deep, undefined_next, zero_begun, struct_begun}, writing.Writing.write_part.Goals as goal}
+use Rattle.borsh_json.proofs.{FoundLaws.{not_true}, WriterLaws.{stops_value, stops_full, is_deep, undefined_next, zero_begun, struct_begun}}
+use Rattle.borsh_json.proofs.writing.Writing.write_part.Goals as goal
 
 pub returns-then-is_zero_size-clause-part : goal.returns-then-is_zero_size-clause-part
 returns-then-is_zero_size-clause-part c x i a =
