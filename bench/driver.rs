@@ -25,7 +25,7 @@ unsafe extern "C" {
     fn ours_of_lines(lines: *const u8, len: usize, rounds: usize) -> usize;
 }
 
-const TURNS: usize = 30;
+const TURNS: usize = 6;
 const ACTIONS: [&str; 4] = ["write", "read", "length", "write and read"];
 const BOTH: usize = 3;
 

@@ -1,17 +1,21 @@
-"""Makes a table and a bar chart of what the benchmark prints: one line a kind and action, with the microseconds of ours
-and of the original. The rows come slowest first.
+"""Makes a table and a bar chart of what the benchmark prints: lines of a kind, an action and the microseconds of ours and
+of the original. Of several lines with one kind and action the median of each counts. The rows come slowest first.
 
 Usage: report.py CHART.svg < LINES > results.tsv
 """
+import statistics
 import sys
 
 
 def rows(lines):
-    """(ratio, kind, action, ours, original) of each line, slowest ratio first; those without an original last."""
-    found = []
+    """(ratio, kind, action, ours, original) of each kind and action, slowest ratio first; those without an original last."""
+    times = {}
     for line in lines:
         kind, action, ours, original = line.rstrip("\n").split("\t")
-        ours, original = float(ours), float(original)
+        times.setdefault((kind, action), []).append((float(ours), float(original)))
+    found = []
+    for (kind, action), pairs in times.items():
+        ours, original = map(statistics.median, zip(*pairs))
         ratio = ours / original if original > 0 else float("nan")
         found.append((ratio, kind, action, ours, original))
     return sorted(found, key=lambda row: (row[0] != row[0], -row[0] if row[0] == row[0] else 0))

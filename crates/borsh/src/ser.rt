@@ -17,6 +17,13 @@ use std::alloc::Global;
 /// How many bytes [`to_vec`] makes room for at first.
 const DEFAULT_SERIALIZER_CAPACITY: usize = 1024;
 
+/// A value that takes more bytes than this in memory has many fields. [`to_vec`] puts it into the vector, rather than
+/// writing each field, if its encoding has no more than [`SHORT`] bytes.
+const LONG: usize = 128;
+
+/// How many bytes of the vector are cleared for that.
+const SHORT: usize = 256;
+
 /// Encodes a value as a vector. The bytes identify the value: they decode to it, and any value that has the
 /// same encoding is equivalent, and equal if the type is a [`BorshKey`](super::BorshKey). So they can be signed.
 ///
@@ -31,6 +38,14 @@ pub fn to_vec<T: BorshSerialize>(alloc: Global, value: &T) -> Result<Vec<u8>>
     ensures { EncodesValue T T.codec value.now result }
 {
     let mut out = Vec::with_capacity(alloc, DEFAULT_SERIALIZER_CAPACITY)?;
+    if T::element_size() > LONG {
+        out.resize(SHORT, 0)?;
+        if let Some(n) = value.put(out.as_mut_slice()) {
+            out.truncate(n);
+            return Ok(out);
+        }
+        out.clear();
+    }
     value.serialize(alloc, &mut out)?;
     Ok(out)
 }

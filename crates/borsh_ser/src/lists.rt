@@ -12,7 +12,7 @@ use super::lengths::{counted_length, list_length};
 use super::numbers::bytes_of_u32;
 use super::puts::put_counted;
 use super::raw_bytes::write_bytes;
-use super::rooms::{LARGE, SHARED, SMALL, write_by_room};
+use super::rooms::{HUGE, LARGE, LONG, SHARED, SMALL, write_by_room};
 use super::serialize::BorshSerialize;
 use borsh_io::{Error, ErrorKind, Result, Write};
 use borsh_types::refuse_empty;
@@ -23,7 +23,7 @@ use std::rc::RcSlice;
 use std::sync::ArcSlice;
 
 /// Writes the elements one after another: at once if that is how their encodings lie in memory, and
-/// otherwise through a room, unless there is only one.
+/// otherwise through a room, unless there is only one, or a few long ones.
 ///
 /// Returns the error of the element that could not be written. Then a beginning of the encoding was
 /// written.
@@ -39,33 +39,17 @@ pub(crate) fn write_elements<T: BorshSerialize, W: Write>(
     if let Some(bytes) = T::u8_slice(items) {
         return write_bytes(bytes, writer);
     }
-    if items.len() < 2 {
+    let are_long = T::element_size() > LONG;
+    if items.len() < 2 || are_long && items.len() < SHARED {
         return write_one_by_one(items, alloc, writer);
     }
-    if items.len() < SHARED {
-        return write_some(items, alloc, writer);
+    if are_long {
+        return write_by_room::<HUGE, T, W>(items, alloc, writer);
     }
-    write_many(items, alloc, writer)
-}
-
-/// Writes some elements one after another, through a small room. The errors are those of `write_elements`.
-///
-/// A function of its own, since a room is cleared where a function begins; and so is `write_many`.
-#[inline(never)]
-fn write_some<T: BorshSerialize, W: Write>(items: &[T], alloc: Global, writer: &mut W) -> Result<()>
-    ensures { WritesEncoding W.writing writer.old writer.new T.codec.encoding_allocates false
-        (concat_encodings T.codec.encoding items.now) result }
-{
-    write_by_room(items, &mut [0u8; SMALL], alloc, writer)
-}
-
-/// Writes many elements one after another, through a large room. The errors are those of `write_elements`.
-#[inline(never)]
-fn write_many<T: BorshSerialize, W: Write>(items: &[T], alloc: Global, writer: &mut W) -> Result<()>
-    ensures { WritesEncoding W.writing writer.old writer.new T.codec.encoding_allocates false
-        (concat_encodings T.codec.encoding items.now) result }
-{
-    write_by_room(items, &mut [0u8; LARGE], alloc, writer)
+    if items.len() < SHARED {
+        return write_by_room::<SMALL, T, W>(items, alloc, writer);
+    }
+    write_by_room::<LARGE, T, W>(items, alloc, writer)
 }
 
 /// Writes the elements one after another. The errors are those of `write_elements`.

@@ -1,9 +1,9 @@
 // Elements that share a room, a buffer on the stack, which is written at once: one write for many elements. The room is cleared
-// first, so many elements share a large one, and a few a small one. No more share a large one than take it where each has 32 bytes:
-// LLVM then knows that elements of up to 32 bytes fit, and tests no room for them. Once an empty room doesn't take two elements, as
-// long ones or those of a type without `put`, no later one is asked: to put an element that doesn't fit is in vain.
+// first, so many elements share a large one, and a few a small one; long elements, of which a large one takes only a few, share a
+// huge one. Once an empty room doesn't take two elements, as those of a type without `put`, no later one is asked: to put an element
+// that doesn't fit is in vain.
 ghost use Rattle.std.specs.Iterator.{AlwaysYields, IsFinite};
-ghost use Rattle.std.specs.Prelude.{List, Option, Some, false, ℕ};
+ghost use Rattle.std.specs.Prelude.{◌≤◌, List, Option, Some, false, ℕ};
 ghost use Rattle.borsh_codec.specs.Shapes.{concat_encodings};
 ghost use Rattle.borsh_codec.specs.Writing.{Puts, WritesEncoding};
 
@@ -14,31 +14,53 @@ use super::serialize::BorshSerialize;
 use borsh_io::{Result, Write};
 use std::alloc::Global;
 
-/// How many elements share a large room; fewer share a small one.
+/// How many elements share a large room at least; fewer share a small one.
 pub(crate) const SHARED: usize = 32;
-
-/// How many bytes a large room has.
-pub(crate) const LARGE: usize = 1024;
 
 /// How many bytes a small room has. To clear it takes as long as to write an element or two.
 pub(crate) const SMALL: usize = 128;
 
-/// Writes the elements one after another: through the room as long as it takes two of them or more, and then with
-/// `serialize`. The errors are those of `write_elements`.
+/// How many bytes a large room has.
+pub(crate) const LARGE: usize = 1024;
+
+/// How many bytes the room of long elements has, and of collections of `MANY` items: some of each share it.
+pub(crate) const HUGE: usize = 4096;
+
+/// Elements that take more bytes than this in memory are long.
+pub(crate) const LONG: usize = 64;
+
+/// How many items of a collection share a huge room at least.
+pub(crate) const MANY: usize = 256;
+
+/// How many elements share a room of so many bytes at most. LLVM then knows that elements no longer than they are in memory fit,
+/// and tests no room for them.
 #[inline(always)]
-pub(crate) fn write_by_room<T: BorshSerialize, W: Write>(
+fn shared<T: BorshSerialize>(room: usize) -> usize {
+    match T::element_size() {
+        0 => SHARED,
+        size => (room / size).max(SHARED),
+    }
+}
+
+/// Writes the elements one after another: through a room as long as it takes two of them or more, and then with
+/// `serialize`. The errors are those of `write_elements`.
+///
+/// A function of its own, since a room is cleared where a function begins.
+#[inline(never)]
+pub(crate) fn write_by_room<const ROOM: usize, T: BorshSerialize, W: Write>(
     items: &[T],
-    room: &mut [u8],
     alloc: Global,
     writer: &mut W,
 ) -> Result<()>
+    requires { ROOM ≤ 4096 }
     ensures { WritesEncoding W.writing writer.old writer.new T.codec.encoding_allocates false
         (concat_encodings T.codec.encoding items.now) result }
 {
+    let mut room = [0u8; ROOM];
     let mut next = 0;
     while next < items.len() {
-        let end = next + (items.len() - next).min(SHARED);
-        let (count, filled) = put_front(&items[next..end], room);
+        let end = next + (items.len() - next).min(shared::<T>(ROOM));
+        let (count, filled) = put_front(&items[next..end], &mut room);
         write_held(&room[..filled], writer)?;
         next += count;
         if count < 2 {
@@ -49,12 +71,13 @@ pub(crate) fn write_by_room<T: BorshSerialize, W: Write>(
 }
 
 /// Writes the items that the iterator gives, one after another, with no count: through a room until an empty one doesn't
-/// take an item, and then with `serialize`.
+/// take an item, and then with `serialize`. An item that comes when the room is nearly full is written by itself, since it may
+/// be put in vain.
 ///
 /// Returns the writer's error, or that of the item that could not be written. Then a beginning
 /// of the items' encodings was written.
-#[inline]
-pub(crate) fn write_each<I: Iterator, W: Write>(
+#[inline(never)]
+pub(crate) fn write_each<const ROOM: usize, I: Iterator, W: Write>(
     mut items: I,
     alloc: Global,
     writer: &mut W,
@@ -62,6 +85,7 @@ pub(crate) fn write_each<I: Iterator, W: Write>(
 where
     I::Item: BorshSerialize + Drop,
     I: Drop,
+    requires room { ROOM ≤ 4096 }
     requires ready { I.can_next items }
     requires finite { IsFinite (I.remaining items) }
     ensures { (es : List (Option (List ℕ)))
@@ -69,11 +93,12 @@ where
         → WritesEncoding W.writing writer.old writer.new I.Item.codec.encoding_allocates false
         (concat_encodings (λ e. e) es) result }
 {
-    let mut room = [0u8; LARGE];
+    let mut array = [0u8; ROOM];
+    let room = array.as_mut_slice();
     let mut filled = 0;
     let mut shares = true;
     while let Some(item) = items.next() {
-        match put_shared(shares, &item, &mut room[filled..]) {
+        match put_shared(shares && filled <= ROOM / 4 * 3, &item, &mut room[filled..]) {
             Some(n) => filled += n,
             None => {
                 write_held(&room[..filled], writer)?;

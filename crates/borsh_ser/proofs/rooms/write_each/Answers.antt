@@ -1,4 +1,4 @@
-use Rattle.std.proofs.Common.{◌∙◌, ◌≤◌, ◌-◌, length, refl, arith}
+use Rattle.std.proofs.Common.{◌-◌, length, arith}
 use borrow.Rule.Slice.PartMut.{same_len_mid}
 use Rattle.borsh_codec.proofs.PutSteps.{put_fits}
 use Rattle.borsh_ser.proofs.Items.{items_none, items_put, items_kept, items_written, items_held_exit, items_more, items_exit, items_done}
@@ -7,7 +7,7 @@ use Rattle.borsh_ser.proofs.rooms.write_each.Goals.{in-Some-put_shared, in-None+
 
 pub loop-item-init : goal.loop-item-init
 loop-item-init g c = record {
-  within = (refl, omega arith);
+  within = omega arith;
   can = c.requires.ready;
   finite = c.requires.finite;
   items = items_none g.met.W.Write.lawful _ _;
@@ -20,17 +20,17 @@ loop-item-preserved g c =
     let i = at.invariant in
     let on = c.in-Some.ensures.goes.on i.finite in
     let part = c.put_shared.new.room in
-    let long = same_len_mid at.filled _ at.room part c.put_shared.ensures.same ∙ i.within.0 in
-    let fits : at.filled ≤ length at.room = omega (arith, i.within) in
+    let long = same_len_mid at.filled _ at.room part c.put_shared.ensures.same in
+    let fits = i.within in
     elim c.match-put_shared.branch [
       | in-Some-put_shared w ↦ rw (w.filled-is, w.writer-is) (record {
-        within = (long, omega (arith, long, put_fits at.filled w.in-Some-put_shared.n (1024 - at.filled) at.room part fits w.in-Some-put_shared.ensures.put.0));
+        within = omega (arith, long, put_fits at.filled w.in-Some-put_shared.n (length at.room - at.filled) at.room part fits w.in-Some-put_shared.ensures.put.0);
         can = on.0;
         finite = on.1;
         items = items_put laws at.filled w.in-Some-put_shared.n _ at.room part fits i.items c.in-Some.ensures.steps w.in-Some-put_shared.ensures;
       })
       | in-None+in_ok-write_held-in-None+in_ok-serialize-in-None w ↦ rw (w.filled-is, w.writer-is) (record {
-        within = (long, omega arith);
+        within = omega arith;
         can = on.0;
         finite = on.1;
         items = items_more laws (items_written laws (items_kept laws at.filled _ at.room part fits i.items) w.in_ok-write_held-in-None.ensures.ok) c.in-Some.ensures.steps w.in_ok-serialize-in-None.ensures.ok;
@@ -41,14 +41,14 @@ pub returns-in_err-write_held-in-None : goal.returns-in_err-write_held-in-None
 returns-in_err-write_held-in-None g c = λ es y. (
     let at = c.loop-item in
     let laws = g.met.W.Write.lawful in
-    let fits : at.filled ≤ length at.room = omega (arith, at.invariant.within) in
+    let fits = at.invariant.within in
     items_held_exit laws _ es (items_kept laws at.filled _ at.room c.put_shared.new.room fits at.invariant.items) c.in_err-write_held-in-None.ensures c.from_residual.ensures.1 y)
 
 pub returns-in_err-serialize-in-None : goal.returns-in_err-serialize-in-None
 returns-in_err-serialize-in-None g c = λ es y. (
     let at = c.loop-item in
     let laws = g.met.W.Write.lawful in
-    let fits : at.filled ≤ length at.room = omega (arith, at.invariant.within) in
+    let fits = at.invariant.within in
     let i = items_written laws (items_kept laws at.filled _ at.room c.put_shared.new.room fits at.invariant.items) c.in_ok-write_held-in-None.ensures.ok in
     items_exit laws _ es i c.in-Some.ensures.steps c.in_err-serialize-in-None.ensures.err c.from_residual-in_err-serialize-in-None.ensures.1 y)
 
