@@ -16,26 +16,27 @@ use std::collections::{LinkedList, VecDeque};
 use std::rc::RcSlice;
 use std::sync::ArcSlice;
 
-/// The same list with room for more elements, of which so many are wanted: for all of them, or for seven times as many
-/// as it has if more than sixteen times are wanted. So elements are seldom moved, and announced ones that don't come
-/// cost little memory. Each takes a byte, so there is no room for more than bytes are left.
+/// The same list with room for more elements, of which so many are wanted: for as many as the bytes left hold if each is as
+/// long as those that came, or else for as many again as came. So elements are seldom moved, and an announcement alone takes
+/// no memory. `before` is how many bytes were left in front of the first element.
 #[cold]
 #[inline(never)]
 fn with_room<T: Drop>(
     items: Vec<T>,
     wanted: usize,
+    before: Option<usize>,
     left: Option<usize>,
 ) -> std::result::Result<Vec<T>, AllocError>
     ensures items { IfOk result (λ v. v.items ≡ items.items) }
     ensures room { IfOk result (λ v. vec_len v < vec_capacity v) }
 {
     let mut items = items;
-    let most = if wanted / 16 <= items.len() {
-        wanted
-    } else {
-        items.len().saturating_mul(7)
+    let len = items.len();
+    let held = match (before, left) {
+        (Some(before), Some(left)) => left / (before.saturating_sub(left) / len.max(1)).max(1),
+        _ => 0,
     };
-    items.reserve_exact(most.min(left.unwrap_or(usize::MAX)).max(1))?;
+    items.reserve_exact(held.max(len).min(wanted).max(1))?;
     Ok(items)
 }
 
@@ -59,10 +60,11 @@ pub(crate) fn read_elements<T: BorshDeserialize, R: Read>(
     if width > 0 && width <= ROOM {
         return read_rooms(alloc, len, width, reader);
     }
+    let before = reader.bytes_left();
     let mut items = Vec::with_capacity(alloc, cautious::<T>(len))?;
     for i in 0..len {
         if items.len() == items.capacity() {
-            items = with_room(items, (len - i) as usize, reader.bytes_left())?;
+            items = with_room(items, (len - i) as usize, before, reader.bytes_left())?;
         }
         items.push_reserved(T::deserialize_reader(alloc, reader)?);
     }
