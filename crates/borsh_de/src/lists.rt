@@ -1,4 +1,6 @@
 // Lists: a count of four bytes and the elements in order.
+ghost use Rattle.std.specs.Prelude.{◌≡◌, ◌<◌, IfOk};
+ghost use Rattle.std.specs.Vec.{vec_len, vec_capacity};
 ghost use Rattle.borsh_codec.specs.Shapes.{allocated_array, length_prefixed, list};
 ghost use Rattle.borsh_codec.specs.Reading.{DecodesVec};
 
@@ -7,12 +9,36 @@ use super::fixed::{ROOM, read_rooms};
 use super::hint::cautious;
 use borsh_io::{Read, Result};
 use borsh_types::refuse_empty;
-use std::alloc::Global;
+use std::alloc::{AllocError, Global};
 use std::borrow::CowSlice;
 use std::boxed::BoxedSlice;
 use std::collections::{LinkedList, VecDeque};
 use std::rc::RcSlice;
 use std::sync::ArcSlice;
+
+/// The same list with room for more elements, of which so many are wanted: for as many as the bytes left hold if each is as
+/// long as those that came, or else for as many again as came. So elements are seldom moved, and an announcement alone takes
+/// no memory. `before` is how many bytes were left in front of the first element.
+#[cold]
+#[inline(never)]
+fn with_room<T: Drop>(
+    items: Vec<T>,
+    wanted: usize,
+    before: Option<usize>,
+    left: Option<usize>,
+) -> std::result::Result<Vec<T>, AllocError>
+    ensures items { IfOk result (λ v. v.items ≡ items.items) }
+    ensures room { IfOk result (λ v. vec_len v < vec_capacity v) }
+{
+    let mut items = items;
+    let len = items.len();
+    let held = match (before, left) {
+        (Some(before), Some(left)) => left / (before.saturating_sub(left) / len.max(1)).max(1),
+        _ => 0,
+    };
+    items.reserve_exact(held.max(len).min(wanted).max(1))?;
+    Ok(items)
+}
 
 /// Reads `len` elements one after another, or at once if the type can. The errors are those of an
 /// element, and `OutOfMemory` if memory for the list can't be allocated.
@@ -34,9 +60,13 @@ pub(crate) fn read_elements<T: BorshDeserialize, R: Read>(
     if width > 0 && width <= ROOM {
         return read_rooms(alloc, len, width, reader);
     }
+    let before = reader.bytes_left();
     let mut items = Vec::with_capacity(alloc, cautious::<T>(len))?;
-    for _i in 0..len {
-        items.push(T::deserialize_reader(alloc, reader)?)?;
+    for i in 0..len {
+        if items.len() == items.capacity() {
+            items = with_room(items, (len - i) as usize, before, reader.bytes_left())?;
+        }
+        items.push_reserved(T::deserialize_reader(alloc, reader)?);
     }
     Ok(items)
 }
