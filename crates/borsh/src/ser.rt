@@ -17,11 +17,7 @@ use std::alloc::Global;
 /// How many bytes [`to_vec`] makes room for at first.
 const DEFAULT_SERIALIZER_CAPACITY: usize = 1024;
 
-/// A value that takes more bytes than this in memory has many fields. [`to_vec`] puts it into the vector, rather than
-/// writing each field, if its encoding has no more than [`SHORT`] bytes.
-const LONG: usize = 128;
-
-/// How many bytes of the vector are cleared for that.
+/// A value of many fields, which takes more than half as much memory, is put into so many bytes of the vector, if they hold it.
 const SHORT: usize = 256;
 
 /// Encodes a value as a vector. The bytes identify the value: they decode to it, and any value that has the
@@ -38,7 +34,7 @@ pub fn to_vec<T: BorshSerialize>(alloc: Global, value: &T) -> Result<Vec<u8>>
     ensures { EncodesValue T T.codec value.now result }
 {
     let mut out = Vec::with_capacity(alloc, DEFAULT_SERIALIZER_CAPACITY)?;
-    if T::element_size() > LONG {
+    if T::element_size() > SHORT / 2 {
         out.resize(SHORT, 0)?;
         if let Some(n) = value.put(out.as_mut_slice()) {
             out.truncate(n);

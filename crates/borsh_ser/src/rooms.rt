@@ -14,32 +14,23 @@ use super::serialize::BorshSerialize;
 use borsh_io::{Result, Write};
 use std::alloc::Global;
 
-/// How many elements share a large room at least; fewer share a small one.
+/// Fewer elements share a small room, and more a large one; of long elements fewer share none.
 pub(crate) const SHARED: usize = 32;
-
-/// How many bytes a small room has. To clear it takes as long as to write an element or two.
-pub(crate) const SMALL: usize = 128;
-
-/// How many bytes a large room has.
-pub(crate) const LARGE: usize = 1024;
-
-/// How many bytes the room of long elements has, and of collections of `MANY` items: some of each share it.
-pub(crate) const HUGE: usize = 4096;
-
-/// Elements that take more bytes than this in memory are long.
+/// Elements that take more bytes than this in memory are long, and share a huge room.
 pub(crate) const LONG: usize = 64;
-
 /// How many items of a collection share a huge room at least.
 pub(crate) const MANY: usize = 256;
+/// How many bytes the rooms have. To clear the small one takes as long as to write an element or two.
+pub(crate) const SMALL: usize = 128;
 
-/// How many elements share a room of so many bytes at most. LLVM then knows that elements no longer than they are in memory fit,
-/// and tests no room for them.
+pub(crate) const LARGE: usize = 1024;
+
+pub(crate) const HUGE: usize = 4096;
+
+/// How many elements share a room at most: those that LLVM then knows to fit, so that it tests no room for them, or `SHARED`.
 #[inline(always)]
 fn shared<T: BorshSerialize>(room: usize) -> usize {
-    match T::element_size() {
-        0 => SHARED,
-        size => (room / size).max(SHARED),
-    }
+    (room / T::element_size().max(1)).max(SHARED)
 }
 
 /// Writes the elements one after another: through a room as long as it takes two of them or more, and then with
