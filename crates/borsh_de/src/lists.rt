@@ -71,8 +71,7 @@ pub(crate) fn read_elements<T: BorshDeserialize, R: Read>(
     Ok(items)
 }
 
-/// Reads a length of four bytes and that many elements. The errors are those of a number and of
-/// [`read_elements`].
+/// Reads a length of four bytes and that many elements. The errors are those of a number and of [`read_elements`].
 #[inline(always)]
 pub(crate) fn read_counted<T: BorshDeserialize, R: Read>(
     alloc: Global,

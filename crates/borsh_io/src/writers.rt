@@ -1,10 +1,11 @@
 // The writers over vectors, slices and references.
-ghost use Rattle.std.specs.Prelude.{◌≡◌, ◌+◌, ◌<◌, length, IsOk, IfOk, OnErr, vec_len, vec_capacity};
+ghost use Rattle.std.specs.Prelude.{◌≡◌, ◌+◌, ◌++◌, ◌<◌, if◌then◌else◌, length, is_ok, IsOk, IfOk, OnErr, vec_len, vec_capacity};
 ghost use Rattle.borsh_io.specs.Sink.{WritesSome, Flushes, WritesAll, contramap_writer, appending, overwriting};
 ghost use Rattle.borsh_io.specs.SinkLaws.{contramap_writer-laws, appending-laws, overwriting-laws};
 
 use super::error::{Error, ErrorKind, Result};
 use super::write::Write;
+use std::alloc::AllocError;
 
 /// The writer itself. Left open: what it leaves open.
 impl<W: Write> Write for &mut W {
@@ -58,11 +59,25 @@ impl Write for Vec<u8> {
         ensures unchanged { OnErr result (self.new.items ≡ self.old.items) }
         ensures full { OnErr result (vec_capacity self.old < vec_len self.old + length buf.now) }
     {
-        self.extend_from_slice(buf)?;
+        if buf.len() <= self.capacity() - self.len() {
+            self.extend_from_slice(buf)?;
+        } else {
+            append_and_grow(self, buf)?;
+        }
         Ok(())
     }
 
     ghost lawful = { appending-laws (λ v. v.items) };
+}
+
+/// Appends the bytes, which makes the vector grow. If an allocation fails, it is unchanged.
+#[cold]
+#[inline(never)]
+fn append_and_grow(vec: &mut Vec<u8>, bytes: &[u8]) -> std::result::Result<(), AllocError>
+    ensures items { vec.new.items ≡ (if is_ok result then vec.old.items ++ bytes.now else vec.old.items) }
+    ensures full { OnErr result (vec_capacity vec.old < vec_len vec.old + length bytes.now) }
+{
+    vec.extend_from_slice(bytes)
 }
 
 /// The bytes overwrite the beginning of the slice, which then begins behind them. It is full when it is

@@ -5,15 +5,15 @@ ghost use Rattle.borsh_codec.specs.Shapes.{append_encodings, concat_encodings, u
 ghost use Rattle.borsh_codec.specs.Writing.{WritesEncoding};
 
 use super::lists::write_count;
-use super::rooms::{HUGE, LARGE, MANY, SHARED, write_each};
+use super::rooms::{SHARED, SHORT, write_each};
 use super::serialize::BorshSerialize;
 use borsh_io::{Result, Write};
+use borsh_types::BorshType;
 use std::alloc::Global;
 
 /// Writes the count and the items that the iterator gives.
 ///
-/// The errors are those of `write_count` and `write_singly`. After one, a beginning of the encoding was
-/// written.
+/// The errors are those of `write_count` and `write_singly`. After one, a beginning of the encoding was written.
 #[inline]
 pub(crate) fn write_items<I: Iterator, W: Write>(
     count: usize,
@@ -32,19 +32,15 @@ where
         (append_encodings (unsigned_encoding 4 count) (concat_encodings (λ e. e) es)) result }
 {
     write_count(count, writer)?;
-    if count < SHARED {
+    if count < SHARED || I::Item::element_size() > SHORT {
         return write_singly(items, alloc, writer);
     }
-    if count < MANY {
-        return write_each::<LARGE, I, W>(items, alloc, writer);
-    }
-    write_each::<HUGE, I, W>(items, alloc, writer)
+    write_each(items, alloc, writer)
 }
 
 /// Writes the items that the iterator gives, one after another, with no count.
 ///
-/// Returns the writer's error, or that of the item that could not be written. Then a beginning of the items' encodings was
-/// written.
+/// Returns the writer's error, or that of the item that could not be written. Then a beginning of the encodings was written.
 #[inline]
 fn write_singly<I: Iterator, W: Write>(mut items: I, alloc: Global, writer: &mut W) -> Result<()>
 where

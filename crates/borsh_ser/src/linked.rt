@@ -11,8 +11,7 @@ use borsh_types::refuse_empty;
 use std::alloc::Global;
 use std::collections::{LinkedList, VecDeque};
 
-/// Writes the count and the elements of both parts of the queue. The errors are those of
-/// `write_counted`.
+/// Writes the count and the elements of both parts of the queue. The errors are those of `write_counted`.
 #[inline]
 fn write_queue<T: BorshSerialize, W: Write>(
     queue: &VecDeque<T>,

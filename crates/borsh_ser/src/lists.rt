@@ -12,7 +12,7 @@ use super::lengths::{counted_length, list_length};
 use super::numbers::bytes_of_u32;
 use super::puts::put_counted;
 use super::raw_bytes::write_bytes;
-use super::rooms::{HUGE, LARGE, LONG, SHARED, SMALL, write_by_room};
+use super::rooms::{HUGE, LARGE, LONG, SHARED, write_by_room};
 use super::serialize::BorshSerialize;
 use borsh_io::{Error, ErrorKind, Result, Write};
 use borsh_types::refuse_empty;
@@ -23,10 +23,9 @@ use std::rc::RcSlice;
 use std::sync::ArcSlice;
 
 /// Writes the elements one after another: at once if that is how their encodings lie in memory, and
-/// otherwise through a room, unless there is only one, or a few long ones.
+/// otherwise through a room, unless there are only a few.
 ///
-/// Returns the error of the element that could not be written. Then a beginning of the encoding was
-/// written.
+/// Returns the error of the element that could not be written. Then a beginning of the encoding was written.
 #[inline(always)]
 pub(crate) fn write_elements<T: BorshSerialize, W: Write>(
     items: &[T],
@@ -37,17 +36,14 @@ pub(crate) fn write_elements<T: BorshSerialize, W: Write>(
         (concat_encodings T.codec.encoding items.now) result }
 {
     if let Some(bytes) = T::u8_slice(items) {
-        return write_bytes(bytes, writer);
-    }
-    let are_long = T::element_size() > LONG;
-    if items.len() < 2 || are_long && items.len() < SHARED {
-        return write_one_by_one(items, alloc, writer);
-    }
-    if are_long {
-        return write_by_room::<HUGE, T, W>(items, alloc, writer);
+        write_bytes(bytes, writer)?;
+        return Ok(());
     }
     if items.len() < SHARED {
-        return write_by_room::<SMALL, T, W>(items, alloc, writer);
+        return write_one_by_one(items, alloc, writer);
+    }
+    if T::element_size() > LONG {
+        return write_by_room::<HUGE, T, W>(items, alloc, writer);
     }
     write_by_room::<LARGE, T, W>(items, alloc, writer)
 }
@@ -74,7 +70,7 @@ pub(crate) fn write_one_by_one<T: BorshSerialize, W: Write>(
 ///
 /// Returns `InvalidData` for a count of more than 4294967295: then nothing was written. Returns the
 /// writer's error if it fails: then a beginning of the four bytes was written.
-#[inline]
+#[inline(always)]
 pub(crate) fn write_count<W: Write>(count: usize, writer: &mut W) -> Result<()>
     ensures { WritesEncoding W.writing writer.old writer.new false false
         (unsigned_encoding 4 count) result }
@@ -82,13 +78,13 @@ pub(crate) fn write_count<W: Write>(count: usize, writer: &mut W) -> Result<()>
     let Ok(number) = u32::try_from(count) else {
         return Err(Error::from(ErrorKind::InvalidData));
     };
-    write_bytes(&bytes_of_u32(number), writer)
+    write_bytes(&bytes_of_u32(number), writer)?;
+    Ok(())
 }
 
 /// Writes the count and the elements.
 ///
-/// The errors are those of `write_count` and `write_elements`. After one, a beginning of the encoding
-/// was written.
+/// The errors are those of `write_count` and `write_elements`. After one, a beginning of the encoding was written.
 #[inline]
 pub(crate) fn write_counted<T: BorshSerialize, W: Write>(
     items: &[T],
@@ -98,7 +94,8 @@ pub(crate) fn write_counted<T: BorshSerialize, W: Write>(
     ensures { Writes (length_prefixed T.codec) items.now W.writing writer.old writer.new result }
 {
     write_count(items.len(), writer)?;
-    write_elements(items, alloc, writer)
+    write_elements(items, alloc, writer)?;
+    Ok(())
 }
 
 /// Writes the count and the elements, as `write_counted` does and with its errors.

@@ -12,9 +12,10 @@ use borsh_io::{Result, Write};
 /// ```
 /// write_bytes(&[0], writer)?;
 /// ```
-#[inline]
+#[inline(always)]
 pub fn write_bytes<W: Write>(bytes: &[u8], writer: &mut W) -> Result<()>
     ensures { WritesEncoding W.writing writer.old writer.new false false (Some bytes.now) result }
 {
-    writer.write_all(bytes)
+    writer.write_all(bytes)?;
+    Ok(())
 }

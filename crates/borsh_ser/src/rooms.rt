@@ -1,7 +1,6 @@
 // Elements that share a room, a buffer on the stack, which is written at once: one write for many elements. The room is cleared
-// first, so many elements share a large one, and a few a small one; long elements, of which a large one takes only a few, share a
-// huge one. Once an empty room doesn't take two elements, as those of a type without `put`, no later one is asked: to put an element
-// that doesn't fit is in vain.
+// first, so a few elements share none. Once an empty room doesn't take two elements, as those of a type without `put`, no later
+// one is asked: to put an element that doesn't fit is in vain.
 ghost use Rattle.std.specs.Iterator.{AlwaysYields, IsFinite};
 ghost use Rattle.std.specs.Prelude.{◌≤◌, List, Option, Some, false, ℕ};
 ghost use Rattle.borsh_codec.specs.Shapes.{concat_encodings};
@@ -14,17 +13,15 @@ use super::serialize::BorshSerialize;
 use borsh_io::{Result, Write};
 use std::alloc::Global;
 
-/// Fewer elements share a small room, and more a large one; of long elements fewer share none.
+/// Fewer elements share no room: to clear one takes as long as to write a few.
 pub(crate) const SHARED: usize = 32;
-/// Elements that take more bytes than this in memory are long, and share a huge room.
+/// Items of a collection that take more bytes than this in memory share none: to put one takes as long as to write it.
+pub(crate) const SHORT: usize = 16;
+/// Elements of a list that take more bytes than this in memory are long, and share a huge room.
 pub(crate) const LONG: usize = 64;
-/// How many items of a collection share a huge room at least.
-pub(crate) const MANY: usize = 256;
-/// How many bytes the rooms have. To clear the small one takes as long as to write an element or two.
-pub(crate) const SMALL: usize = 128;
-
+/// How many bytes a room has.
 pub(crate) const LARGE: usize = 1024;
-
+/// How many bytes a huge room has, of which long elements fill more.
 pub(crate) const HUGE: usize = 4096;
 
 /// How many elements share a room at most: those that LLVM then knows to fit, so that it tests no room for them, or `SHARED`.
@@ -33,8 +30,8 @@ fn shared<T: BorshSerialize>(room: usize) -> usize {
     (room / T::element_size().max(1)).max(SHARED)
 }
 
-/// Writes the elements one after another: through a room as long as it takes two of them or more, and then with
-/// `serialize`. The errors are those of `write_elements`.
+/// Writes the elements one after another: through a room as long as it takes two of them or more, and then with `serialize`.
+/// The errors are those of `write_elements`.
 ///
 /// A function of its own, since a room is cleared where a function begins.
 #[inline(never)]
@@ -62,13 +59,11 @@ pub(crate) fn write_by_room<const ROOM: usize, T: BorshSerialize, W: Write>(
 }
 
 /// Writes the items that the iterator gives, one after another, with no count: through a room until an empty one doesn't
-/// take an item, and then with `serialize`. An item that comes when the room is nearly full is written by itself, since it may
-/// be put in vain.
+/// take an item, and then with `serialize`.
 ///
-/// Returns the writer's error, or that of the item that could not be written. Then a beginning
-/// of the items' encodings was written.
+/// Returns the writer's error, or that of the item that could not be written. Then a beginning of the encodings was written.
 #[inline(never)]
-pub(crate) fn write_each<const ROOM: usize, I: Iterator, W: Write>(
+pub(crate) fn write_each<I: Iterator, W: Write>(
     mut items: I,
     alloc: Global,
     writer: &mut W,
@@ -76,7 +71,6 @@ pub(crate) fn write_each<const ROOM: usize, I: Iterator, W: Write>(
 where
     I::Item: BorshSerialize + Drop,
     I: Drop,
-    requires room { ROOM ≤ 4096 }
     requires ready { I.can_next items }
     requires finite { IsFinite (I.remaining items) }
     ensures { (es : List (Option (List ℕ)))
@@ -84,12 +78,12 @@ where
         → WritesEncoding W.writing writer.old writer.new I.Item.codec.encoding_allocates false
         (concat_encodings (λ e. e) es) result }
 {
-    let mut array = [0u8; ROOM];
+    let mut array = [0u8; LARGE];
     let room = array.as_mut_slice();
     let mut filled = 0;
     let mut shares = true;
     while let Some(item) = items.next() {
-        match put_shared(shares && filled <= ROOM / 4 * 3, &item, &mut room[filled..]) {
+        match put_shared(shares, &item, &mut room[filled..]) {
             Some(n) => filled += n,
             None => {
                 write_held(&room[..filled], writer)?;

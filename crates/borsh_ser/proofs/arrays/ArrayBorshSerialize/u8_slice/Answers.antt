@@ -1,4 +1,4 @@
-use Rattle.std.proofs.Common.{◌≡◌, IfSome, Option, Some, None, sym, ◌∙◌, ap}
+use Rattle.std.proofs.Common.{IfSome, Option, Some, None, sym, ◌∙◌, ap}
 use Rattle.borsh_codec.specs.Shapes.{concat_encodings}
 use Rattle.borsh_ser.proofs.ArrayLaws.{arrays_joined}
 use Rattle.borsh_ser.proofs.arrays.ArrayBorshSerialize.u8_slice.Goals as goal
