@@ -1,9 +1,9 @@
 """Makes a table and a bar chart of what the benchmark prints: lines of a kind, an action and the microseconds of ours and
-of the original. Of several lines with one kind and action the median of each counts. The rows come slowest first.
+of the original. Of several lines with one kind and action the one of the median ratio counts, since a disturbed machine slows both.
+The rows come slowest first.
 
 Usage: report.py CHART.svg < LINES > results.tsv
 """
-import statistics
 import sys
 
 
@@ -15,7 +15,8 @@ def rows(lines):
         times.setdefault((kind, action), []).append((float(ours), float(original)))
     found = []
     for (kind, action), pairs in times.items():
-        ours, original = map(statistics.median, zip(*pairs))
+        pairs.sort(key=lambda pair: pair[0] / pair[1] if pair[1] > 0 else pair[0])
+        ours, original = pairs[len(pairs) // 2]
         ratio = ours / original if original > 0 else float("nan")
         found.append((ratio, kind, action, ours, original))
     return sorted(found, key=lambda row: (row[0] != row[0], -row[0] if row[0] == row[0] else 0))
