@@ -1,5 +1,4 @@
-// Maps and sets that hold their entries in the order in which they are written: a count of four
-// bytes and the entries.
+// Maps and sets that hold their entries in the order in which they are written: a count of four bytes and the entries.
 use super::each::write_items;
 use super::lengths::keyed_length;
 use super::serialize::BorshSerialize;

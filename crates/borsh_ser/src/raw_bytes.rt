@@ -16,6 +16,7 @@ use borsh_io::{Result, Write};
 pub fn write_bytes<W: Write>(bytes: &[u8], writer: &mut W) -> Result<()>
     ensures { WritesEncoding W.writing writer.old writer.new false false (Some bytes.now) result }
 {
+    // Not the call alone: LLVM would copy its `Result`, error and all.
     writer.write_all(bytes)?;
     Ok(())
 }
