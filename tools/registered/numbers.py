@@ -473,11 +473,11 @@ use Rattle.borsh_de.proofs.FixedWidth.{{signed_fixed}}
 class Float:
     """A floating-point number's type."""
 
-    def __init__(self, bits):
-        self.name, self.bytes, self.codec = f"f{bits}", bits // 8, f"float{bits}"
+    def __init__(self, bits, infinity):
+        self.name, self.bytes, self.codec, self.infinity = f"f{bits}", bits // 8, f"float{bits}", infinity
 
 
-FLOATS = [Float(32), Float(64)]
+FLOATS = [Float(32, 0x7F80_0000), Float(64, 0x7FF0_0000_0000_0000)]
 
 
 def types_float(number):
@@ -531,11 +531,11 @@ impl BorshDeserialize for {number.name} {{
     #[inline]
     fn deserialize_reader<R: Read>(alloc: Global, reader: &mut R) -> Result<{number.name}> {{
         let bits = u{number.name[1:]}::deserialize_reader(alloc, reader)?;
-        let value = {number.name}_from_bits_with_nan(bits);
-        if value.is_nan() {{
+        // But for the sign's bit, a NaN's bits are above those of infinity.
+        if {number.infinity:#_x} < bits % {1 << 8 * number.bytes - 1:#_x} {{
             return Err(refused(ERROR_NAN_NOT_DESERIALIZED));
         }}
-        Ok(value)
+        Ok({number.name}::from_bits(bits))
     }}
 }}
 """

@@ -17,8 +17,16 @@ use std::alloc::Global;
 /// How many bytes [`to_vec`] makes room for at first.
 const DEFAULT_SERIALIZER_CAPACITY: usize = 1024;
 
-/// A value of many fields, which takes more than half as much memory, is put into so many bytes of the vector, if they hold it.
-const SHORT: usize = 256;
+/// Into how many bytes of its vector [`to_vec`] first puts a value that takes so many in memory: 64 for lists, texts and other
+/// small values, 256 for those of many fields. They are cleared first, so the values between are written at once.
+#[inline]
+fn front_for(size: usize) -> usize {
+    match size {
+        0..=32 => 64,
+        33..=128 => 0,
+        _ => 256,
+    }
+}
 
 /// Encodes a value as a vector. The bytes identify the value: they decode to it, and any value that has the
 /// same encoding is equivalent, and equal if the type is a [`BorshKey`](super::BorshKey). So they can be signed.
@@ -34,8 +42,9 @@ pub fn to_vec<T: BorshSerialize>(alloc: Global, value: &T) -> Result<Vec<u8>>
     ensures { EncodesValue T T.codec value.now result }
 {
     let mut out = Vec::with_capacity(alloc, DEFAULT_SERIALIZER_CAPACITY)?;
-    if T::element_size() > SHORT / 2 {
-        out.resize(SHORT, 0)?;
+    let front = front_for(T::element_size());
+    if front > 0 {
+        out.resize(front, 0)?;
         if let Some(n) = value.put(out.as_mut_slice()) {
             out.truncate(n);
             return Ok(out);
