@@ -28,9 +28,8 @@ pub fn from_slice<T: BorshDeserialize>(alloc: Global, v: &[u8]) -> Result<T>
 
 /// Decodes a value from all that a reader has.
 ///
-/// Returns `InvalidData` if the bytes decode to no value of the type, also if bytes are left over,
-/// `OutOfMemory` if an allocation fails, and the reader's error if it fails before the value is read.
-/// Left open: as of [`BorshDeserialize::try_from_reader`].
+/// Returns `InvalidData` if the bytes decode to no value of the type, also if bytes are left over, `OutOfMemory` if an allocation
+/// fails, and the reader's error if it fails before the value is read. Left open: as of [`BorshDeserialize::try_from_reader`].
 ///
 /// ```
 /// let mut input = StdReader::new(rt.stdin(), 1000);

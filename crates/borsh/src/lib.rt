@@ -1,10 +1,8 @@
 //! Borsh: values as canonical bytes.
 //!
-//! [`to_vec`] encodes a value, [`from_slice`] decodes it again. Each value has at most one encoding, and
-//! bytes decode to at most one value, apart from what isn't encoded (the flow and scope of a v6 socket
-//! address, and whether a `RangeInclusive` is exhausted): what is hashed or signed means the same to
-//! everyone.
-//! The items have the paths of the original crate.
+//! [`to_vec`] encodes a value, [`from_slice`] decodes it again. Each value has at most one encoding, and bytes decode to at most
+//! one value, apart from what isn't encoded (the flow and scope of a v6 socket address, and whether a `RangeInclusive` is
+//! exhausted): what is hashed or signed means the same to everyone. The items have the paths of the original crate.
 //!
 //! ```
 //! let bytes = to_vec(alloc, &(5u8, 7u16))?;

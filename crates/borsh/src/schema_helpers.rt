@@ -42,8 +42,7 @@ pub fn schema_container_of<T: BorshSchema>(alloc: Global) -> SchemaResult<BorshS
     BorshSchemaContainer::for_type::<T>(alloc)
 }
 
-/// The greatest size of a type in bytes, as its schema container gives it. No encoding is
-/// longer.
+/// The greatest size of a type in bytes, as its schema container gives it. No encoding is longer.
 ///
 /// The errors are those of [`BorshSchemaContainer::max_serialized_size`], and `Redefinition` of a name
 /// that has two different definitions. Left open: memory; which of several causes is reported.
@@ -62,9 +61,8 @@ pub fn max_serialized_size<T: BorshSchema>(
 
 /// Encodes the type's schema container and then the value.
 ///
-/// Returns `InvalidData` if the value or the container has no encoding, or if a name of the type has two
-/// different definitions, and `OutOfMemory` if an allocation fails. Left open: memory; which of several
-/// causes is reported.
+/// Returns `InvalidData` if the value or the container has no encoding, or if a name of the type has two different definitions,
+/// and `OutOfMemory` if an allocation fails. Left open: memory; which of several causes is reported.
 ///
 /// ```
 /// let bytes = try_to_vec_with_schema(alloc, &7u16)?;
@@ -84,11 +82,10 @@ pub fn try_to_vec_with_schema<T: BorshSerialize + BorshSchema>(
 
 /// Decodes a value that follows its type's schema container, from all of the bytes.
 ///
-/// Container and value are decoded first, with the errors of [`from_slice`]. Then a container that isn't
-/// the type's is refused with `InvalidData`, "Borsh schema does not match", and so is a type that has a
-/// name with two different definitions. `OutOfMemory` is returned if an allocation fails. Left open: memory;
-/// what isn't encoded, but for `made` of the codec; which is found first, malformed bytes or another
-/// container: tested by the texts.
+/// Container and value are decoded first, with the errors of [`from_slice`]. Then a container that isn't the type's is refused
+/// with `InvalidData`, "Borsh schema does not match", and so is a type that has a name with two different definitions.
+/// `OutOfMemory` is returned if an allocation fails. Left open: memory; what isn't encoded, but for `made` of the codec; which is
+/// found first, malformed bytes or another container: tested by the texts.
 ///
 /// ```
 /// let bytes = try_to_vec_with_schema(alloc, &7u16)?;

@@ -8,8 +8,7 @@ use borsh::io::{Error, ErrorKind, Read, Result, Write};
 use borsh::{BorshDeserialize, BorshSerialize, BorshType, EnumExt};
 use std::alloc::Global;
 
-/// A `MyEnum` that isn't `Many`. Encoding or decoding a `Many` is refused with `InvalidData`, "MyEnum::Many
-/// not allowed here".
+/// A `MyEnum` that isn't `Many`. Encoding or decoding a `Many` is refused with `InvalidData`, "MyEnum::Many not allowed here".
 #[derive(Drop)]
 pub struct OneOrZero(pub MyEnum);
 

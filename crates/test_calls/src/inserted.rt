@@ -1,5 +1,4 @@
-// Maps and sets that are filled in any order, under any hasher: they are written by ascending key, or in the order of
-// insertion.
+// Maps and sets that are filled in any order, under any hasher: they are written by ascending key, or in the order of insertion.
 use super::support::{check, check_value, check_written};
 use borsh::to_vec;
 use indexmap::{IndexMap, IndexSet};
