@@ -5,10 +5,9 @@ ghost use Rattle.borsh_codec.specs.Shapes.{append_encodings, concat_encodings, u
 ghost use Rattle.borsh_codec.specs.Writing.{WritesEncoding};
 
 use super::lists::write_count;
-use super::rooms::{SHARED, SHORT, write_each};
+use super::rooms::{SHARED, write_each};
 use super::serialize::BorshSerialize;
 use borsh_io::{Result, Write};
-use borsh_types::BorshType;
 use std::alloc::Global;
 
 /// Writes the count and the items that the iterator gives.
@@ -32,7 +31,7 @@ where
         (append_encodings (unsigned_encoding 4 count) (concat_encodings (λ e. e) es)) result }
 {
     write_count(count, writer)?;
-    if count < SHARED || I::Item::element_size() > SHORT {
+    if count < SHARED {
         return write_singly(items, alloc, writer);
     }
     write_each(items, alloc, writer)

@@ -15,8 +15,6 @@ use std::alloc::Global;
 
 /// Fewer elements share no room: to clear one takes as long as to write a few.
 pub(crate) const SHARED: usize = 32;
-/// Items of a collection that take more bytes than this in memory share none: to put one takes as long as to write it.
-pub(crate) const SHORT: usize = 16;
 /// Elements of a list that take more bytes than this in memory are long, and share a huge room.
 pub(crate) const LONG: usize = 64;
 /// How many bytes a room has.
