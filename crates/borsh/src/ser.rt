@@ -18,7 +18,7 @@ use std::alloc::Global;
 const DEFAULT_SERIALIZER_CAPACITY: usize = 1024;
 
 /// Into how many bytes of its vector [`to_vec`] first puts a value that takes so many in memory: 64 for lists, texts and other
-/// small values, 256 for those of many fields. They are cleared first, so the values between are written at once.
+/// small values, 256 for those of many fields. They are cleared first, so the values between are written directly.
 fn front_for(size: usize) -> usize {
     match size {
         0..=32 => 64,
