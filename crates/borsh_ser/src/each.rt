@@ -5,7 +5,7 @@ ghost use Rattle.borsh_codec.specs.Shapes.{append_encodings, concat_encodings, u
 ghost use Rattle.borsh_codec.specs.Writing.{WritesEncoding};
 
 use super::lists::write_count;
-use super::rooms::{SHARED, write_each};
+use super::rooms::{HUGE, LARGE, MANY, SHARED, write_each};
 use super::serialize::BorshSerialize;
 use borsh_io::{Result, Write};
 use std::alloc::Global;
@@ -34,7 +34,10 @@ where
     if count < SHARED {
         return write_singly(items, alloc, writer);
     }
-    write_each(items, alloc, writer)
+    if count < MANY {
+        return write_each::<LARGE, I, W>(items, alloc, writer);
+    }
+    write_each::<HUGE, I, W>(items, alloc, writer)
 }
 
 /// Writes the items that the iterator gives, one after another, with no count.

@@ -21,6 +21,8 @@ pub(crate) const LONG: usize = 64;
 pub(crate) const LARGE: usize = 1024;
 /// How many bytes a huge room has, of which long elements fill more.
 pub(crate) const HUGE: usize = 4096;
+/// So many items of an iterator share a huge room.
+pub(crate) const MANY: usize = 256;
 
 /// How many elements share a room at most: those that LLVM then knows to fit, so that it tests no room for them, or `SHARED`.
 #[inline(always)]
@@ -61,7 +63,7 @@ pub(crate) fn write_by_room<const ROOM: usize, T: BorshSerialize, W: Write>(
 ///
 /// Returns the writer's error, or that of the item that could not be written. Then a beginning of the encodings was written.
 #[inline(never)]
-pub(crate) fn write_each<I: Iterator, W: Write>(
+pub(crate) fn write_each<const ROOM: usize, I: Iterator, W: Write>(
     mut items: I,
     alloc: Global,
     writer: &mut W,
@@ -71,12 +73,13 @@ where
     I: Drop,
     requires ready { I.can_next items }
     requires finite { IsFinite (I.remaining items) }
+    requires few { ROOM ≤ 4096 }
     ensures { (es : List (Option (List ℕ)))
         → AlwaysYields I.next_gives I.Item.codec.encoding items es
         → WritesEncoding W.writing writer.old writer.new I.Item.codec.encoding_allocates false
         (concat_encodings (λ e. e) es) result }
 {
-    let mut array = [0u8; LARGE];
+    let mut array = [0u8; ROOM];
     let room = array.as_mut_slice();
     let mut filled = 0;
     let mut shares = true;
@@ -84,10 +87,18 @@ where
         match put_shared(shares, &item, &mut room[filled..]) {
             Some(n) => filled += n,
             None => {
+                // Moved, so that only here the item lies in memory.
+                let item = item;
                 write_held(&room[..filled], writer)?;
                 shares = filled > 0;
                 filled = 0;
-                item.serialize(alloc, writer)?;
+                match put_again(shares, &item, &mut room[filled..]) {
+                    Some(n) => filled += n,
+                    None => {
+                        shares = false;
+                        item.serialize(alloc, writer)?;
+                    }
+                }
             }
         }
     }
@@ -103,6 +114,14 @@ fn put_shared<T: BorshSerialize>(shares: bool, item: &T, room: &mut [u8]) -> Opt
         return None;
     }
     item.put(room)
+}
+
+/// Puts the element into the room that was written, if it had others: a function of its own, since it is called seldom.
+#[inline(never)]
+fn put_again<T: BorshSerialize>(shares: bool, item: &T, room: &mut [u8]) -> Option<usize>
+    ensures { Puts (T.codec.encoding item.now) room.old room.new result }
+{
+    put_shared(shares, item, room)
 }
 
 /// Writes the bytes, if there are any. The errors are those of `write_bytes`.
