@@ -34,7 +34,9 @@ impl<A: BorshDeserialize, B: BorshDeserialize> BorshDeserialize for (A, B) {
 impl<A: BorshDeserialize, B: BorshDeserialize, C: BorshDeserialize> BorshDeserialize for (A, B, C) {
     #[inline]
     fn deserialize_reader<R: Read>(alloc: Global, reader: &mut R) -> Result<(A, B, C)> {
-        let (a, (b, c)) = <(A, (B, C))>::deserialize_reader(alloc, reader)?;
+        let a = A::deserialize_reader(alloc, reader)?;
+        let b = B::deserialize_reader(alloc, reader)?;
+        let c = C::deserialize_reader(alloc, reader)?;
         Ok((a, b, c))
     }
 
@@ -52,7 +54,10 @@ impl<
 > BorshDeserialize for (A, B, C, D) {
     #[inline]
     fn deserialize_reader<R: Read>(alloc: Global, reader: &mut R) -> Result<(A, B, C, D)> {
-        let (a, (b, c, d)) = <(A, (B, C, D))>::deserialize_reader(alloc, reader)?;
+        let a = A::deserialize_reader(alloc, reader)?;
+        let b = B::deserialize_reader(alloc, reader)?;
+        let c = C::deserialize_reader(alloc, reader)?;
+        let d = D::deserialize_reader(alloc, reader)?;
         Ok((a, b, c, d))
     }
 
@@ -71,7 +76,7 @@ impl<
 > BorshDeserialize for (A, B, C, D, E) {
     #[inline]
     fn deserialize_reader<R: Read>(alloc: Global, reader: &mut R) -> Result<(A, B, C, D, E)> {
-        let (a, (b, c, d, e)) = <(A, (B, C, D, E))>::deserialize_reader(alloc, reader)?;
+        let (a, b, c, (d, e)) = <(A, B, C, (D, E))>::deserialize_reader(alloc, reader)?;
         Ok((a, b, c, d, e))
     }
 
@@ -91,7 +96,7 @@ impl<
 > BorshDeserialize for (A, B, C, D, E, F) {
     #[inline]
     fn deserialize_reader<R: Read>(alloc: Global, reader: &mut R) -> Result<(A, B, C, D, E, F)> {
-        let (a, (b, c, d, e, f)) = <(A, (B, C, D, E, F))>::deserialize_reader(alloc, reader)?;
+        let (a, b, c, (d, e, f)) = <(A, B, C, (D, E, F))>::deserialize_reader(alloc, reader)?;
         Ok((a, b, c, d, e, f))
     }
 
@@ -112,7 +117,7 @@ impl<
 > BorshDeserialize for (A, B, C, D, E, F, G) {
     #[inline]
     fn deserialize_reader<R: Read>(alloc: Global, reader: &mut R) -> Result<(A, B, C, D, E, F, G)> {
-        let (a, (b, c, d, e, f, g)) = <(A, (B, C, D, E, F, G))>::deserialize_reader(alloc, reader)?;
+        let (a, b, c, (d, e, f, g)) = <(A, B, C, (D, E, F, G))>::deserialize_reader(alloc, reader)?;
         Ok((a, b, c, d, e, f, g))
     }
 
@@ -137,7 +142,7 @@ impl<
         alloc: Global,
         reader: &mut R,
     ) -> Result<(A, B, C, D, E, F, G, H)> {
-        let (a, (b, c, d, e, f, g, h)) = <(A, (B, C, D, E, F, G, H))>::deserialize_reader(
+        let (a, b, c, (d, e, f, g, h)) = <(A, B, C, (D, E, F, G, H))>::deserialize_reader(
             alloc, reader,
         )?;
         Ok((a, b, c, d, e, f, g, h))
@@ -165,7 +170,7 @@ impl<
         alloc: Global,
         reader: &mut R,
     ) -> Result<(A, B, C, D, E, F, G, H, I)> {
-        let (a, (b, c, d, e, f, g, h, i)) = <(A, (B, C, D, E, F, G, H, I))>::deserialize_reader(
+        let (a, b, c, (d, e, f, g, h, i)) = <(A, B, C, (D, E, F, G, H, I))>::deserialize_reader(
             alloc, reader,
         )?;
         Ok((a, b, c, d, e, f, g, h, i))
@@ -194,9 +199,11 @@ impl<
         alloc: Global,
         reader: &mut R,
     ) -> Result<(A, B, C, D, E, F, G, H, I, J)> {
-        let (a, (b, c, d, e, f, g, h, i, j)) = <(
+        let (a, b, c, (d, e, f, g, h, i, j)) = <(
             A,
-            (B, C, D, E, F, G, H, I, J),
+            B,
+            C,
+            (D, E, F, G, H, I, J),
         )>::deserialize_reader(alloc, reader)?;
         Ok((a, b, c, d, e, f, g, h, i, j))
     }
@@ -225,9 +232,11 @@ impl<
         alloc: Global,
         reader: &mut R,
     ) -> Result<(A, B, C, D, E, F, G, H, I, J, K)> {
-        let (a, (b, c, d, e, f, g, h, i, j, k)) = <(
+        let (a, b, c, (d, e, f, g, h, i, j, k)) = <(
             A,
-            (B, C, D, E, F, G, H, I, J, K),
+            B,
+            C,
+            (D, E, F, G, H, I, J, K),
         )>::deserialize_reader(alloc, reader)?;
         Ok((a, b, c, d, e, f, g, h, i, j, k))
     }
@@ -257,9 +266,11 @@ impl<
         alloc: Global,
         reader: &mut R,
     ) -> Result<(A, B, C, D, E, F, G, H, I, J, K, L)> {
-        let (a, (b, c, d, e, f, g, h, i, j, k, l)) = <(
+        let (a, b, c, (d, e, f, g, h, i, j, k, l)) = <(
             A,
-            (B, C, D, E, F, G, H, I, J, K, L),
+            B,
+            C,
+            (D, E, F, G, H, I, J, K, L),
         )>::deserialize_reader(alloc, reader)?;
         Ok((a, b, c, d, e, f, g, h, i, j, k, l))
     }
@@ -290,9 +301,11 @@ impl<
         alloc: Global,
         reader: &mut R,
     ) -> Result<(A, B, C, D, E, F, G, H, I, J, K, L, M)> {
-        let (a, (b, c, d, e, f, g, h, i, j, k, l, m)) = <(
+        let (a, b, c, (d, e, f, g, h, i, j, k, l, m)) = <(
             A,
-            (B, C, D, E, F, G, H, I, J, K, L, M),
+            B,
+            C,
+            (D, E, F, G, H, I, J, K, L, M),
         )>::deserialize_reader(alloc, reader)?;
         Ok((a, b, c, d, e, f, g, h, i, j, k, l, m))
     }
@@ -319,9 +332,11 @@ impl<
         alloc: Global,
         reader: &mut R,
     ) -> Result<(A, B, C, D, E, F, G, H, I, J, K, L, M, N)> {
-        let (a, (b, c, d, e, f, g, h, i, j, k, l, m, n)) = <(
+        let (a, b, c, (d, e, f, g, h, i, j, k, l, m, n)) = <(
             A,
-            (B, C, D, E, F, G, H, I, J, K, L, M, N),
+            B,
+            C,
+            (D, E, F, G, H, I, J, K, L, M, N),
         )>::deserialize_reader(alloc, reader)?;
         Ok((a, b, c, d, e, f, g, h, i, j, k, l, m, n))
     }
@@ -349,9 +364,11 @@ impl<
         alloc: Global,
         reader: &mut R,
     ) -> Result<(A, B, C, D, E, F, G, H, I, J, K, L, M, N, O)> {
-        let (a, (b, c, d, e, f, g, h, i, j, k, l, m, n, o)) = <(
+        let (a, b, c, (d, e, f, g, h, i, j, k, l, m, n, o)) = <(
             A,
-            (B, C, D, E, F, G, H, I, J, K, L, M, N, O),
+            B,
+            C,
+            (D, E, F, G, H, I, J, K, L, M, N, O),
         )>::deserialize_reader(alloc, reader)?;
         Ok((a, b, c, d, e, f, g, h, i, j, k, l, m, n, o))
     }
@@ -380,9 +397,11 @@ impl<
         alloc: Global,
         reader: &mut R,
     ) -> Result<(A, B, C, D, E, F, G, H, I, J, K, L, M, N, O, P)> {
-        let (a, (b, c, d, e, f, g, h, i, j, k, l, m, n, o, p)) = <(
+        let (a, b, c, (d, e, f, g, h, i, j, k, l, m, n, o, p)) = <(
             A,
-            (B, C, D, E, F, G, H, I, J, K, L, M, N, O, P),
+            B,
+            C,
+            (D, E, F, G, H, I, J, K, L, M, N, O, P),
         )>::deserialize_reader(alloc, reader)?;
         Ok((a, b, c, d, e, f, g, h, i, j, k, l, m, n, o, p))
     }
@@ -412,9 +431,11 @@ impl<
         alloc: Global,
         reader: &mut R,
     ) -> Result<(A, B, C, D, E, F, G, H, I, J, K, L, M, N, O, P, Q)> {
-        let (a, (b, c, d, e, f, g, h, i, j, k, l, m, n, o, p, q)) = <(
+        let (a, b, c, (d, e, f, g, h, i, j, k, l, m, n, o, p, q)) = <(
             A,
-            (B, C, D, E, F, G, H, I, J, K, L, M, N, O, P, Q),
+            B,
+            C,
+            (D, E, F, G, H, I, J, K, L, M, N, O, P, Q),
         )>::deserialize_reader(alloc, reader)?;
         Ok((a, b, c, d, e, f, g, h, i, j, k, l, m, n, o, p, q))
     }
@@ -445,9 +466,11 @@ impl<
         alloc: Global,
         reader: &mut R,
     ) -> Result<(A, B, C, D, E, F, G, H, I, J, K, L, M, N, O, P, Q, S)> {
-        let (a, (b, c, d, e, f, g, h, i, j, k, l, m, n, o, p, q, s)) = <(
+        let (a, b, c, (d, e, f, g, h, i, j, k, l, m, n, o, p, q, s)) = <(
             A,
-            (B, C, D, E, F, G, H, I, J, K, L, M, N, O, P, Q, S),
+            B,
+            C,
+            (D, E, F, G, H, I, J, K, L, M, N, O, P, Q, S),
         )>::deserialize_reader(alloc, reader)?;
         Ok((a, b, c, d, e, f, g, h, i, j, k, l, m, n, o, p, q, s))
     }
@@ -479,9 +502,11 @@ impl<
         alloc: Global,
         reader: &mut R,
     ) -> Result<(A, B, C, D, E, F, G, H, I, J, K, L, M, N, O, P, Q, S, T)> {
-        let (a, (b, c, d, e, f, g, h, i, j, k, l, m, n, o, p, q, s, t)) = <(
+        let (a, b, c, (d, e, f, g, h, i, j, k, l, m, n, o, p, q, s, t)) = <(
             A,
-            (B, C, D, E, F, G, H, I, J, K, L, M, N, O, P, Q, S, T),
+            B,
+            C,
+            (D, E, F, G, H, I, J, K, L, M, N, O, P, Q, S, T),
         )>::deserialize_reader(alloc, reader)?;
         Ok((a, b, c, d, e, f, g, h, i, j, k, l, m, n, o, p, q, s, t))
     }
@@ -514,9 +539,11 @@ impl<
         alloc: Global,
         reader: &mut R,
     ) -> Result<(A, B, C, D, E, F, G, H, I, J, K, L, M, N, O, P, Q, S, T, U)> {
-        let (a, (b, c, d, e, f, g, h, i, j, k, l, m, n, o, p, q, s, t, u)) = <(
+        let (a, b, c, (d, e, f, g, h, i, j, k, l, m, n, o, p, q, s, t, u)) = <(
             A,
-            (B, C, D, E, F, G, H, I, J, K, L, M, N, O, P, Q, S, T, U),
+            B,
+            C,
+            (D, E, F, G, H, I, J, K, L, M, N, O, P, Q, S, T, U),
         )>::deserialize_reader(alloc, reader)?;
         Ok((a, b, c, d, e, f, g, h, i, j, k, l, m, n, o, p, q, s, t, u))
     }
