@@ -32,12 +32,20 @@ fn write<T: BorshSerialize>(alloc: Global, value: &T, rounds: usize) -> usize {
     sum
 }
 
-/// Decodes the bytes so many times; the sum of their lengths.
-fn read<T: BorshDeserialize>(alloc: Global, bytes: &[u8], rounds: usize) -> usize {
+/// Decodes the bytes so many times; the sum of their lengths. Each value is put into memory, so that nothing of it is left out.
+fn read<T: BorshDeserialize>(
+    alloc: Global,
+    bytes: &[u8],
+    kept: &mut Vec<T>,
+    rounds: usize,
+) -> usize {
     let mut sum = 0usize;
     for _ in 0..rounds {
-        if from_slice::<T>(alloc, bytes).is_ok() {
-            sum = sum.wrapping_add(bytes.len());
+        if let Ok(value) = from_slice(alloc, bytes) {
+            if kept.push(value).is_ok() {
+                sum = sum.wrapping_add(bytes.len());
+            }
+            kept.clear();
         }
     }
     sum
@@ -61,9 +69,10 @@ fn write_and_read<T: BorshSerialize + BorshDeserialize>(
     rounds: usize,
 ) -> usize {
     let mut sum = 0usize;
+    let mut kept: Vec<T> = Vec::new(alloc);
     for _ in 0..rounds {
         if let Ok(bytes) = to_vec(alloc, value) {
-            sum = sum.wrapping_add(read::<T>(alloc, bytes.as_slice(), 1));
+            sum = sum.wrapping_add(read(alloc, bytes.as_slice(), &mut kept, 1));
         }
     }
     sum
@@ -76,7 +85,7 @@ fn work<T: BorshSerialize + BorshDeserialize>(
     rounds: usize,
 ) -> usize {
     if action == READ {
-        return read::<T>(alloc, bytes, rounds);
+        return read::<T>(alloc, bytes, &mut Vec::new(alloc), rounds);
     }
     let Ok(value) = from_slice::<T>(alloc, bytes) else {
         return 0;

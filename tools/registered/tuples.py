@@ -145,15 +145,22 @@ use std::alloc::Global;
 """ + "".join([*map(ser_tuple, SHORT), *map(ser_longer, TUPLES[CALLED:])])
 
 
+# The most places that are read one after another. A longer tuple is read as its first places, and the others as one: each tuple
+# within another moves what was read once more.
+FLAT = 4
+
+
 def de_tuple(it):
-    """A tuple is read as its first place beside the others."""
-    if it.places <= 2:
+    """A tuple is read place by place, or as its first three places beside the others."""
+    if it.places <= FLAT:
         lines = [f"let {value} = {letter}::deserialize_reader(alloc, reader)?;" for value, letter in zip(it.values, it.letters)]
+    else:
+        values, letters = ([*parts[:3], f"({', '.join(parts[3:])})"] for parts in (it.values, it.letters))
+        lines = [f"let ({', '.join(values)}) = <({', '.join(letters)})>::deserialize_reader(alloc, reader)?;"]
+    if it.places <= 2:
         width = "A::width()" if it.places == 1 else "both_widths(A::width(), B::width())"
     else:
-        rest = f"<(A, {it.rest})>"
-        lines = [f"let (a, ({', '.join(it.values[1:])})) = {rest}::deserialize_reader(alloc, reader)?;"]
-        width = f"{rest}::width()"
+        width = f"<(A, {it.rest})>::width()"
     body = "\n        ".join(lines)
     hook = f"""
     #[inline]
@@ -405,18 +412,57 @@ def as_pair(it):
     return f"(λ t. (t.0, ({', '.join(it.fields()[1:])})))"
 
 
+def de_flat_proof(it):
+    """Of each place what follows if it wasn't read, behind those that were."""
+    view = f"(λ t. {nested(it.fields())})"
+    codecs = [f"g.{letter}.BorshType.codec" for letter in it.letters]
+
+    def behind(place):
+        return "".join(
+            f"    (decodes_pair_second _ g.met.{letter}.BorshType.lawful c.in_ok-{value}.ensures refl\n"
+            for letter, value in zip(it.letters[:place], it.values)
+        )
+
+    exits = ""
+    for place, value in enumerate(it.values):
+        residual = f"from_residual-in_err-{value}" if place else "from_residual"
+        others = codecs[-1]
+        for codec in reversed(codecs[place + 1:-1]):
+            others = f"(pair {codec} {others})"
+        if place + 1 < it.places:
+            last = f"{behind(place)}    (decodes_pair_first {others} _ refl c.in_err-{value}.ensures)"
+        else:
+            last = f"{behind(place)[:-1]} c.in_err-{value}.ensures"
+        exits += f"""
+pub returns-in_err-{value} : goal.returns-in_err-{value}
+returns-in_err-{value} g c = decodes_exit_contramap {view} _ c.{residual}.ensures.1
+{last}{")" * place}
+"""
+    read = f"c.in_ok-{it.values[-1]}.ensures"
+    for value in reversed(it.values[:-1]):
+        read = f"(decodes_pair c.in_ok-{value}.ensures {read})"
+    lemmas = "decodes_exit_contramap, decodes_made, decodes_pair, decodes_pair_first, decodes_pair_second"
+    return f"""use Rattle.std.proofs.Common.{{refl}}
+use Rattle.borsh_codec.specs.Shapes.{{pair}}
+use Rattle.borsh_codec.proofs.DecodeOutcomes.{{{lemmas}}}
+use Rattle.borsh_de.proofs.tuples.Tuple{it.places}BorshDeserialize.deserialize_reader.Goals as goal
+{exits}
+pub returns : goal.returns
+returns g c = decodes_made {view} refl
+    {read}
+"""
+
+
 def de_proof(it):
-    if it.places <= CALLED:
-        lemma, view = "decodes_exit_contramap", as_pair(it) + " "
-    elif it.places == CALLED + 1:
-        lemma, view = "decodes_exit_contramap", f"(λ t. (t.0, ({', '.join('t' + '.1' * place + '.0' for place in range(1, it.places))}))) "
-    else:
-        lemma, view = "decodes_exit", ""
-    return f"""use Rattle.borsh_codec.proofs.DecodeOutcomes.{{{lemma}}}
+    if it.places <= FLAT:
+        return de_flat_proof(it)
+    fields = it.fields() if it in SHORT else ["t" + ".1" * place + ".0" for place in range(it.places)]
+    others = f"({', '.join(fields[3:])})" if it.places - 3 <= CALLED else "t.1.1.1"
+    return f"""use Rattle.borsh_codec.proofs.DecodeOutcomes.{{decodes_exit_contramap}}
 use Rattle.borsh_de.proofs.tuples.Tuple{it.places}BorshDeserialize.deserialize_reader.Goals as goal
 
 pub returns-in_err-a : goal.returns-in_err-a
-returns-in_err-a g c = {lemma} {view}_ c.from_residual.ensures.1 c.in_err-a.ensures
+returns-in_err-a g c = decodes_exit_contramap (λ t. ({', '.join(fields[:3])}, {others})) _ c.from_residual.ensures.1 c.in_err-a.ensures
 """
 
 
