@@ -37,8 +37,7 @@ impl Answerer {
 
     /// Appends the answer to `line` and a line feed to `out`, and counts the line.
     ///
-    /// If an allocation fails, nothing was appended and the line isn't counted. Left open: as of the function
-    /// [`answer`].
+    /// If an allocation fails, nothing was appended and the line isn't counted. Left open: as of the function [`answer`].
     pub fn answer(
         &mut self,
         alloc: Global,

@@ -20,8 +20,7 @@ pub enum Inquiry {
 /// What a line asks for.
 #[derive(Drop)]
 pub enum Request {
-    /// Bytes are to be decoded as a value of the type, which is encoded again; in strict mode keys have to
-    /// be in order.
+    /// Bytes are to be decoded as a value of the type, which is encoded again; in strict mode keys have to be in order.
     Value {
         word: Word,
         strict: bool,

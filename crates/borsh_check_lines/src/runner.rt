@@ -13,11 +13,10 @@ const CHUNK: usize = 8192;
 
 /// Answers each line of the reader's bytes by one line, and flushes the writer.
 ///
-/// Lines end by a line feed; a last line without one counts if it isn't empty. An error means that an
-/// allocation failed, that the reader or the writer failed, or that the writer was full. The lines that
-/// were answered by then are the first ones of the input. Their answers were all written, or, if the writer
-/// or one of its allocations failed or it was full, a beginning of them. Left open: as of [`run_counted`];
-/// answers that were made and are dropped when memory runs out.
+/// Lines end by a line feed; a last line without one counts if it isn't empty. An error means that an allocation failed, that the
+/// reader or the writer failed, or that the writer was full. The lines that were answered by then are the first ones of the
+/// input. Their answers were all written, or, if the writer or one of its allocations failed or it was full, a beginning of them.
+/// Left open: as of [`run_counted`]; answers that were made and are dropped when memory runs out.
 ///
 /// ```
 /// let mut out = Vec::new(alloc);
@@ -31,10 +30,9 @@ pub fn run<R: Read, W: Write>(alloc: Global, reader: &mut R, writer: &mut W) -> 
     run_counted(alloc, reader, writer, &mut Answerer::new())
 }
 
-/// As [`run`], with an answerer of the caller's. Its count rises by the number of lines that were
-/// answered. So no answer is lost if the reader or an allocation fails, unless it is the writer's: as many were
-/// written. Left open: memory, after any number of lines; how many bytes are read before the reader fails; a
-/// writer that isn't flushed; as of [`answer`](super::answers::answer).
+/// As [`run`], with an answerer of the caller's. Its count rises by the number of lines that were answered. So no answer is lost
+/// if the reader or an allocation fails, unless it is the writer's: as many were written. Left open: memory, after any number of
+/// lines; how many bytes are read before the reader fails; a writer that isn't flushed; as of [`answer`](super::answers::answer).
 pub fn run_counted<R: Read, W: Write>(
     alloc: Global,
     reader: &mut R,

@@ -11,8 +11,7 @@ use borsh::schema::{BorshSchema, SchemaBuildError};
 use borsh::{BorshDeserialize, BorshSerialize, schema_container_of, to_vec};
 use std::alloc::{AllocError, Global};
 
-/// The container of the type that a word names, as digits, or that it has none. No word's type has two
-/// definitions of one name.
+/// The container of the type that a word names, as digits, or that it has none. No word's type has two definitions of one name.
 pub(crate) fn schema_answer(alloc: Global, word: Word) -> Result<Vec<u8>, AllocError>
     ensures answers { IfOk result (λ out. AnswersSchema (meaning word).schema out.items) }
     ensures line { IfOk result (λ out. IsLine out.items) }

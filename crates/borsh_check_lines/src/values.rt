@@ -83,8 +83,7 @@ pub fn ok_answer(alloc: Global, bytes: &[u8]) -> Result<Vec<u8>, AllocError>
     Ok(out)
 }
 
-/// `error` and what the error displays, with a space for each line feed. Running out of memory is no
-/// answer, but an error.
+/// `error` and what the error displays, with a space for each line feed. Running out of memory is no answer, but an error.
 pub fn error_answer(alloc: Global, error: &Error) -> Result<Vec<u8>, AllocError>
     ensures is { IfOk result (λ out. IsErrorLine out.items) }
     ensures kind { IfOk result (λ _. error_kind error.now ≢ ErrorKind.OutOfMemory) }

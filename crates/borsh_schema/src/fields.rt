@@ -166,8 +166,7 @@ pub fn add_unnamed<P: FieldTypes>(
     add_with_parts::<P>(alloc, declaration, definition, definitions)
 }
 
-/// Adds a struct without fields. The answers are those of
-/// [`BorshSchema::add_definitions_recursively`].
+/// Adds a struct without fields. The answers are those of [`BorshSchema::add_definitions_recursively`].
 ///
 /// ```
 /// add_unit(alloc, "Nothing", definitions)?;

@@ -32,10 +32,8 @@ pub fn declared_with<T: BorshSchema, R: FieldTypes>(
     Ok(text)
 }
 
-/// Adds a struct whose parameters are `T` and those of `R`, with these names of fields, and the definitions of
-/// their types, `P`. The answers are those of
-/// [`BorshSchema::add_definitions_recursively`].
-/// Left open: as there.
+/// Adds a struct whose parameters are `T` and those of `R`, with these names of fields, and the definitions of their types, `P`.
+/// The answers are those of [`BorshSchema::add_definitions_recursively`]. Left open: as there.
 ///
 /// ```
 /// // struct Pair<A, B> { first: A, second: B }, as Pair<u8, String>

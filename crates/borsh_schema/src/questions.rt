@@ -9,10 +9,9 @@ use borsh_walks::{
 use std::alloc::Global;
 
 impl BorshSchemaContainer {
-    /// Checks that each name that the root refers to, directly or through other definitions, has a
-    /// definition that keeps the rules, which [`check_rules`] lists. An error says which name breaks which
-    /// rule; `OutOfMemory` is returned if an allocation fails. Left open: memory; which of several broken
-    /// rules is reported; how many definitions are visited.
+    /// Checks that each name that the root refers to, directly or through other definitions, has a definition that keeps the
+    /// rules, which [`check_rules`] lists. An error says which name breaks which rule; `OutOfMemory` is returned if an allocation
+    /// fails. Left open: memory; which of several broken rules is reported; how many definitions are visited.
     ///
     /// ```
     /// container.validate(alloc)?;

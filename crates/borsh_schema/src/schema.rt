@@ -14,10 +14,9 @@ use std::alloc::Global;
 /// A type with a schema. If your type has no implementation, put `// derive: borsh, schema` above it and run
 /// derive/borsh_derive.py, or write one by hand, as docs/IMPLEMENTING.md shows.
 ///
-/// An implementation says by ghost members the bytes of the type's name (`name`) and the definitions of
-/// the name and of all names that it refers to (`parts`), and proves that in every container that has
-/// these definitions each encoding is a member of the name (`describes`). `described` has the same for a codec
-/// of its own, so that other implementations can quote it.
+/// An implementation says by ghost members the bytes of the type's name (`name`) and the definitions of the name and of all names
+/// that it refers to (`parts`), and proves that in every container that has these definitions each encoding is a member of the
+/// name (`describes`). `described` has the same for a codec of its own, so that other implementations can quote it.
 pub trait BorshSchema: BorshType {
     ghost name: { List ℕ };
 
@@ -34,10 +33,9 @@ pub trait BorshSchema: BorshType {
         ensures ok { IfOk result (λ d. string_bytes d ≡ name) }
         ensures err { IfErr result (λ e. e ≡ OutOfMemory) };
 
-    /// Adds the type's definition and those of its parts to the map. The error is `Redefinition` of a name
-    /// that has two different definitions, or `OutOfMemory` if an allocation fails. After an error the map
-    /// has what it had, and perhaps some of the type's definitions. Left open: memory; which of these it
-    /// has; which of several such names is reported.
+    /// Adds the type's definition and those of its parts to the map. The error is `Redefinition` of a name that has two different
+    /// definitions, or `OutOfMemory` if an allocation fails. After an error the map has what it had, and perhaps some of the
+    /// type's definitions. Left open: memory; which of these it has; which of several such names is reported.
     ///
     /// ```
     /// let mut definitions = BTreeMap::new(alloc);

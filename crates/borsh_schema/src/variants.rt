@@ -37,10 +37,9 @@ pub trait VariantTypes {
             ≡ (read name.now (row_names (iter_rest names.old))).rest) }
         ensures err { IfErr result (λ e. e ≡ OutOfMemory) };
 
-    /// Adds the definition of each variant's fields, under the name of the enum, two underscores and the
-    /// variant's name, and those of their types. The answers are those of
-    /// [`BorshSchema::add_definitions_recursively`].
-    /// Left open: as there; what `names` has left after an error.
+    /// Adds the definition of each variant's fields, under the name of the enum, two underscores and the variant's name, and
+    /// those of their types. The answers are those of [`BorshSchema::add_definitions_recursively`]. Left open: as there; what
+    /// `names` has left after an error.
     fn add_variants(
         alloc: Global,
         name: &str,
@@ -250,10 +249,8 @@ fn add_enum_as<V: VariantTypes>(
     V::add_variants(alloc, name, &mut names.iter(), definitions)
 }
 
-/// Adds an enum with the variants `V`, whose names and names of fields are given, and the definitions of
-/// their fields. The answers are those of
-/// [`BorshSchema::add_definitions_recursively`].
-/// Left open: as there.
+/// Adds an enum with the variants `V`, whose names and names of fields are given, and the definitions of their fields. The
+/// answers are those of [`BorshSchema::add_definitions_recursively`]. Left open: as there.
 ///
 /// ```
 /// type Variants = Fork<Case<0, ()>, Case<1, (u64, (u8, ()))>>;

@@ -5,8 +5,7 @@ ghost use Rattle.std.specs.Prelude.{◌≡◌, option_map};
 use crate::definition::Definition;
 use std::collections::BTreeMap;
 
-/// How many definitions were visited, for each kind of question. A count at its greatest value
-/// stays there.
+/// How many definitions were visited, for each kind of question. A count at its greatest value stays there.
 #[derive(Clone, Copy, Debug, PartialEq, Eq)]
 pub struct Expansions {
     pub size: u64,

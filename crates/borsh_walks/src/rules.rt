@@ -162,16 +162,14 @@ fn visit<'a, 'm: 'a>(
     Ok(())
 }
 
-/// Checks that each name that the root refers to, directly or through other definitions, is defined and
-/// keeps the rules.
+/// Checks that each name that the root refers to, directly or through other definitions, is defined and keeps the rules.
 ///
-/// A sequence of width 0 whose least length is its greatest (an array) keeps them. Of any other sequence
-/// the least length is at most the greatest, the width is 0, 1, 2, 4 or 8 with room for the greatest
-/// length, and the elements have bytes. The tag of an enum has at most eight bytes. An error says which
-/// name breaks which rule. Only reached definitions are counted, each at most once, and after `Ok` all of them;
-/// for zero size only those that decide whether a checked element has bytes, each at most once, and after
-/// `Ok` all checked elements. Left open: memory; which of several broken rules is reported; how many of these
-/// are counted otherwise; definitions that are read without [`Counted::look`].
+/// A sequence of width 0 whose least length is its greatest (an array) keeps them. Of any other sequence the least length is at
+/// most the greatest, the width is 0, 1, 2, 4 or 8 with room for the greatest length, and the elements have bytes. The tag of an
+/// enum has at most eight bytes. An error says which name breaks which rule. Only reached definitions are counted, each at most
+/// once, and after `Ok` all of them; for zero size only those that decide whether a checked element has bytes, each at most once,
+/// and after `Ok` all checked elements. Left open: memory; which of several broken rules is reported; how many of these are
+/// counted otherwise; definitions that are read without [`Counted::look`].
 ///
 /// ```
 /// check_rules(alloc, "Vec<u8>", &mut Counted::new(&definitions, &mut counts))?;

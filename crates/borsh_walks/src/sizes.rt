@@ -60,10 +60,9 @@ fn finish(definition: &Definition, gathered: usize) -> Option<usize>
     }
 }
 
-/// The greatest size of the root, in bytes, as the definitions give it; no encoding is longer. A
-/// primitive has its own size, a sequence its length width and its greatest length times its element, an
-/// enum its tag width and its greatest variant, a tuple or struct the sum of its parts. The element of a
-/// sequence whose greatest length is 0 isn't needed and isn't visited.
+/// The greatest size of the root, in bytes, as the definitions give it; no encoding is longer. A primitive has its own size, a
+/// sequence its length width and its greatest length times its element, an enum its tag width and its greatest variant, a tuple
+/// or struct the sum of its parts. The element of a sequence whose greatest length is 0 isn't needed and isn't visited.
 ///
 /// ```
 /// let most = root_size(alloc, "Vec<u8>", &mut Counted::new(&definitions, &mut counts))?;
@@ -71,11 +70,10 @@ fn finish(definition: &Definition, gathered: usize) -> Option<usize>
 ///
 /// # Errors
 ///
-/// `Overflow` for a size that doesn't fit in a `usize`, `Recursive` for a needed definition that contains
-/// itself, `MissingDefinition` for a needed name without a definition, `OutOfMemory` if an allocation
-/// fails. Only definitions that the size needs are counted, each at most once, and after `Ok` all of them.
-/// Left open: memory; which of several causes is reported; after an error, how many are counted; definitions
-/// that are read without [`Counted::look`].
+/// `Overflow` for a size that doesn't fit in a `usize`, `Recursive` for a needed definition that contains itself,
+/// `MissingDefinition` for a needed name without a definition, `OutOfMemory` if an allocation fails. Only definitions that the
+/// size needs are counted, each at most once, and after `Ok` all of them. Left open: memory; which of several causes is reported;
+/// after an error, how many are counted; definitions that are read without [`Counted::look`].
 pub fn root_size(
     alloc: Global,
     root: &str,

@@ -24,9 +24,8 @@ pub fn never_zero(definition: &Definition) -> bool
     }
 }
 
-/// Whether the name is of zero size. A name on the stack is marked `false`: if it is met again, it is not of zero
-/// size, and neither is any name below it on the stack; its mark is `true` once all its parts are of zero size.
-/// Left open: memory.
+/// Whether the name is of zero size. A name on the stack is marked `false`: if it is met again, it is not of zero size, and
+/// neither is any name below it on the stack; its mark is `true` once all its parts are of zero size. Left open: memory.
 pub fn is_zero<'a, 'm: 'a>(
     alloc: Global,
     name: &'a str,
