@@ -188,6 +188,16 @@ def de_number(number):
         Ok(Some(read_vec(alloc, len as usize, reader)?))
     }
 
+    /// The bytes, always.
+    #[inline(always)]
+    fn read_slice<R: Read>(items: &mut [u8], reader: &mut R) -> Option<Result<()>>
+        ensures outcome { IfSome result (DecodesOver (unsigned 1) R.stream reader.old reader.new
+            items.old items.new) }
+        ensures some { IsSome result }
+    {
+        Some(fill(reader, items))
+    }
+
 """ if number.name == "u8" else ""
     value = f"{number.written_as}_of(number_bytes(reader)?)"
     if number.name != number.written_as:
@@ -209,13 +219,14 @@ impl BorshDeserialize for {number.name} {{
 
 DE_NUMBERS = """// Whole numbers, the lowest byte first, and with a sign in two's complement. A `usize` is read as a
 // `u64`, and an `isize` as an `i64`.
-ghost use Rattle.std.specs.Prelude.{◌≡◌, true, Some, IfOk, IsSome};
+ghost use Rattle.std.specs.Prelude.{◌≡◌, true, Some, IfOk, IfSome, IsSome};
 ghost use Rattle.borsh_codec.specs.Shapes.{unsigned_encoding, signed_encoding, unsigned};
 ghost use Rattle.borsh_codec.specs.Reading.{DecodesAtOnce};
+ghost use Rattle.borsh_de.specs.FixedWidth.{DecodesOver};
 ghost use Rattle.borsh_de.specs.Numbers.{TakesNumber};
 
 use super::deserialize::BorshDeserialize;
-use super::raw_bytes::{read_bytes, read_vec};
+use super::raw_bytes::{fill, read_bytes, read_vec};
 use borsh_io::{Read, Result};
 use std::alloc::Global;
 

@@ -1,5 +1,5 @@
 -- Values that are written over those of a slice, each decoded from the next piece of some bytes.
-use Rattle.std.proofs.Common.{◌≡◌, ℕ, ◌+◌, ◌*◌, ◌-◌, ◌<◌, ◌≤◌, List, [], ◌∷◌, ◌++◌, length, take, Result, Err, refl, sym, ◌∙◌, ap, subst, append-nil, append_assoc, arith, length-append}
+use Rattle.std.proofs.Common.{◌≡◌, ℕ, ◌+◌, ◌*◌, ◌-◌, ◌<◌, ◌≤◌, List, [], ◌∷◌, ◌++◌, length, take, Result, Ok, Err, refl, sym, ◌∙◌, ap, subst, append-nil, append_assoc, arith, length-append}
 use Rattle.std.proofs.Math.ListN.{set, length-set}
 use Rattle.std.proofs.Math.Nat.{mul-le-mul_right}
 use Rattle.std.proofs.lemmas.Grind.{take-set_at}
@@ -10,9 +10,11 @@ use Rattle.borsh_io.specs.declared.error.Error.{Error}
 use Rattle.borsh_io.specs.Errors.{error_kind}
 use Rattle.borsh_io.specs.Stream.{ReaderState}
 use Rattle.borsh_codec.specs.Codec.{Codec}
+use Rattle.borsh_codec.specs.RawBytes.{FillsBuffer}
 use Rattle.borsh_codec.specs.Reading.{NotDecoded}
-use Rattle.borsh_codec.specs.Shapes.{DecodesEach, array}
+use Rattle.borsh_codec.specs.Shapes.{DecodesEach, array, unsigned}
 use Rattle.borsh_codec.proofs.Laws.Lists.{nil_of_length}
+use Rattle.borsh_codec.proofs.ReadBytes.{reads_byte_row, denied_byte_row}
 use Rattle.borsh_de.specs.FixedWidth.{DecodesOver}
 use Rattle.borsh_de.proofs.FixedWidth.{each_append}
 use Rattle.borsh_de.proofs.Rooms.{one_fewer}
@@ -61,3 +63,8 @@ pub over_exit : {A R : Type 0} {c : Codec A} {state : R → ReaderState} {a b : 
 over_exit {c = c} {state = state} {a = a} {b = b} {before = before} {after = after} e {r = r} is f =
     let p = err_from_is_err_and r is in
     subst (DecodesOver c state a b before after) (sym (p.1 ∙ ap (λ y. Err y) p.2)) (record { ok = tt; err = f })
+
+-- bytes that fill the slice are its values
+pub over_filled : {R : Type 0} {state : R → ReaderState} {a b : R} {before after : List ℕ} (r : Result (Unit {0}) Error) → length after ≡ length before → FillsBuffer state a b before after r → DecodesOver (unsigned 1) state a b before after r
+over_filled (Ok u) same f = record { ok = reads_byte_row same f.fits f.ok; err = tt }
+over_filled (Err e) same f = record { ok = tt; err = denied_byte_row f.err }

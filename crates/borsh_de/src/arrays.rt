@@ -64,7 +64,7 @@ impl<'a, T: BorshDeserialize> Maker<T> for Alike<'a> {
 }
 
 // Reads the array, many elements at a time where they have a width, and answers it in a struct of its own.
-#[inline]
+#[inline(always)]
 fn read_row<T: BorshDeserialize, const N: usize, R: Read>(
     alloc: Global,
     reader: &mut R,
@@ -125,7 +125,7 @@ fn array_of<T: BorshDeserialize, const N: usize>(alloc: Global, bytes: &[u8]) ->
 }
 
 impl<T: BorshDeserialize, const N: usize> BorshDeserialize for [T; N] {
-    #[inline]
+    #[inline(always)]
     fn deserialize_reader<R: Read>(alloc: Global, reader: &mut R) -> Result<[T; N]> {
         release(read_row(alloc, reader))
     }

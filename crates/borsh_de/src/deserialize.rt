@@ -1,9 +1,9 @@
 // Types whose values are decoded.
-ghost use Rattle.std.specs.Prelude.{◌≡◌, ◌<◌, Bool, true, false, IfOk, IsNone};
+ghost use Rattle.std.specs.Prelude.{◌≡◌, ◌<◌, Bool, true, false, IfOk, IfSome, IfNone, IsNone};
 ghost use Rattle.borsh_io.specs.Stream.{slice_state};
 ghost use Rattle.borsh_codec.specs.Reading.{Decodes, DecodesAfterTag, DecodesAtOnce};
 ghost use Rattle.borsh_codec.specs.Reading.{DecodesReader, DecodesAll};
-ghost use Rattle.borsh_de.specs.FixedWidth.{IsFixedWidth, GetsValue};
+ghost use Rattle.borsh_de.specs.FixedWidth.{IsFixedWidth, GetsValue, DecodesOver};
 
 use super::refusals::not_all_bytes_read;
 use borsh_io::{ErrorKind, Read, Result};
@@ -54,18 +54,26 @@ pub trait BorshDeserialize: BorshType + Sized + Drop {
         Ok(None)
     }
 
-    /// How many bytes each encoding has, for a type of which every so many bytes are an encoding, as a
-    /// number; 0 for any other type. Lists and arrays of such a type are read many elements at a time.
-    /// Left open: 0, of any type.
+    /// As [`vec_from_reader`](BorshDeserialize::vec_from_reader), but over the values of a slice, and any type may return
+    /// values. Left open: as there.
+    fn read_slice<R: Read>(_items: &mut [Self], _reader: &mut R) -> Option<Result<()>>
+        ensures some { IfSome result (DecodesOver Self.codec R.stream _reader.old _reader.new
+            _items.old _items.new) }
+        ensures none { IfNone result ((_reader.new ≡ _reader.old) × (_items.new ≡ _items.old)) }
+    {
+        None
+    }
+
+    /// How many bytes each encoding has, for a type of which every so many bytes are an encoding, as a number; 0 for any
+    /// other type. Lists and arrays of such a type are read many elements at a time. Left open: 0, of any type.
     fn width() -> usize
         ensures { 0 < result → IsFixedWidth Self.codec result }
     {
         0
     }
 
-    /// The value that all of the bytes decode to, for a type of fixed [`width`](BorshDeserialize::width).
-    /// Left open: what isn't encoded, but for `made` of the codec; `None`, of a type or bytes of another
-    /// width.
+    /// The value that all of the bytes decode to, for a type of fixed [`width`](BorshDeserialize::width). Left open: what
+    /// isn't encoded, but for `made` of the codec; `None`, of a type or bytes of another width.
     fn get(alloc: Global, bytes: &[u8]) -> Option<Self>
         ensures { GetsValue Self.codec bytes.now result }
     {
@@ -108,11 +116,10 @@ pub trait BorshDeserialize: BorshType + Sized + Drop {
         Ok(value)
     }
 
-    /// Decodes a value from all of the bytes to come, and looks for one more byte. If there is one, or if
-    /// the reader fails then, the error is `InvalidData`, "Not all bytes read"; but a failure of kind
-    /// `UnexpectedEof` is taken as the end. After an error of the value itself no further byte is read.
-    /// Left open: memory; what isn't encoded, but for `made` of the codec; how many bytes are left after an
-    /// error.
+    /// Decodes a value from all of the bytes to come, and looks for one more byte. If there is one, or if the reader fails
+    /// then, the error is `InvalidData`, "Not all bytes read"; but a failure of kind `UnexpectedEof` is taken as the end.
+    /// After an error of the value itself no further byte is read. Left open: memory; what isn't encoded, but for `made` of
+    /// the codec; how many bytes are left after an error.
     ///
     /// ```
     /// let mut input = StdReader::new(rt.stdin(), 1000);
@@ -133,8 +140,7 @@ pub trait BorshDeserialize: BorshType + Sized + Drop {
     }
 }
 
-/// An enum that is decoded in two steps: its tag, and what follows it. So a caller can look at the tag in
-/// between.
+/// An enum that is decoded in two steps: its tag, and what follows it. So a caller can look at the tag in between.
 pub trait EnumExt: BorshDeserialize {
     /// Decodes what follows a tag that was read before.
     ///

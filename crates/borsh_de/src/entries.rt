@@ -58,8 +58,7 @@ fn check_keys<K: Ord>(strict: bool, keys: &[K]) -> Result<()>
     Ok(())
 }
 
-/// Reads a count and that many entries in any order. Keys whose encodings are empty are refused before
-/// anything is read.
+/// Reads a count and that many entries in any order. Keys whose encodings are empty are refused before anything is read.
 #[inline]
 pub(crate) fn read_pairs<K: BorshDeserialize, V: BorshDeserialize, R: Read>(
     alloc: Global,

@@ -10,8 +10,10 @@ use super::raw_bytes::fill;
 use borsh_io::{Read, Result};
 use std::alloc::{AllocError, Global};
 
-/// How many bytes are read at once.
+/// How many bytes are read at once, but for a list that takes no more than `SMALL`: a room is cleared first.
 pub(crate) const ROOM: usize = 512;
+
+pub(crate) const SMALL: usize = 64;
 
 /// The value that the bytes decode to.
 #[inline]
@@ -67,17 +69,17 @@ pub(crate) fn width_of_parts(len: usize, count: usize) -> Option<usize>
     Some(len / count)
 }
 
-/// How many elements of so many bytes are read next, where more are wanted: as many as the room takes and the reader
-/// surely may still have, and at least one.
+/// How many elements of so many bytes are read next, where more are wanted: as many as a room of so many bytes takes and
+/// the reader surely may still have, and at least one.
 #[inline]
-fn next_count(width: usize, left: Option<usize>, wanted: usize) -> usize
+fn next_count(room: usize, width: usize, left: Option<usize>, wanted: usize) -> usize
     requires some { (0 < width) × (0 < wanted) }
-    requires few { width ≤ 512 }
+    requires few { width ≤ room }
     ensures some { 0 < result }
     ensures few { result ≤ wanted }
-    ensures fits { result * width ≤ 512 }
+    ensures fits { result * width ≤ room }
 {
-    let most = left.unwrap_or(ROOM).max(width).min(ROOM) / width;
+    let most = left.unwrap_or(room).max(width).min(room) / width;
     wanted.min(most)
 }
 
@@ -92,9 +94,8 @@ fn first_count<T: BorshDeserialize>(width: usize, left: Option<usize>, len: u32)
     }
 }
 
-/// Reads `len` elements of so many bytes each. The errors are those of [`fill`], and `OutOfMemory` if an allocation for
-/// the list fails.
-pub(crate) fn read_rooms<T: BorshDeserialize, R: Read>(
+/// Reads `len` elements of so many bytes each through a room. The errors are those of [`fill`], and `OutOfMemory` for the list.
+pub(crate) fn read_rooms<const ROOM: usize, T: BorshDeserialize, R: Read>(
     alloc: Global,
     len: u32,
     width: usize,
@@ -102,13 +103,14 @@ pub(crate) fn read_rooms<T: BorshDeserialize, R: Read>(
 ) -> Result<Vec<T>>
     requires fixed { IsFixedWidth T.codec width }
     requires some { 0 < width }
-    requires few { width ≤ 512 }
+    requires few { width ≤ ROOM }
+    requires room { ROOM ≤ 512 }
     ensures { DecodesVec (allocated_array len T.codec) R.stream reader.old reader.new result }
 {
     let mut items = Vec::with_capacity(alloc, first_count::<T>(width, reader.bytes_left(), len))?;
     let mut room = [0u8; ROOM];
     'rooms: while items.len() < len as usize {
-        let count = next_count(width, reader.bytes_left(), len as usize - items.len());
+        let count = next_count(ROOM, width, reader.bytes_left(), len as usize - items.len());
         let part = &mut room[..count * width];
         fill(reader, part)?;
         append(alloc, width, part, &mut items)?;
@@ -143,9 +145,9 @@ fn overwrite<T: BorshDeserialize>(alloc: Global, width: usize, bytes: &[u8], ite
     }
 }
 
-/// Reads values of so many bytes each over those of the slice, as many at a time as the room takes. The errors are
-/// those of [`fill`].
-#[inline]
+/// Reads values of so many bytes each over those of the slice, all at once or as many at a time as the room takes. The
+/// errors are those of [`fill`].
+#[inline(always)]
 pub(crate) fn read_over<T: BorshDeserialize, R: Read>(
     alloc: Global,
     width: usize,
@@ -158,6 +160,9 @@ pub(crate) fn read_over<T: BorshDeserialize, R: Read>(
     requires few { width ≤ length room.old }
     ensures { DecodesOver T.codec R.stream reader.old reader.new items.old items.new result }
 {
+    if let Some(result) = T::read_slice(items, reader) {
+        return result;
+    }
     let most = room.len() / width;
     let mut done = 0;
     'rooms: while done < items.len() {

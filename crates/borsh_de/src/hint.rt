@@ -3,9 +3,8 @@ ghost use Rattle.std.specs.Prelude.{◌≡◌, ◌≤◌, ◌/◌, min, max};
 
 use borsh_types::BorshType;
 
-/// How many elements to make room for at first, if `hint` are announced: no more than fit in about 4096
-/// bytes of memory, but at least one. So an announcement alone takes no more memory than that. Left open:
-/// any number from 1 to 4096.
+/// How many elements to make room for at first, if `hint` are announced: no more than fit in about 4096 bytes of memory,
+/// but at least one. So an announcement alone takes no more memory than that. Left open: any number from 1 to 4096.
 ///
 /// ```
 /// assert_eq!(rt; cautious::<u64>(1000000), 512);

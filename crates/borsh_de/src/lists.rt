@@ -5,7 +5,7 @@ ghost use Rattle.borsh_codec.specs.Shapes.{allocated_array, length_prefixed, lis
 ghost use Rattle.borsh_codec.specs.Reading.{DecodesVec};
 
 use super::deserialize::BorshDeserialize;
-use super::fixed::{ROOM, read_rooms};
+use super::fixed::{ROOM, SMALL, read_rooms};
 use super::hint::cautious;
 use borsh_io::{Read, Result};
 use borsh_types::refuse_empty;
@@ -58,7 +58,10 @@ pub(crate) fn read_elements<T: BorshDeserialize, R: Read>(
     }
     let width = T::width();
     if width > 0 && width <= ROOM {
-        return read_rooms(alloc, len, width, reader);
+        if len as usize <= SMALL / width {
+            return read_rooms::<SMALL, T, R>(alloc, len, width, reader);
+        }
+        return read_rooms::<ROOM, T, R>(alloc, len, width, reader);
     }
     let before = reader.bytes_left();
     let mut items = Vec::with_capacity(alloc, cautious::<T>(len))?;

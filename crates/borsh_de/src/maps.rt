@@ -1,5 +1,4 @@
-// Maps and sets: the list of entries is read, and the map is made of it. Of entries with one key the last
-// gives the value.
+// Maps and sets: the list of entries is read, and the map is made of it. Of entries with one key the last gives the value.
 ghost use Rattle.std.specs.Prelude.{List, IfOk};
 
 use super::deserialize::BorshDeserialize;

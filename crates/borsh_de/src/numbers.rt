@@ -1,12 +1,13 @@
 // Whole numbers, the lowest byte first, and with a sign in two's complement. A `usize` is read as a
 // `u64`, and an `isize` as an `i64`.
-ghost use Rattle.std.specs.Prelude.{◌≡◌, true, Some, IfOk, IsSome};
+ghost use Rattle.std.specs.Prelude.{◌≡◌, true, Some, IfOk, IfSome, IsSome};
 ghost use Rattle.borsh_codec.specs.Shapes.{unsigned_encoding, signed_encoding, unsigned};
 ghost use Rattle.borsh_codec.specs.Reading.{DecodesAtOnce};
+ghost use Rattle.borsh_de.specs.FixedWidth.{DecodesOver};
 ghost use Rattle.borsh_de.specs.Numbers.{TakesNumber};
 
 use super::deserialize::BorshDeserialize;
-use super::raw_bytes::{read_bytes, read_vec};
+use super::raw_bytes::{fill, read_bytes, read_vec};
 use borsh_io::{Read, Result};
 use std::alloc::Global;
 
@@ -103,6 +104,16 @@ impl BorshDeserialize for u8 {
         ensures some { IfOk result IsSome }
     {
         Ok(Some(read_vec(alloc, len as usize, reader)?))
+    }
+
+    /// The bytes, always.
+    #[inline(always)]
+    fn read_slice<R: Read>(items: &mut [u8], reader: &mut R) -> Option<Result<()>>
+        ensures outcome { IfSome result (DecodesOver (unsigned 1) R.stream reader.old reader.new
+            items.old items.new) }
+        ensures some { IsSome result }
+    {
+        Some(fill(reader, items))
     }
 
     #[inline]

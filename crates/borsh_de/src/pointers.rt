@@ -36,13 +36,16 @@ impl<T: BorshDeserialize> BorshDeserialize for Cow<'_, T> {
         Ok(Cow::Owned(T::deserialize_reader(alloc, reader)?))
     }
 
-    // the trait's own body isn't taken here: the borrow checker doesn't cover it at a type with a lifetime and a parameter
-    #[inline]
+    // the trait's own bodies aren't taken here: the borrow checker doesn't cover them at a type with a lifetime and a parameter
     fn vec_from_reader<R: Read>(
         _alloc: Global,
         _len: u32,
         _reader: &mut R,
     ) -> Result<Option<Vec<Self>>> {
         Ok(None)
+    }
+
+    fn read_slice<R: Read>(_items: &mut [Self], _reader: &mut R) -> Option<Result<()>> {
+        None
     }
 }

@@ -81,10 +81,9 @@ fn first_room(len: usize, left: Option<usize>) -> usize
     }
 }
 
-/// The next `len` bytes. If the reader has fewer left, nothing is read. If it has enough, room is made for
-/// `len` bytes at once. If it doesn't know, room is made for 1 MiB at first and then for as many again as
-/// came, so bytes that are announced and don't come cost little memory. The errors are those of [`fill`],
-/// and `OutOfMemory` if an allocation fails.
+/// The next `len` bytes. If the reader has fewer left, nothing is read. If it has enough, room is made for `len` bytes at
+/// once. If it doesn't know, room is made for 1 MiB at first and then for as many again as came, so bytes that are
+/// announced and don't come cost little memory. The errors are those of [`fill`], and `OutOfMemory` if an allocation fails.
 #[inline(always)]
 pub(crate) fn read_vec<R: Read>(alloc: Global, len: usize, reader: &mut R) -> Result<Vec<u8>>
     ensures { DecodesVec (allocated_array len (unsigned 1)) R.stream reader.old reader.new result }

@@ -76,8 +76,7 @@ impl<A: Cases, B: Cases> Cases for Fork<A, B> {
 
 /// An enum whose values are put together from their variants.
 ///
-/// With [`read_enum`](super::read_enum) and [`read_variant`](super::read_variant) such a type is decoded
-/// with no proof.
+/// With [`read_enum`](super::read_enum) and [`read_variant`](super::read_variant) such a type is decoded with no proof.
 pub trait FromCases: Sized {
     /// The variants as one type.
     type Cases: Cases;

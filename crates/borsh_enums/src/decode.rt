@@ -35,8 +35,7 @@ impl<A: DecodeCases, B: DecodeCases> DecodeCases for Fork<A, B> {
     }
 }
 
-/// Decodes what follows a tag that was read before. The errors are those of [`read_enum`]. Left open: as
-/// there.
+/// Decodes what follows a tag that was read before. The errors are those of [`read_enum`]. Left open: as there.
 #[inline]
 pub fn read_variant<T: FromCases, R: Read>(alloc: Global, reader: &mut R, tag: u8) -> Result<T>
 where
@@ -54,9 +53,8 @@ where
 
 /// Decodes a tag, one byte, and the fields of the variant that has it.
 ///
-/// The errors are those of the fields, and `InvalidData`, "Unexpected variant tag: ..", where no variant
-/// has the tag; then the tag was read, and the rest is left. Left open: as of
-/// [`BorshDeserialize::deserialize_reader`].
+/// The errors are those of the fields, and `InvalidData`, "Unexpected variant tag: ..", where no variant has the tag; then
+/// the tag was read, and the rest is left. Left open: as of [`BorshDeserialize::deserialize_reader`].
 #[inline]
 pub fn read_enum<T: FromCases, R: Read>(alloc: Global, reader: &mut R) -> Result<T>
 where

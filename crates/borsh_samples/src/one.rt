@@ -8,8 +8,7 @@ use borsh::ser::write_bytes;
 use borsh::{BorshDeserialize, BorshSerialize, BorshType, EnumExt};
 use std::alloc::Global;
 
-/// One byte, though the value takes no memory: so a list of it takes a byte for each element, and isn't
-/// refused.
+/// One byte, though the value takes no memory: so a list of it takes a byte for each element, and isn't refused.
 #[derive(Drop)]
 pub enum One {
     Only,

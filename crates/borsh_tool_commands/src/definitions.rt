@@ -103,8 +103,7 @@ fn push_primitive(name: &str, size: u8, out: &mut PlainText) -> Added
     push_size(size, out)
 }
 
-/// `sequence String = [u8; 0..=4294967295], length in 4 bytes`, or `array "[u8; 4]" = [u8; 4]` where no
-/// length is written.
+/// `sequence String = [u8; 0..=4294967295], length in 4 bytes`, or `array "[u8; 4]" = [u8; 4]` where no length is written.
 fn push_sequence(
     name: &str,
     length_width: u8,

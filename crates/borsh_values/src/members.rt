@@ -53,12 +53,11 @@ fn whole<'a>(alloc: Global, plan: &Plan<'a>, bytes: &[u8], front: Front<'a>) -> 
 
 /// Whether all of `bytes` is a member of `root`, by the definitions of `map` alone.
 ///
-/// The definitions may be any: a name without a definition has no member, and neither has one that leads back
-/// to itself before any byte. If they are no member, the answer says where: no member of [`Fault::name`] begins at
-/// [`Fault::offset`], or bytes are left behind a whole value. The answer is never [`Membership::Ambiguous`] where the
-/// definitions that are reached are valid, as [`borsh_walks::check_rules`] says, and unambiguous. The only
-/// error is that an allocation failed. Left open: memory; for other definitions `Ambiguous` in place of yes or no; which
-/// of several faults is answered, and its path: tested.
+/// The definitions may be any: a name without a definition has no member, and neither has one that leads back to itself before
+/// any byte. If they are no member, the answer says where: no member of [`Fault::name`] begins at [`Fault::offset`], or bytes are
+/// left behind a whole value. The answer is never [`Membership::Ambiguous`] where the definitions that are reached are valid, as
+/// [`borsh_walks::check_rules`] says, and unambiguous. The only error is that an allocation failed. Left open: memory; for other
+/// definitions `Ambiguous` in place of yes or no; which of several faults is answered, and its path: tested.
 ///
 /// ```
 /// match is_member(alloc, "Vec<u8>", &definitions, b"\x01\x00\x00\x00\x07")? {

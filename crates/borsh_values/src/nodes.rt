@@ -6,9 +6,8 @@ ghost use Rattle.std.specs.Prelude.{◌≡◌, take};
 use crate::tags::{number, variant_at};
 use borsh_walks::Definition;
 
-/// A part of a value, or the value itself, with the bytes that it encodes before its own parts: a primitive all
-/// its bytes, a sequence its count and its elements if these are primitives of some bytes, an enum its tag, a struct and a
-/// tuple none.
+/// A part of a value, or the value itself, with the bytes that it encodes before its own parts: a primitive all its bytes,
+/// a sequence its count and its elements if these are primitives of some bytes, an enum its tag, a struct and a tuple none.
 ///
 /// [`variant_of`] gives the variant of an enum, [`count_of`] the number of elements of a sequence, and [`elements_of`] their
 /// bytes where these are in its node.

@@ -144,8 +144,7 @@ impl Course {
     }
 }
 
-/// Courses without a failure: bytes at once, one at a time, seven at a time, and one at a time with an
-/// interruption before each.
+/// Courses without a failure: bytes at once, one at a time, seven at a time, and one at a time with an interruption before each.
 pub fn courses() -> [Course; 4] {
     [
         Course::smooth(),

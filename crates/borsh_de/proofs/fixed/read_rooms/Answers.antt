@@ -1,5 +1,5 @@
-use Rattle.std.proofs.Common.{arith, rules, ◌≡◌, ◌*◌, ◌≤◌, length, refl, sym, ◌∙◌, ap, length-append}
-use Rattle.std.proofs.lemmas.List.{length-take-le}
+use Rattle.std.proofs.Common.{arith, rules, ◌≡◌, ◌*◌, ◌≤◌, drop, length, refl, sym, ◌∙◌, ap, length-append}
+use Rattle.std.proofs.lemmas.List.{length-drop, length-take-le}
 use Rattle.borsh_codec.proofs.DecodeViews.{as_err, as_memory}
 use Rattle.borsh_codec.proofs.ReadSteps.{took_then}
 use Rattle.borsh_de.proofs.FixedWidth.{length-each, row_many, same_count, denied_room}
@@ -8,7 +8,7 @@ use Rattle.borsh_de.proofs.fixed.read_rooms.Goals as goal
 pub returns-in_err-fill : goal.returns-in_err-fill
 returns-in_err-fill g c =
     let n = c.next_count-count.result in
-    let room : n * c.args.width ≤ length c.rooms.room = search rules in
+    let room : n * c.args.width ≤ length c.rooms.room = omega (arith, c.next_count-count.ensures.fits, c.rooms.invariant.room) in
     as_err _ c.from_residual-in_err-fill.ensures.1 refl (denied_room n (length-take-le (n * c.args.width) c.rooms.room room) c.requires.fixed c.rooms.invariant.so_far (omega (arith, c.next_count-count.ensures.few, c.len-in-rooms.ensures, c.rooms.invariant.few)) c.in_err-fill.ensures.err)
 
 pub rooms-preserved : goal.rooms-preserved
@@ -20,6 +20,7 @@ rooms-preserved g c =
     record {
       so_far = rw a.items (row_many a.more c.requires.fixed c.rooms.invariant.so_far c.in_ok-fill.ensures.ok a.decodes);
       few = omega (arith, ap length a.items, length-append c.rooms.items.items a.more, count, c.next_count-count.ensures.few, c.len-in-rooms.ensures, c.rooms.invariant.few);
+      room = omega (arith, long, length-append c.fill.new.buf (drop (n * c.args.width) c.rooms.room), length-drop (n * c.args.width) c.rooms.room, c.next_count-count.ensures.fits, c.rooms.invariant.room);
     }
 
 pub returns-in_err-append : goal.returns-in_err-append
