@@ -262,7 +262,3 @@ room_refused {c = c} {w = w} {len = len} {k = k} {s = s} {t = t} {xs = xs} n is 
 
 pub denied_room : {A : Type 0} {c : Codec A} {w len k : ℕ} {s t u : ReaderState} {xs : List A} {kind : ErrorKind} (n : ℕ) → k ≡ n * w → IsFixedWidth c w → RowSoFar A c s t xs → length xs + n ≤ len → ReadFails false false (λ x. length x ≡ k) t u kind → NotDecoded (List A) (allocated_array len c) s u kind
 denied_room n is f p h r = record { refused = room_refused n is f p h r }
-
--- the same for an array, which isn't allocated
-pub denied_over : {A : Type 0} {c : Codec A} {w len k : ℕ} {s t u : ReaderState} {xs : List A} {kind : ErrorKind} (n : ℕ) → k ≡ n * w → IsFixedWidth c w → RowSoFar A c s t xs → length xs + n ≤ len → ReadFails false false (λ x. length x ≡ k) t u kind → NotDecoded (List A) (array len c) s u kind
-denied_over n is f p h r = record { refused = room_refused n is f p h r }

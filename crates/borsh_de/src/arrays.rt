@@ -1,12 +1,13 @@
 // Arrays: their elements in order, with no count. Only reading the elements may allocate.
-ghost use Rattle.std.specs.Prelude.{◌≡◌, ◌<◌, ⊤, length};
+ghost use Rattle.std.specs.Prelude.{◌≡◌, ◌<◌, ⊤, length, MatchOption};
 ghost use Rattle.borsh_io.specs.Errors.{error_kind};
+ghost use Rattle.borsh_codec.specs.Codec.{Codec};
 ghost use Rattle.borsh_codec.specs.Shapes.{array};
 ghost use Rattle.borsh_codec.specs.Reading.{Decoded, NotDecoded, Decodes, DecodesAs};
 ghost use Rattle.borsh_de.specs.FixedWidth.{IsFixedWidth, GetsValue, TakesPiece};
 
 use super::deserialize::BorshDeserialize;
-use super::fixed::{ROOM, fits_rooms, read_over, width_of_parts};
+use super::fixed::width_of_parts;
 use borsh_arrays::{Held, Maker, TryMaker, array_from, release, try_array_from};
 use borsh_io::{Error, Read, Result};
 use std::alloc::Global;
@@ -45,45 +46,84 @@ fn read_each<T: BorshDeserialize, R: Read, const N: usize>(
     try_array_from(elements)
 }
 
-// Makes values that are to be written over, each from the same bytes.
+// Makes values that are to be written over, each from one byte.
 #[derive(Drop)]
-struct Alike<'a> {
+struct Alike {
     alloc: Global,
-    bytes: &'a [u8],
 }
 
-impl<'a, T: BorshDeserialize> Maker<T> for Alike<'a> {
+impl<T: BorshDeserialize> Maker<T> for Alike {
     ghost makes = { λ _ _ _. ⊤ };
 
     ghost gives_up = { λ _ _. ⊤ };
 
     #[inline]
     fn make(&mut self) -> Option<T> {
-        T::get(self.alloc, self.bytes)
+        T::get(self.alloc, &[0])
     }
 }
 
-// Reads the array, many elements at a time where they have a width, and answers it in a struct of its own.
+// An array whose type is a parameter: the borrow checker covers a `Result` of it then.
+trait Row: Sized {
+    ghost codec: { Codec Self };
+
+    // An array that is to be written over, if its elements are a byte each.
+    fn blank(alloc: Global) -> Option<Self>;
+
+    // Reads the elements over those of the array, if the type can read them at once.
+    fn read_slice<R: Read>(&mut self, reader: &mut R) -> Option<Result<()>>
+        ensures { MatchOption result (reader.new ≡ reader.old)
+            (DecodesAs (λ _. self.new) codec R.stream reader.old reader.new) };
+
+    // Reads the elements one after another.
+    fn read_each<R: Read>(alloc: Global, reader: &mut R) -> Result<Held<Self>>
+        ensures { DecodesAs (λ held. held.0) codec R.stream reader.old reader.new result };
+
+    fn discard(self);
+}
+
+impl<T: BorshDeserialize, const N: usize> Row for [T; N] {
+    ghost codec = { array N T.codec };
+
+    #[inline(always)]
+    fn blank(alloc: Global) -> Option<[T; N]> {
+        if T::width() != 1 {
+            return None;
+        }
+        array_from(&mut Alike { alloc }).ok()
+    }
+
+    #[inline(always)]
+    fn read_slice<R: Read>(&mut self, reader: &mut R) -> Option<Result<()>> {
+        T::read_slice(self, reader)
+    }
+
+    #[inline(always)]
+    fn read_each<R: Read>(alloc: Global, reader: &mut R) -> Result<Held<[T; N]>> {
+        read_each(&mut Elements { reader, alloc })
+    }
+
+    #[inline(always)]
+    fn discard(self) {}
+}
+
+// Reads the array, at once if its elements can be read so.
 #[inline(always)]
-fn read_row<T: BorshDeserialize, const N: usize, R: Read>(
-    alloc: Global,
-    reader: &mut R,
-) -> Result<Held<[T; N]>>
-    ensures { DecodesAs (λ held. held.0) (array N T.codec) R.stream reader.old reader.new result }
+fn read_row<A: Row, R: Read>(alloc: Global, reader: &mut R) -> Result<A>
+    ensures { Decodes A.codec R.stream reader.old reader.new result }
 {
-    let width = T::width();
-    if fits_rooms(width, N) {
-        let mut room = [0u8; ROOM];
-        if let Ok(items) = array_from::<T, Alike, N>(&mut Alike {
-            alloc,
-            bytes: &room[..width],
-        }) {
-            let mut held = Held(items);
-            read_over(alloc, width, &mut room, &mut held.0, reader)?;
-            return Ok(held);
+    if let Some(blank) = A::blank(alloc) {
+        let mut items = blank;
+        match items.read_slice(reader) {
+            Some(Ok(())) => return Ok(items),
+            Some(Err(e)) => {
+                items.discard();
+                return Err(e);
+            }
+            None => items.discard(),
         }
     }
-    read_each(&mut Elements { reader, alloc })
+    release(A::read_each(alloc, reader))
 }
 
 // Takes the elements of an array from its bytes, each from as many.
@@ -127,7 +167,7 @@ fn array_of<T: BorshDeserialize, const N: usize>(alloc: Global, bytes: &[u8]) ->
 impl<T: BorshDeserialize, const N: usize> BorshDeserialize for [T; N] {
     #[inline(always)]
     fn deserialize_reader<R: Read>(alloc: Global, reader: &mut R) -> Result<[T; N]> {
-        release(read_row(alloc, reader))
+        read_row(alloc, reader)
     }
 
     #[inline]

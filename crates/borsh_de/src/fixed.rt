@@ -1,8 +1,8 @@
 // Types of fixed width: a buffer, the room, is filled at once, and the elements are decoded from it.
-ghost use Rattle.std.specs.Prelude.{◌≡◌, ◌+◌, ◌*◌, ◌<◌, ◌≤◌, ℕ, true, length, IfSome, IfNone, IsTrue, OnOk};
-ghost use Rattle.borsh_codec.specs.Shapes.{DecodesEach, allocated_array};
+ghost use Rattle.std.specs.Prelude.{◌≡◌, ◌+◌, ◌*◌, ◌<◌, ◌≤◌, ℕ, true, length, IfSome, IfNone, OnOk};
+ghost use Rattle.borsh_codec.specs.Shapes.{allocated_array};
 ghost use Rattle.borsh_codec.specs.Reading.{DecodesVec};
-ghost use Rattle.borsh_de.specs.FixedWidth.{IsFixedWidth, AppendsDecoded, DecodesOver};
+ghost use Rattle.borsh_de.specs.FixedWidth.{IsFixedWidth, AppendsDecoded};
 
 use super::deserialize::BorshDeserialize;
 use super::hint::cautious;
@@ -116,61 +116,4 @@ pub(crate) fn read_rooms<const ROOM: usize, T: BorshDeserialize, R: Read>(
         append(alloc, width, part, &mut items)?;
     }
     Ok(items)
-}
-
-/// Whether so many elements of an array, which have this width, are read many at a time: if all fit into a room, or if
-/// each is a byte. Others are read one by one, since a large array is moved less often then.
-#[inline]
-pub(crate) fn fits_rooms(width: usize, count: usize) -> bool
-    ensures { IsTrue result → (0 < width) × (width ≤ 512) }
-{
-    width == 1 || (width > 0 && width <= ROOM && count <= ROOM / width)
-}
-
-/// Writes the values that the bytes decode to over those of the slice, one after another.
-#[inline]
-fn overwrite<T: BorshDeserialize>(alloc: Global, width: usize, bytes: &[u8], items: &mut [T])
-    requires fixed { IsFixedWidth T.codec width }
-    requires some { 0 < width }
-    requires whole { length bytes.now ≡ length items.old * width }
-    ensures { DecodesEach (T.codec.decodes true) bytes.now items.new }
-{
-    let mut rest = bytes;
-    let mut next = 0;
-    'items: while next < items.len() {
-        let (piece, more) = rest.split_at(width);
-        items[next] = value_of(alloc, piece);
-        rest = more;
-        next += 1;
-    }
-}
-
-/// Reads values of so many bytes each over those of the slice, all at once or as many at a time as the room takes. The
-/// errors are those of [`fill`].
-#[inline(always)]
-pub(crate) fn read_over<T: BorshDeserialize, R: Read>(
-    alloc: Global,
-    width: usize,
-    room: &mut [u8],
-    items: &mut [T],
-    reader: &mut R,
-) -> Result<()>
-    requires fixed { IsFixedWidth T.codec width }
-    requires some { 0 < width }
-    requires few { width ≤ length room.old }
-    ensures { DecodesOver T.codec R.stream reader.old reader.new items.old items.new result }
-{
-    if let Some(result) = T::read_slice(items, reader) {
-        return result;
-    }
-    let most = room.len() / width;
-    let mut done = 0;
-    'rooms: while done < items.len() {
-        let count = most.min(items.len() - done);
-        let taken = &mut room[..count * width];
-        fill(reader, taken)?;
-        overwrite(alloc, width, taken, &mut items[done..done + count]);
-        done += count;
-    }
-    Ok(())
 }
