@@ -45,6 +45,7 @@ RUN = {
     "docs/TOOL.md": ("console",),
     "docs/CALLING.md": ("console",),
     "bench/README.md": ("asm",),
+    "docs/DECISIONS.md": ("asm",),
     "bindings/c/README.md": ("c",),
     "bindings/python/README.md": ("python",),
     "bindings/python/MACHINES.md": ("python",),
