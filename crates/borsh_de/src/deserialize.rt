@@ -65,7 +65,7 @@ pub trait BorshDeserialize: BorshType + Sized + Drop {
     }
 
     /// How many bytes each encoding has, for a type of which every so many bytes are an encoding, as a number; 0 for any
-    /// other type. Lists and arrays of such a type are read many elements at a time. Left open: 0, of any type.
+    /// other type. Lists of such a type are read many elements at a time. Left open: 0, of any type.
     fn width() -> usize
         ensures { 0 < result → IsFixedWidth Self.codec result }
     {
