@@ -221,7 +221,7 @@ element_width c n m f =
 
 -- ---- elements that are read a room at a time
 
-pub each_append : {A : Type 0} (P : List ℕ → A → Type 0) (x y : List ℕ) (xs ys : List A) → DecodesEach P x xs → DecodesEach P y ys → DecodesEach P (x ++ y) (xs ++ ys)
+each_append : {A : Type 0} (P : List ℕ → A → Type 0) (x y : List ℕ) (xs ys : List A) → DecodesEach P x xs → DecodesEach P y ys → DecodesEach P (x ++ y) (xs ++ ys)
 each_append P x y [] ys p q = subst (λ z. DecodesEach P (z ++ y) ys) (sym p) q
 each_append P x y (a ∷ xs) ys p q = record {
   first = p.first;

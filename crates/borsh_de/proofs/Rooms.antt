@@ -17,7 +17,7 @@ none_left : (n m w : ℕ) → m ≡ n * w → m < w → m ≡ 0
 none_left zero m w e h = omega (arith, e)
 none_left (suc n) m w e h = absurd (omega (arith, e, h))
 
-pub one_fewer : (n m k w : ℕ) → m ≡ n * w → m ≡ w + k → 0 < w → k ≡ (n - 1) * w
+one_fewer : (n m k w : ℕ) → m ≡ n * w → m ≡ w + k → 0 < w → k ≡ (n - 1) * w
 one_fewer zero m k w e f h = absurd (omega (arith, e, f, h))
 one_fewer (suc n) m k w e f h = let p : suc n - 1 ≡ n = omega arith in rw p (omega (arith, e, f))
 

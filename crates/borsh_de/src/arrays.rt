@@ -79,6 +79,7 @@ trait Row: Sized {
     fn read_each<R: Read>(alloc: Global, reader: &mut R) -> Result<Held<Self>>
         ensures { DecodesAs (λ held. held.0) codec R.stream reader.old reader.new result };
 
+    // Drops the array.
     fn discard(self);
 }
 

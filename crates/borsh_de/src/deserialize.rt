@@ -55,7 +55,7 @@ pub trait BorshDeserialize: BorshType + Sized + Drop {
     }
 
     /// As [`vec_from_reader`](BorshDeserialize::vec_from_reader), but over the values of a slice, and any type may return
-    /// values. Left open: as there.
+    /// values. After an error some of them may be written over. Left open: as there.
     fn read_slice<R: Read>(_items: &mut [Self], _reader: &mut R) -> Option<Result<()>>
         ensures some { IfSome result (DecodesOver Self.codec R.stream _reader.old _reader.new
             _items.old _items.new) }
