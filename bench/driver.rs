@@ -49,10 +49,14 @@ fn compare(rounds: usize, mine: impl Fn(usize) -> usize, other: impl Fn(usize) -
     [0, 1].map(|n| (whole[n] - empty[n]).max(0.0) * 1e6 / rounds as f64)
 }
 
+/// What is decoded goes into a list, as ours does.
 fn theirs<T: BorshSerialize + BorshDeserialize>(action: usize, bytes: &[u8], rounds: usize) -> usize {
+    let mut kept = Vec::new();
     if action == 1 {
         for _ in 0..rounds {
-            black_box(from_slice::<T>(black_box(bytes)).unwrap());
+            kept.push(from_slice::<T>(black_box(bytes)).unwrap());
+            black_box(&kept);
+            kept.clear();
         }
         return bytes.len() * rounds;
     }
@@ -63,7 +67,9 @@ fn theirs<T: BorshSerialize + BorshDeserialize>(action: usize, bytes: &[u8], rou
             0 => black_box(to_vec(black_box(&value)).unwrap()).len(),
             BOTH => {
                 let bytes = black_box(to_vec(black_box(&value)).unwrap());
-                black_box(from_slice::<T>(black_box(&bytes)).unwrap());
+                kept.push(from_slice::<T>(black_box(&bytes)).unwrap());
+                black_box(&kept);
+                kept.clear();
                 bytes.len()
             }
             _ => black_box(object_length(black_box(&value)).unwrap()),

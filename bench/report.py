@@ -1,6 +1,6 @@
 """Makes a table and a bar chart of what the benchmark prints: lines of a kind, an action and the microseconds of ours and
-of the original. Of several lines with one kind and action the one of the median ratio counts, since a disturbed machine slows both.
-The rows come slowest first.
+of the original. Of two lines of one kind and action, of the program at two places, the less of each counts; and of all such
+pairs that of the median ratio, since a disturbed machine slows both. The rows come slowest first.
 
 Usage: report.py CHART.svg < LINES > results.tsv
 """
@@ -14,7 +14,8 @@ def rows(lines):
         kind, action, ours, original = line.rstrip("\n").split("\t")
         times.setdefault((kind, action), []).append((float(ours), float(original)))
     found = []
-    for (kind, action), pairs in times.items():
+    for (kind, action), single in times.items():
+        pairs = [tuple(map(min, *two)) for two in zip(single[::2], single[1::2])]
         pairs.sort(key=lambda pair: pair[0] / pair[1] if pair[1] > 0 else pair[0])
         ours, original = pairs[len(pairs) // 2]
         ratio = ours / original if original > 0 else float("nan")
